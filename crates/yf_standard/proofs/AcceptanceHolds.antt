@@ -1,4 +1,4 @@
--- The laws of what is accepted by the standard's productions hold.
+-- The laws of the texts that the standard's productions accept hold.
 use Rattle.std.proofs.Common.{◌≡◌, ℕ, Bool, true, false, List, sym, ap, ◌∙◌, subst, arith, true≢false}
 use Rattle.std.specs.Str.{IsUtf8}
 use Rattle.yf_lines.specs.FaultPlaces.{IsPlaceOf}
@@ -38,12 +38,12 @@ standard_texts_are_read t = (λ s. read s, λ u r a. reading_is_standard u a) wh
         well_formed = s.well_formed m.1.height m.0 m.1.derived m.1.within;
       })
 
--- a fault of syntax tells that there is no stream
+-- a fault of syntax says that the text is not a stream
 no_stream_told : {t : List ℕ} (fault : Fault) → IsUtf8 t → NoStream t → IsSyntax t fault → FaultTells t fault
 no_stream_told {t} (Syntax place what) u none is = refused_streams_are_none t u none
 no_stream_told _ u none is = absurd is
 
--- a fault of a breach tells of that breach
+-- a fault of a breach says which rule the text breaks
 abbrev is_of_breach : Fault → Bool
 is_of_breach (UnknownHandle place) = true
 is_of_breach (UnknownAlias place) = true

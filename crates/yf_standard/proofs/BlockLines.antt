@@ -1,5 +1,5 @@
--- The lines of a block scalar (8.1), up to the last one with content: as they are taken, with the characters of each. What the two styles add to
--- content is in `LiteralMeant` and what is of both here.
+-- The lines of a block scalar (8.1), up to the last one with content: as they are taken, with the characters of each.
+-- `LiteralMeant` has what the two styles add to content; what both share is here.
 use Rattle.std.proofs.Common.{◌≡◌, ℕ, ◌+◌, ◌-◌, ◌<◌, ◌≤◌, pos, Bool, true, false, true≢false, List, [], ◌∷◌, ◌++◌, length, take, drop, slice_range, refl, sym, ap, ◌∙◌, subst, append_assoc, ⊎_elim, arith}
 use Rattle.std.proofs.Math.Seq.{take-append-add}
 use Rattle.std.proofs.lemmas.Str.{length-encode, drop_past_char}
@@ -59,7 +59,7 @@ pub lines_some : {t : List ℕ} {k i j : ℕ} {ls : List (List ℕ)} → TextLin
 lines_some {t} {k} (last_line {a = a} {j = j} {w = w} e s m l) = some_lines w (slice_range t (a + k) j) []
 lines_some {t} {k} (more_lines {a = a} {h = h} {w = w} {ls = ls} e s m l b r) = some_lines w (slice_range t (a + k) h) ls
 
--- as they are taken, where no marker begins one
+-- as they are taken, if no marker begins one
 blank_chain : {t : List ℕ} {k i j : ℕ} {w : List ℕ} → Chain (Empty t (pos k) BlockIn) i j w → Chain (Line t k) i j (blank_lines w)
 blank_chain done = done
 blank_chain {t} {k} (step {i = i} {h = h} {x = x} {y = y} e r) = add y (empty_line_read t k i h x e) (one_feed e) (blank_chain r) where

@@ -36,7 +36,7 @@ use Rattle.yf_standard.proofs.FlowSaid.{SomeSaid, said_is, SaidIn, Propped, Unwr
 use Rattle.yf_standard.proofs.FlowSaid.Unwritten.{unwritten}
 use Rattle.yf_lines.proofs.FoldLemmas.{indent_width}
 
--- at a column, where n is one
+-- at a column, if n is one
 abbrev pub EntryIs : List ℕ → ℕ → Bool → ℤ → ℕ → ℕ → List Token → Type 0
 EntryIs t e s n i j y = (m : ℕ) → n ≡ pos m → SomeSaid t e (BlockEntry s m) i j y
 

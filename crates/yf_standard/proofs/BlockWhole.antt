@@ -27,7 +27,7 @@ use Rattle.yf_standard.proofs.ScalarContents.{LastMeans, TailMeans, last_marks, 
 use Rattle.yf_chars.proofs.TextLemmas.{code-past}
 use Rattle.yf_lines.proofs.BasicLemmas.{break_char, break_forward}
 
--- lines with what they add in one of the styles: folded ones where f is true
+-- lines with what they add in one of the styles: folded if f is true
 pub record LinesMean (t : List ℕ) (f : Bool) (k i j : ℕ) (y : List Mark) : Type 0 where
   pub lines : List (List ℕ)
   pub text : List ℕ
@@ -38,7 +38,7 @@ pub record LinesMean (t : List ℕ) (f : Bool) (k i j : ℕ) (y : List Mark) : T
 pub literal_mean : {t : List ℕ} {k i j : ℕ} {y : List Mark} → LiteralText t k i j y → LinesMean t false k i j y
 literal_mean a = record { lines = a.lines; text = a.text; are = a.are; added = a.added; bytes = a.bytes }
 
--- [173] and [182], where A is what the lines are
+-- [173] and [182]; A is the relation of the lines
 pub data BlockRead (t : List ℕ) (A : ℕ → ℕ → List Mark → Type 0) (c : Chomping) (k i j : ℕ) (y : List Mark) : Type 0 where
   no_lines : TailMeans t c k i j y → BlockRead t A c k i j y
   some_lines : {z h : ℕ} {u v w : List Mark} → A i z u → LastMeans t c z h v → TailMeans t c k h j w → u ++ (v ++ w) ≡ y → BlockRead t A c k i j y

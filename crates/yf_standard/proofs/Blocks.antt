@@ -23,7 +23,7 @@ use Rattle.yf_standard.proofs.Sets.{ns_char_is}
 use Rattle.yf_standard.proofs.Flows.{SomeNode, SignOf, node_is}
 use Rattle.yf_lines.proofs.FoldLemmas.{indent_width}
 
--- at a column, where n is one
+-- at a column, if n is one
 abbrev pub AtColumn : (ℕ → ℕ → ℕ → Type 0) → ℤ → ℕ → ℕ → Type 0
 AtColumn R n i j = (m : ℕ) → n ≡ pos m → R m i j
 

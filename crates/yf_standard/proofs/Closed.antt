@@ -1,4 +1,5 @@
--- Each production derives, with the reading rules, what it stands for alone: a clause for each, and so all that is derived.
+-- With the reading rules, each production derives only texts for which its relation holds: a clause for each
+-- production, and so for all derivations.
 use Rattle.std.proofs.Common.{◌≡◌, ℕ, zero, suc, ◌<◌, ◌≤◌, pos, negsuc, Bool, true, false, List, [], length, refl, sym, subst, inl, inr, arith}
 use Rattle.std.specs.Str.{IsUtf8}
 use Rattle.yf_chars.specs.declared.context.Ctx.TheVariants.{BlockOut, BlockIn, FlowOut, FlowIn, BlockKey, FlowKey}

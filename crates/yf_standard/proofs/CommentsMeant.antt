@@ -1,4 +1,4 @@
--- The comments in separation (6.6 and 6.7) are those with which it is read.
+-- The comments in separation (6.6 and 6.7) are those that are read.
 use Rattle.std.proofs.Common.{◌≡◌, ℕ, ℤ, true, false, List, [], ◌∷◌, ◌++◌, length, slice_range, refl, sym, ap, subst, append-nil}
 use Rattle.yf_chars.specs.declared.context.Ctx.{Ctx}
 use Rattle.yf_chars.specs.Chain.{Chain}

@@ -1,4 +1,5 @@
--- What each production of breaks, folds and flow scalars adds to content: a clause for each, and so all that is derived by them.
+-- What each production of breaks, folds and flow scalars adds to content: a clause for each production, and so for all
+-- their derivations.
 use Rattle.std.proofs.Common.{◌≡◌, ℕ, ◌≤◌, ℤ, pos, true, false, List, [], ◌∷◌, refl}
 use Rattle.yf_chars.specs.declared.context.Ctx.{Ctx}
 use Rattle.yf_chars.specs.declared.context.Ctx.TheVariants.{BlockOut, BlockIn, FlowOut, FlowIn, BlockKey, FlowKey}
@@ -210,7 +211,7 @@ module _ (t : List ℕ) (z : Zone t false) where
   adds_by e (l-folded-content n c) i j x q l h d m = λ k s. folded_content_means m k s
   adds_by e f i j x q l h d m = tt
 
-  -- no collection adds what is asked of
+  -- no collection adds to this content
   adds_open : (r e : ℕ) (f : Form) (i j : ℕ) (x : List Mark) → kind f ≡ COLLECTION → Adds t e f i j (content_made t f i j x)
   unfolding Adds kind content_made is_collection
   adds_open r e (c-flow-sequence n c) i j x q = tt

@@ -35,7 +35,7 @@ pub many_tail : {t : List ℕ} {p : ℕ → Bool} {i j : ℕ} {w : List ℕ} →
 many_tail done l b = absurd (omega arith)
 many_tail {t} {p} {j = j} (step {i = i} {y = v} (one e) r) l b = (v, subst (λ z. Many t p z j v) (next_ascii t i b) r)
 
--- no character follows where the text ends
+-- no character follows at the end of the text
 run_within : (t : List ℕ) (a k : ℕ) → ((w : List ℕ) × Many t is_ns_char a k w) → length t ≤ a → k ≤ a
 run_within t a k r l =
     ⊎_elim (λ (b : a < k). absurd (true≢false (sym (some_first r.1 b) ∙ ap is_ns_char (code-past t a l) ∙ no_ns_char))) (λ (b : k ≤ a). b) (cases_lt a k)

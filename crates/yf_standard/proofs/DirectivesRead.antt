@@ -1,5 +1,5 @@
--- Directives (6.8), from what the standard's productions are read as to `DirectiveLines`. A name, a number and a word end where the line
--- goes on with white space or ends, so each is as long as it can be.
+-- Directives (6.8): from the relations of the standard's productions to `DirectiveLines`. A name, a number and a word
+-- end before white space or the end of the line, so each is as long as possible.
 use Rattle.std.proofs.Common.{◌≡◌, ◌≢◌, ℕ, ◌+◌, ◌<◌, Bool, true, false, true≢false, List, [], ◌∷◌, codes, slice_range, refl, sym, ap, ◌∙◌, subst, ◌⊎◌, inl, inr, ⊎_elim, arith}
 use Rattle.std.proofs.lemmas.Bool.{cases_Bool, eq-eqb}
 use Rattle.std.specs.Str.{IsUtf8}

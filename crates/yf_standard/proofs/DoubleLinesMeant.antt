@@ -1,4 +1,5 @@
--- What the lines of double-quoted scalars (7.3.1) add to content is what `Quoted` of yf_quoted derives: no half of a pair ends a line.
+-- The lines of double-quoted scalars (7.3.1) add to content what `Quoted` of yf_quoted derives: no half of a pair ends
+-- a line.
 use Rattle.std.proofs.Common.{◌≡◌, ℕ, ◌+◌, ◌<◌, ◌≤◌, ℤ, true, false, true≢false, ◌==◌, List, [], ◌∷◌, ◌++◌, refl, sym, ap, ◌∙◌, subst, append_assoc, ⊎_elim, arith}
 use Rattle.std.proofs.lemmas.Bool.{cases_Bool, eqb-true, eq-eqb}
 use Rattle.yf_chars.specs.declared.context.Ctx.{Ctx}
@@ -65,7 +66,7 @@ items_marked {t} (step (both w c) r) = go (many_spells {t = t} {s = s-white} {p 
   go : {i h k j : ℕ} {u v y : List Mark} → Spells (Many t is_white) i h u → Marked t h k v → s-white (code t h) ≡ false → MarkedItems t k j y → MarkedItems t i j ((u ++ v) ++ y)
   go {i = i} {j = j} {v = v} {y = y} (spelled {x = u} m) c n r = subst (λ z. MarkedItems t i j z) (sym (append_assoc (marks u) v y)) (an_item m (no_white _ n) c r)
 
--- what items mean before marks that are fresh there
+-- the meaning of items before marks that do not complete a pair
 pub record Pieced (t : List ℕ) (i j : ℕ) (x y : List Mark) : Type 0 where
   pub meaning : List Piece
   pub items : Chain (DoubleItem t) i j meaning
@@ -188,7 +189,7 @@ pub break_spells : {t : List ℕ} {n : ℤ} {i j : ℕ} {y : List Mark} → Eith
 break_spells (left d) = d
 break_spells (right (spelled f)) = spelled (folded_break f, flow_folded_later f)
 
--- what is left of a line, or further lines: no half of a pair goes on there
+-- the rest of a line, or further lines: no half of a pair continues there
 pub record RestMeans (t : List ℕ) (n : ℤ) (i j : ℕ) (y : List Mark) : Type 0 where
   pub low : NoLow t i
   pub fresh : Fresh i y

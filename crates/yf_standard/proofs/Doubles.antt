@@ -1,4 +1,5 @@
--- Double-quoted scalars (7.3.1): where the standard has one escape after another, two halves of a pair are one escape here.
+-- Double-quoted scalars (7.3.1): two adjacent escapes of the standard that are the halves of a pair are one escape
+-- here.
 use Rattle.std.proofs.Common.{◌≡◌, ◌≢◌, ℕ, ◌+◌, true, false, true≢false, List, [], ◌∷◌, ◌++◌, Some, sym, ◌∙◌, subst, ◌⊎◌, inl, inr, ⊎_elim, arith}
 use Rattle.std.proofs.lemmas.Bool.{cases_Bool}
 use Rattle.std.specs.Char.{IsScalar}

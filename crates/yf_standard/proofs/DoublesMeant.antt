@@ -1,5 +1,5 @@
--- What the characters and lines of double-quoted scalars (7.3.1, 5.7) add to content is what `Quoted` of yf_quoted derives, where two halves
--- of a pair, each an escape, are one character.
+-- The characters and lines of double-quoted scalars (7.3.1, 5.7) add to content what `Quoted` of yf_quoted derives, in
+-- which two escapes that are the halves of a pair are one character.
 use Rattle.std.proofs.Common.{◌≡◌, ◌≢◌, ℕ, ◌+◌, ◌-◌, Bool, true, false, true≢false, ◌==◌, ◌&&◌, not, List, [], ◌∷◌, ◌++◌, Some, None, if◌then◌else◌, refl, sym, ap, ◌∙◌, subst, ◌⊎◌, inl, inr, ⊎_elim, arith}
 use Rattle.std.proofs.lemmas.Bool.{cases_Bool, and_parts, eqb-true, eq-eqb}
 use lib.Utf8.{scalar}
@@ -69,7 +69,7 @@ double_char_marked {t} (right (character {i = i} e)) =
     differs : (c k : ℕ) → not (c == k) ≡ true → c ≢ k
     differs c k e z = true≢false (sym e ∙ rw (eq-eqb c k z) refl)
 
--- what an escape means, alone or as the first half of a pair
+-- the meaning of an escape, or of the first half of a pair
 pub as_piece : {t : List ℕ} {i j v : ℕ} → Escape t i j v → DoubleChar t i j (piece_of v i ∷ [])
 unfolding piece_of
 as_piece {t} {i} {j} {v} e = ⊎_elim known unknown (cases_Bool (scalar v)) where
@@ -82,7 +82,7 @@ as_piece {t} {i} {j} {v} e = ⊎_elim known unknown (cases_Bool (scalar v)) wher
 pub four_piece : {t : List ℕ} {i v : ℕ} → NumericEscape t i 117 4 v → NoLow t (i + 6) → DoubleChar t i (i + 6) (piece_of v i ∷ [])
 four_piece {t} {i} {v} a n = ⊎_elim (λ (h : is_high v ≡ true). as_piece (by_half a h n)) (λ (l : is_high v ≡ false). as_piece (by_four a l)) (cases_Bool (is_high v))
 
--- an escape and a mark after it that are no pair
+-- an escape and a mark after it that are not a pair
 apart : (v i k w g j : ℕ) (y : List Mark) → is_pair v i k w g j ≡ false → pieces (escape v i k ∷ escape w g j ∷ y) ≡ piece_of v i ∷ pieces (escape w g j ∷ y)
 unfolding pieces
 apart v i k w g j y e = rw e refl
@@ -142,7 +142,7 @@ fresh_after i v (escape w g j ∷ y) f = ⊎_elim same (λ n. apart v i (i + 6) 
   same : ((g == i + 6) && (j == i + 6 + 6)) ≡ true → pieces (escape v i (i + 6) ∷ escape w g j ∷ y) ≡ piece_of v i ∷ pieces (escape w g j ∷ y)
   same e = let p = and_parts (g == i + 6) (j == i + 6 + 6) e in not_a_low i (i + 6) v w g j y (f (eqb-true g (i + 6) p.0) (eqb-true j (i + 6 + 6) p.1))
 
--- two escapes by four digits, one directly after the other: a pair, or each by itself
+-- two adjacent escapes with four digits: a pair, or two separate escapes
 abbrev Paired : List ℕ → ℕ → ℕ → ℕ → Type 0
 Paired t i v w = ((is_high v ≡ true) × (is_low w ≡ true)) ⊎ ((is_high v ≡ false) ⊎ ((is_low w ≡ false) × NoLow t (i + 6)))
 

@@ -66,7 +66,7 @@ ContentIn t e n c i j y = is_block c ≡ false → ContentSaid t e n c i j y
 pub data PlainSaid (t : List ℕ) (n : ℤ) (c : Ctx) (i j : ℕ) : List Token → Type 0 where
   plain_said : {u : List ℕ} → PlainText t n c i j u → PlainSaid t n c i j (a_scalar Plain (marks u) ∷ [])
 
--- a node of which nothing is written
+-- a node without text
 pub data Unwritten : ℕ → ℕ → List Token → Type 0 where
   unwritten : {i : ℕ} → Unwritten i i (a_scalar Plain [] ∷ [])
 

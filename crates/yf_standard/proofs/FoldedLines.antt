@@ -1,4 +1,4 @@
--- The lines of a folded scalar (8.1.3): what its rows add is what these lines fold to.
+-- The lines of a folded scalar (8.1.3): its rows add what these lines fold to.
 use Rattle.std.proofs.Common.{◌≡◌, ℕ, zero, suc, ◌+◌, ◌<◌, ◌≤◌, pos, Bool, true, false, ◌||◌, ◌==◌, if◌then◌else◌, List, [], ◌∷◌, ◌++◌, length, slice_range, refl, sym, ap, ◌∙◌, subst, append_assoc, append-nil, ⊎_elim, arith, add-one, length-append}
 use Rattle.std.proofs.lemmas.Bool.{cases_lt, cases_Bool, false≢true, ne_eqb}
 use Rattle.std.proofs.lemmas.Bool.Decides.{nat_tests}
@@ -38,7 +38,7 @@ use Rattle.yf_standard.proofs.BlockWhole.{LinesMean, feeds_bytes}
 use Rattle.yf_chars.proofs.ChainLemmas.{chain_append}
 use Rattle.yf_lines.proofs.BasicLemmas.{break_forward}
 
--- the first byte of a line is white space exactly where its first character is
+-- the first byte of a line is white space if and only if its first character is
 high_no_white : (c : ℕ) → 128 ≤ c → is_white c ≡ false
 unfolding is_white
 high_no_white c l = grind (arith, nat_tests)
@@ -94,7 +94,7 @@ blank_after : (s : Bool) (e m n : ℕ) (ls : List (List ℕ)) → e + m ≡ n �
 blank_after s e zero n ls q = let p : e ≡ n = omega (arith, q) in ap (λ z. folded_after s z ls) p
 blank_after s e (suc m) n ls q = blank_after s (e + 1) m n ls (omega (arith, q))
 
--- what is between two rows, of which one begins with white space where p is true
+-- the text between two rows, one of which begins with white space if p is true
 record GapMeans (t : List ℕ) (k : ℕ) (p : Bool) (h g : ℕ) (y : List Mark) : Type 0 where
   pub at : ℕ
   pub ends : Break t h at
@@ -104,7 +104,7 @@ record GapMeans (t : List ℕ) (k : ℕ) (p : Bool) (h g : ℕ) (y : List Mark) 
   pub added : y ≡ marks text
   pub bytes : encodes text ≡ joint p (length blank)
 
--- feeds join, where there is an empty line
+-- feeds join, if there is an empty line
 more_joint : (n : ℕ) → joint false (suc n) ≡ feeds (suc n)
 more_joint n = let e : (suc n == 0) ≡ false = ne_eqb (suc n) 0 (λ q. absurd (omega (arith, q))) in ap (λ b. if b then 32 ∷ [] else feeds (suc n)) e
 
@@ -152,7 +152,7 @@ after_gap s q w b c y ls f d e =
     ∙ ap (λ z. joint (z || is_white c) (length w) ++ ((c ∷ y) ++ folded_after (is_white c) 0 ls)) d
     ∙ ap (λ z. joint (s || z) (length w) ++ ((c ∷ y) ++ folded_after (is_white c) 0 ls)) e
 
--- rows as lines, of which the first one is known
+-- rows as lines with a known first line
 record Folds (t : List ℕ) (k i j : ℕ) (y : List Mark) : Type 0 where
   pub byte : ℕ
   pub rest : List ℕ

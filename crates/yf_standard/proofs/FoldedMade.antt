@@ -1,4 +1,5 @@
--- The lines of a folded scalar (8.1.3) in the groups of the standard, where each group of folded lines is as long as it can be (176).
+-- The lines of a folded scalar (8.1.3) in the groups of the standard; each group of folded lines is as long as possible
+-- (176).
 use Rattle.std.proofs.Common.{◌≡◌, ℕ, ◌+◌, ◌<◌, ◌≤◌, pos, Bool, true, false, true≢false, not, List, [], ◌∷◌, ◌++◌, length, refl, sym, ap, ◌∙◌, subst, ⊎_elim, arith}
 use Rattle.std.proofs.lemmas.Bool.{cases_Bool, cases_lt, and_parts}
 use Rattle.yf_chars.specs.declared.context.Ctx.TheVariants.{BlockIn}
@@ -29,7 +30,7 @@ use Rattle.yf_lines.proofs.FoldLemmas.{indent_width}
 use Rattle.yf_block_scalar.proofs.BodyLemmas.{break_no_space, break_no_nb}
 use Rattle.yf_block_scalar.proofs.UniqueLemmas.{space_line_unique, not_empty_too, many_nb}
 
--- a line with content is no empty one
+-- a line with content is not an empty line
 no_empty : {t : List ℕ} {k a h : ℕ} {z : List ℕ} → Spaces t a k → is_nb_char (code t (a + k)) ≡ true → Empty t (pos k) BlockIn a h z → ⊥
 no_empty {t} {k} {a} {h} {z} s n e = go (empty_line_read t k a h z e) where
   go : (m : ℕ) × (SpaceLine t a m h × (m ≤ k)) → ⊥
@@ -67,7 +68,7 @@ module _ {t : List ℕ} {k : ℕ} where
   fold_made b done = (_, as_space b)
   fold_made b (step e r) = (_, trimmed b e r)
 
-  -- no folded line follows a break where the next line with content is a spaced one
+  -- no folded line follows a break if the next line with content is a spaced one
   before_white : {h b a : ℕ} {x : List ℕ} → Break t h b → Chain (Empty t (pos k) BlockIn) b a x → Spaces t a k → is_nb_char (code t (a + k)) ≡ true → is_white (code t (a + k)) ≡ true
       → NoFoldedLine t (pos k) h
   unfolding is_ns_char

@@ -1,4 +1,4 @@
--- What folded scalars (8.1.3) add to content: rows, each a line with content, and what is between two of them.
+-- What folded scalars (8.1.3) add to content: rows, each a line with content, and the text between two of them.
 use Rattle.std.proofs.Common.{◌≡◌, ℕ, ◌+◌, ◌<◌, ◌≤◌, ℤ, pos, Bool, true, false, true≢false, not, List, [], ◌∷◌, ◌++◌, sym, ap, ◌∙◌, subst, append_assoc, arith}
 use Rattle.std.proofs.lemmas.Bool.{and_parts, not-true}
 use Rattle.yf_chars.specs.declared.context.Ctx.TheVariants.{BlockIn}
@@ -45,8 +45,8 @@ ns_no_white : (c : ℕ) → ns-char c ≡ true → is_white c ≡ false
 unfolding is_ns_char
 ns_no_white c e = not-true (is_white c) ((and_parts (is_nb_char c) (not (is_white c)) (sym (ns_char_is c) ∙ e)).1)
 
--- what is between two rows: a fold between two that begin with no white space, or a break with empty lines, where no
--- such row can follow one of that kind
+-- the text between two rows: a fold between two that don't begin with white space; or a break with empty lines, if no
+-- folded line can follow a row that doesn't begin with white space
 pub data Gap (t : List ℕ) (k : ℕ) : Bool → ℕ → ℕ → List Mark → Type 0 where
   fold_gap : {h g : ℕ} {x : List ℕ} → FoldedBreak t (pos k) BlockIn h g x → is_white (code t (g + k)) ≡ false → Gap t k false h g (marks x)
   feed_gap : {s : Bool} {h b g : ℕ} {w : List ℕ} → Break t h b → Chain (Empty t (pos k) BlockIn) b g w → (s ≡ false → NoFoldedLine t (pos k) h) → Gap t k s h g (marks (10 ∷ w))

@@ -1,4 +1,4 @@
--- What literal scalars (8.1.2) add to content is the content of their lines.
+-- Literal scalars (8.1.2) add the content of their lines to content.
 use Rattle.std.proofs.Common.{◌≡◌, ℕ, ◌+◌, ◌<◌, ◌≤◌, ℤ, pos, List, [], ◌∷◌, ◌++◌, slice_range, refl, sym, ap, ◌∙◌, subst, append_assoc, append-nil, arith}
 use Rattle.std.proofs.lemmas.Str.{encode_ascii, encodes-append}
 use lib.Utf8.{encodes}

@@ -1,5 +1,5 @@
--- What a form means, as a relation between offsets and a list, where K says what each production means; and that what is derived means
--- that, wherever K is closed under the productions.
+-- The meaning of a form, as a relation between offsets and a list; K gives the meaning of each production. A derivation
+-- has this meaning, if K is closed under the productions.
 use Rattle.std.proofs.Common.{◌≡◌, ℕ, ℤ, ◌≤◌, ◌<◌, ◌-◌, true, false, List, [], ◌++◌, length, take, drop, refl, arith}
 use Rattle.std.specs.Str.{chars}
 use Rattle.yf_chars.specs.Text.{code, next}
@@ -58,7 +58,7 @@ FormMeans t L w K e (at-most k a) i j x = FormMeans t L w K e a i j x × (length
 FormMeans t L w K e (excluding-c-forbidden a) i j x = Derived L t e a i j × Clear t i j
 FormMeans t L w K e f i j x = K e f i j x
 
--- K holds of what a production derives between two places, and of what it means, where K holds of what is in it
+-- K holds for a production's derivation between two offsets and for its meaning, if K holds for its parts
 pub record Meanings {A : Type 0} (t : List ℕ) (L : Condition → ℕ → Type 0) (low high : ℕ) (single : ℕ → List A) (made : Making L t A)
     (K : ℕ → Form → ℕ → ℕ → List A → Type 0) : Type 0 where
   pub by : (e : ℕ) (f : Form) (i j : ℕ) (x : List A) → kind f ≡ PRODUCTION → low ≤ i → j ≤ high → (d : Derived L t e (rule f) i j)
@@ -105,7 +105,7 @@ as_opened t L w K e (at-most n a) i j x q k = no_operator_opens q
 as_opened t L w K e (excluding-c-forbidden a) i j x q k = no_operator_opens q
 as_opened t L w K e f i j x q k = k
 
--- what is derived between the two places means that
+-- the derivation between the two offsets has that meaning
 pub means : {A : Type 0} {t : List ℕ} {L : Condition → ℕ → Type 0} {low high : ℕ} {w : ℕ → List A} {made : Making L t A} {K : ℕ → Form → ℕ → ℕ → List A → Type 0} {e : ℕ} {f : Form} {i j : ℕ}
     → Meanings t L low high w made K → low ≤ i → j ≤ high → (d : Derived L t e f i j) → FormMeans t L w K e f i j (meant w made d)
 unfolding meant

@@ -1,4 +1,4 @@
--- What is derived under stronger conditions is derived under weaker ones; and a production moves on.
+-- A derivation under stronger conditions is one under weaker ones; and a production never ends before its start.
 use Rattle.std.proofs.Common.{ℕ, ◌≤◌, List, arith}
 use Rattle.std.proofs.lemmas.Int.{ints}
 use Rattle.std.proofs.Common.{ℤ, pos, ◌≤ℤ◌}

@@ -1,4 +1,4 @@
--- The names in node properties and aliases (6.8.2, 6.9 and 7.1) are those with which they are read.
+-- The names in node properties and aliases (6.8.2, 6.9 and 7.1) are those that are read.
 use Rattle.std.proofs.Common.{◌≡◌, ℕ, ◌+◌, ◌-◌, ◌<◌, ◌≤◌, ℤ, List, [], ◌∷◌, ◌++◌, length, slice_range, drop, refl, sym, ap, ◌∙◌, subst, append-nil, arith}
 use Rattle.std.proofs.lemmas.List.{length-drop, length-take}
 use Rattle.yf_chars.specs.declared.context.Ctx.{Ctx}
@@ -69,7 +69,7 @@ verbatim_means {t} d = go d.1 where
 slice_long : (t : List ℕ) (i j : ℕ) → j ≤ length t → length (slice_range t i j) ≡ j - i
 slice_long t i j l = omega (arith, length-take (j - i) (drop i t), length-drop i t, l)
 
--- [99]: the suffix begins where the handle ends
+-- [99]: the suffix begins at the end of the handle
 handle_long : {t : List ℕ} {i j : ℕ} → Handle t i j → i + length (slice_range t i j) ≡ j
 handle_long {t} {i} {j} h = long (ends h) (later h) where
   ends : {i j : ℕ} → Handle t i j → j ≤ length t

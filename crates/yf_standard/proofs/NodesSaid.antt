@@ -1,5 +1,5 @@
--- What the tokens of nodes (chapters 7 and 8) say, in a document's node: a clause for each production, and so all
--- that is derived by them.
+-- What the tokens of nodes (chapters 7 and 8) say, in a document's node: a clause for each production, and so for all
+-- derivations.
 use Rattle.std.proofs.Common.{◌≡◌, ℕ, ◌<◌, ◌≤◌, ℤ, pos, ◌+ℤ◌, Bool, false, true, true≢false, List, [], ◌∷◌, ◌++◌, Some, None, map, encode_utf8_all, refl, sym, ap, ◌∙◌, subst, append_assoc, arith}
 use Rattle.yf_chars.specs.declared.context.Ctx.{Ctx}
 use Rattle.yf_chars.specs.declared.context.Ctx.TheVariants.{BlockOut, BlockIn, FlowOut, FlowIn, BlockKey, FlowKey}

@@ -1,4 +1,5 @@
--- What the standard's productions of escaped breaks, directives and documents are read as, in the words of the lemmas on them.
+-- The relations of the standard's productions of escaped breaks, directives and documents, in the words of the lemmas
+-- on them.
 use Rattle.std.proofs.Common.{◌≡◌, ◌≢◌, ℕ, ◌+◌, ◌<◌, ℤ, true, false, ◌&&◌, ◌||◌, length, List, [], refl, sym, ap, ◌∙◌, subst, ◌⊎◌, inl, inr, arith}
 use Rattle.std.proofs.lemmas.Bool.{eqb-true, eq-eqb}
 use Rattle.yf_chars.specs.declared.context.Ctx.TheVariants.{FlowIn}

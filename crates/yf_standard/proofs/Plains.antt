@@ -1,4 +1,4 @@
--- Plain scalars (7.3.3): the standard's productions and `PlainText` derive the same.
+-- Plain scalars (7.3.3): the standard's productions and `PlainText` derive the same texts.
 use Rattle.std.proofs.Common.{◌≡◌, ℕ, ◌+◌, ◌<◌, ℤ, Bool, true, false, true≢false, ◌&&◌, ◌||◌, ◌==◌, not, List, [], ◌∷◌, ◌++◌, refl, sym, ap, ◌∙◌, subst, ◌⊎◌, inl, inr, arith}
 use Rattle.std.proofs.Math.Bool.{and_assoc, or_assoc, or-true, or-false}
 use Rattle.std.proofs.lemmas.Bool.{and_parts, eqb-true, or_cases, or_left, or_right}

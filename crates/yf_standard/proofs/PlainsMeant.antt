@@ -1,4 +1,4 @@
--- What the productions of plain scalars (7.3.3) add to content is the text that `Plain` of yf_plain derives.
+-- The productions of plain scalars (7.3.3) add to content the text that `Plain` of yf_plain derives.
 use Rattle.std.proofs.Common.{◌≡◌, ℕ, ℤ, true, List, ◌∷◌, ◌++◌}
 use Rattle.yf_chars.specs.declared.context.Ctx.{Ctx}
 use Rattle.yf_chars.specs.Text.{code, next}

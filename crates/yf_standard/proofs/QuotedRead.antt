@@ -1,5 +1,5 @@
--- Quoted scalars (7.3.1, 7.3.2), from what the standard's productions are read as to the relations of `Quoted`. Two halves of a pair of
--- surrogates, one after the other, are one character there.
+-- Quoted scalars (7.3.1, 7.3.2): from the relations of the standard's productions to those of `Quoted`, in which two
+-- adjacent halves of a surrogate pair are one character.
 use Rattle.std.proofs.Common.{◌≡◌, ◌≢◌, ℕ, zero, suc, ◌+◌, ◌<◌, ◌≤◌, ℤ, Bool, true, false, true≢false, ◌&&◌, ◌||◌, ◌==◌, not, List, [], Some, None, if◌then◌else◌, refl, sym, ap, ◌∙◌, subst, ◌⊎◌, inl, inr, ⊎_elim, arith}
 use Rattle.std.proofs.lemmas.Bool.{and_parts, eq-eqb}
 use Rattle.std.proofs.lemmas.Bool.Decides.{nat_tests}
@@ -100,7 +100,7 @@ single_as_lines t n c i j e d = (_, as_lines e d.1.0.1 d.1.1.1)
 pub single_as_key : (t : List ℕ) (n : ℤ) (c : Ctx) (i j : ℕ) → is_key c ≡ true → SomeOf (Chain (SingleChar t)) i j → SomeOf (SingleInside t n c) i j
 single_as_key t n c i j e d = (_, as_key e d.1)
 
--- [120], where it covers no forbidden line
+-- [120], if it covers no forbidden line
 pub single_quoted_read : (t : List ℕ) (n : ℤ) (c : Ctx) (i j : ℕ) → Clear t i j → (g : ℕ) × (SignOf t 39 i g × ((k : ℕ) × (SomeOf (SingleInside t n c) g k × SignOf t 39 k j))) → SomeOf (SingleQuoted t n c) i j
 single_quoted_read t n c i j w d = (
   d.1.1.1.0.0,
@@ -145,7 +145,7 @@ unfolding named x ◌∪◌ ns-esc-null ns-esc-bell ns-esc-backspace ns-esc-hori
 letter_back c e = named_back (c == 48) (c == 97) (c == 98) (c == 116) (c == 9) (c == 110) (c == 118) (c == 102) (c == 114) (c == 101) (c == 32) (c == 34) (c == 47) (c == 92) (c == 78) (c == 95) (c == 76) (c == 80)
     0x00 0x07 0x08 0x09 0x0A 0x0B 0x0C 0x0D 0x1B 32 34 47 92 0x85 0xA0 0x2028 0x2029 e
 
--- [59] to [61]: a letter and so many hexadecimal digits
+-- [59] to [61]: a letter and that many hexadecimal digits
 value_of : (c : ℕ) → is_hex_digit c ≡ true → digit_value c < 16
 unfolding is_hex_digit is_digit is_between
 value_of c e = grind (arith, nat_tests)
@@ -262,7 +262,7 @@ module _ {t : List ℕ} where
       ⊎_elim (λ (l : is_high f ≡ false). put_off w v (as_char (by_four a l)) r) (λ (m : NoLow t (g + 6)). put_off w v (four_read a m) r) o)
       (pair_known a b)
 
-  -- the first of them, where no white space is before it
+  -- the first of them, if no white space is before it
   first_item : {i j : ℕ} {w : List Piece} → Chain (DoubleItem t) i j w → i < j → is_white (code t i) ≡ false → (k : ℕ) × (SomeOf (DoubleChar t) i k × SomeOf (Chain (DoubleItem t)) k j)
   first_item done l n = absurd (omega arith)
   first_item (step {h = k} (set_off done v c) r) l n = (k, ((_, c), (_, r)))
@@ -280,7 +280,7 @@ module _ {t : List ℕ} where
   items_forward (other_item w v c l y s) = let b = items_forward s in let c = whites_forward t w in omega (arith, y, b, c)
   items_forward (four_item w v a s) = let b = items_forward s in let c = whites_forward t w in omega (arith, b, c)
 
-  -- [112] and [113]: no half of a pair begins where a break does
+  -- [112] and [113]: no half of a pair begins at a break
   break_low : {i j : ℕ} → Break t i j → NoLow t i
   break_low b = no_low_of (λ e. absurd (⊎_elim (λ h. absurd (omega arith)) (λ h. absurd (omega arith)) (break_char b)))
 
@@ -301,7 +301,7 @@ module _ {t : List ℕ} where
   double_break_low (escaped_break done e b c p) = no_low_of (λ _ z. ⊎_elim (λ h. absurd (omega arith)) (λ h. absurd (omega arith)) (break_char b))
   double_break_low (escaped_break (step (one {i = i} e) m) s b c p) = no_low_of (λ z. absurd (true≢false (sym e ∙ ap is_white z ∙ white_backslash)))
 
--- white space and the end, or a further line: where it begins no half of a pair does
+-- white space and the end, or a further line: no half of a pair begins there
 pub record RestRead (t : List ℕ) (n : ℤ) (i j : ℕ) : Type 0 where
   pub low : NoLow t i
   pub rest : SomeOf (DoubleRest t n) i j

@@ -1,5 +1,5 @@
--- A form read as a relation, where K says what each production stands for; and that what is derived is so read wherever K is closed under the
--- productions.
+-- A form read as a relation; K gives the relation of each production. A derivation satisfies this relation, if K is
+-- closed under the productions.
 use Rattle.std.proofs.Common.{◌≡◌, ℕ, ◌≤◌, ◌-◌, ℤ, Bool, true, false, true≢false, List, length, take, drop, refl, ap, ◌<◌, ◌⊎◌, inl, inr, arith}
 use Rattle.yf_standard.proofs.Monotone.{forward}
 use Rattle.std.specs.Str.{chars}
@@ -34,7 +34,7 @@ FormRead t L K e (at-most k a) i j = FormRead t L K e a i j × (length (chars (t
 FormRead t L K e (excluding-c-forbidden a) i j = Derived L t e a i j × Clear t i j
 FormRead t L K e f i j = K e f i j
 
--- K holds of what a production derives between two places, where K holds of what is in it
+-- K holds for a production's derivation between two offsets, if K holds for its parts
 pub record Closed (t : List ℕ) (L : Condition → ℕ → Type 0) (low high : ℕ) (K : ℕ → Form → ℕ → ℕ → Type 0) : Type 0 where
   pub by : (e : ℕ) (f : Form) (i j : ℕ) → kind f ≡ PRODUCTION → low ≤ i → j ≤ high → FormRead t L K e (rule f) i j → K e f i j
   pub by_open : (d e : ℕ) (f : Form) (i j : ℕ) → kind f ≡ COLLECTION → d < e → FormRead t L K d (rule f) i j → K e f i j
@@ -52,7 +52,7 @@ pub no_operator_opens : {A : Type 0} → OPERATOR ≡ COLLECTION → A
 unfolding is_operator
 no_operator_opens e = absurd (true≢false (ap is_operator e))
 
--- a production is read as what it stands for
+-- a production is read as its relation
 as_known : (t : List ℕ) (L : Condition → ℕ → Type 0) (K : ℕ → Form → ℕ → ℕ → Type 0) (e : ℕ) (f : Form) (i j : ℕ) → kind f ≡ PRODUCTION → K e f i j → FormRead t L K e f i j
 unfolding kind
 as_known t L K e ε i j q k = no_operator q
@@ -89,7 +89,7 @@ as_opened t L K e (at-most n a) i j q k = no_operator_opens q
 as_opened t L K e (excluding-c-forbidden a) i j q k = no_operator_opens q
 as_opened t L K e f i j q k = k
 
--- what is derived between the two places is so read
+-- the derivation between the two offsets satisfies the relation
 pub known : {t : List ℕ} {L : Condition → ℕ → Type 0} {low high : ℕ} {K : ℕ → Form → ℕ → ℕ → Type 0} {e : ℕ} {f : Form} {i j : ℕ} → Closed t L low high K → low ≤ i → j ≤ high
     → Derived L t e f i j → FormRead t L K e f i j
 known {t} {L} {low} {high} {K} {e} {f} {i} {j} c l h (by_rule q d) = as_known t L K e f i j q (c.by e f i j q l h (known c l h d))

@@ -1,4 +1,4 @@
--- What tokens say, part by part: each way in which parts are joined is one of the meanings of `Grammar`.
+-- What tokens say, part by part: each way of joining parts is one of the meanings of `Grammar`.
 use Rattle.std.proofs.Common.{◌≡◌, ℕ, Bool, true, false, List, [], ◌∷◌, ◌++◌, Option, None, map, encode_utf8_all, refl, sym, ap, ◌∙◌, subst, append_assoc, append-nil}
 use Rattle.std.proofs.lemmas.List.{map-append}
 use Rattle.yf_comments.specs.Comment.{CommentValue}
@@ -16,7 +16,7 @@ use Rattle.yf_standard.specs.Tokens.Token.{a_comment, an_alias, a_scalar, starts
 use Rattle.yf_standard.specs.Readings.{Said, said, place_of, tag_places, said_of}
 use Rattle.yf_standard.proofs.CommentsMeant.{notes_append}
 
--- a meaning, and what is said after it
+-- what the meaning x says, and then s
 abbrev pub joined_said : Meaning → Said → Said
 joined_said x s = record {
   events = map (λ e. e.event) x.events ++ s.events;

@@ -1,4 +1,4 @@
--- What the end of a block scalar (8.1.1.2) adds to content, and so what all of a literal scalar's content is.
+-- What the end of a block scalar (8.1.1.2) adds to content, and so all of a literal scalar's content.
 use Rattle.std.proofs.Common.{◌≡◌, ℕ, ◌≤◌, ℤ, pos, Bool, true, false, List, [], ◌∷◌, ◌++◌, length, refl, sym, ap, ◌∙◌, subst, append-nil, arith}
 use Rattle.std.proofs.lemmas.Int.{ints}
 use Rattle.yf_chars.specs.declared.context.Ctx.TheVariants.{BlockIn}

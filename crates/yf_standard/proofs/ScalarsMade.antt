@@ -284,7 +284,8 @@ trail_made {room = room} {t = t} {k = k} {i = i} f (comments {j = j} {x = w} m l
       let q : pos m <ℤ pos k = omega (arith, ints, l) in
       in_left (by_rule refl (one_then (fewer_made (fewer m q s)) (one_then (comment_made a.comment) (one_then (b_comment_made a.ends) (one_then (chain_of (rest_next r.rest) d) (where_holds (no_further c)))))))
 
--- no line is taken after the lines of spaces alone, where the indentation is large enough; and the comment lines after them are the same
+-- if the indentation is large enough, no line is taken after the lines that have only spaces, and the comment lines
+-- after them don't change
 record Past (t : List ℕ) (n : ℤ) (i : ℕ) : Type 0 where
   bound : ℕ
   none : (k : ℕ) → bound < k → least n ≤ k → Stuck (Line t k i)
@@ -329,7 +330,7 @@ deeper_trail : {t : List ℕ} {n : ℤ} {k i j : ℕ} {w : List CommentValue} �
 deeper_trail h l (comments m b s e c) = comments m (omega (arith, l, b)) s e c
 deeper_trail h l (no_comment f) = no_comment (λ m b s e. f m (hash_shallow h s e) s e)
 
--- [170] and [174], over what their content is
+-- [170] and [174], over their content
 abbrev pub OneOf : (ℕ → Bool) → (ℤ → Chomping → Form) → ℤ → Chomping → Form
 OneOf s f n t = some-k λ k. ‹ s › then (some-m (λ m. c-b-block-header (GIVEN m) t then ⟨ is-sum n m k ⟩) ∣ c-b-block-header DETECTED t then ⟨ auto-detect n k ⟩) then f k t
 

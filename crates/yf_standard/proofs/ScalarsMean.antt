@@ -1,4 +1,4 @@
--- Whole block scalars (8.1): the content and the comments of each derivation are those with which it is read.
+-- Whole block scalars (8.1): the content and the comments of each derivation are those that are read.
 use Rattle.std.proofs.Common.{◌≡◌, ℕ, ◌+◌, ◌<◌, ◌≤◌, ℤ, pos, Bool, true, false, List, [], ◌∷◌, ◌++◌, length, map, encode_utf8_all, Option, Some, None, refl, sym, ap, ◌∙◌, subst, append-nil, arith}
 use Rattle.std.specs.Str.{IsUtf8}
 use Rattle.yf_chars.specs.Text.{code, next}
@@ -75,7 +75,7 @@ same_notes b [] = refl
 same_notes b (c ∷ x) = refl
 
 module _ {t : List ℕ} {low high : ℕ} (clear : Clear t low high) where
-  -- the trail begins where the lines end that the content has
+  -- the trail begins at the end of the content's lines
   trail_there : {k b j p count : ℕ} {ls : List (List ℕ)} {o : Bool} {z : List Token} → (b < length t → LineStart t b) → low ≤ b → j ≤ high → LinesTaken t k b ls o count p
       → (r : ContentNoted t k b j z) → Trail t k p j (trail_values r.content.ending.trail)
   trail_there {k} {j = j} s l h a r =
@@ -139,7 +139,7 @@ width_of : {t : List ℕ} {n k : ℤ} {i : ℕ} → AutoDetect t n i k → (m : 
 width_of (by_first_line {k = m} d) = (m, refl)
 width_of (without_content {k = m} c s l g o) = (m, refl)
 
--- what is known of the content after the header
+-- the facts about the content after the header
 abbrev pub ContentIs : List ℕ → Bool → Chomping → ℤ → ℕ → List Mark → Type 0
 ContentIs t f c k b y = (h : ℕ) → k ≡ pos h → (b < length t → LineStart t b) → BlockContent t f c h b y
 

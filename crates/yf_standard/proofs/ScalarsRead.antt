@@ -1,4 +1,4 @@
--- Block scalars (8.1), from what the standard's productions are read as to the relations of `Header` and `Body`.
+-- Block scalars (8.1): from the relations of the standard's productions to those of `Header` and `Body`.
 use Rattle.std.proofs.Common.{◌≡◌, ℕ, suc, ◌+◌, ◌-◌, ◌<◌, ◌≤◌, ℤ, pos, ◌≤ℤ◌, Bool, true, false, leb, ◌||◌, ◌==◌, not, List, [], ◌∷◌, ◌++◌, length, Option, Some, None, sym, ap, ◌∙◌, subst, ◌⊎◌, inl, inr, arith}
 use Rattle.std.proofs.lemmas.Bool.{and_parts, eqb-true, leb-true}
 use Rattle.std.proofs.lemmas.Int.{ints}
@@ -41,7 +41,7 @@ use Rattle.yf_chars.proofs.TextLemmas.{next_ascii, next_later}
 use Rattle.yf_lines.proofs.FoldLemmas.{indent_width}
 use Rattle.yf_lines.proofs.RestLemmas.{spaces_more}
 
--- what n is, where it is a number of spaces
+-- the value of n, if it is a number of spaces
 abbrev pub AtWidth : (ℕ → ℕ → ℕ → Type 0) → ℤ → ℕ → ℕ → Type 0
 AtWidth R n i j = (k : ℕ) → n ≡ pos k → R k i j
 

@@ -1,4 +1,5 @@
--- Whole block scalars (8.1), from what the standard's productions are read as to `BlockScalar`, where no forbidden line is covered.
+-- Whole block scalars (8.1): from the relations of the standard's productions to `BlockScalar`, if no forbidden line is
+-- covered.
 use Rattle.std.proofs.Common.{◌≡◌, ◌≢◌, ℕ, zero, suc, ◌+◌, ◌<◌, ◌≤◌, ℤ, pos, Bool, true, false, true≢false, List, [], ◌∷◌, ◌++◌, length, slice_range, Option, Some, None, refl, sym, ap, ◌∙◌, subst, ◌⊎◌, inl, inr, ⊎_elim, arith}
 use Rattle.std.proofs.lemmas.Bool.{cases_lt, cases_eq, cases_Bool}
 use Rattle.std.specs.Str.{IsUtf8}
@@ -169,7 +170,7 @@ hash_known t k i = go k 0 (record { each = λ m l. absurd (omega arith) }) (omeg
       more : code t (i + m) ≡ 32 → Spaces t i (suc m)
       more b = record { each = λ d l. ⊎_elim (λ (f : d < m). s.each d f) (λ (f : m ≤ d). let z : m ≡ d = omega (arith, f, l) in ap (λ z. code t (i + z)) (sym z) ∙ b) (cases_lt d m) }
 
--- where no comment line follows, no rest of a line does
+-- if no comment line follows, no rest of a line follows
 no_row : {t : List ℕ} {i : ℕ} → LineStart t i ⊎ (i ≡ length t) → NoCommentLine t i → Stuck (Row t i)
 no_row (inl s) n = record { none = λ j w r. n.none j w (rest_line s r.rest) r.later }
 no_row {i = i} (inr e) n = row_stuck_end e
@@ -186,7 +187,7 @@ pub lines_begin : {t : List ℕ} {i j : ℕ} {w : List CommentValue} → LineSta
 lines_begin s done = s
 lines_begin s (step l r) = lines_begin (line_begins l) r
 
--- what is read of a trail is one
+-- the relation of a trail gives a trail
 pub trail_of : {t : List ℕ} {k i j : ℕ} → (i < length t → LineStart t i) → (c : TrailComments t k i j ⊎ (NoTrail t (pos k) i × (i ≡ j))) → Trail t k i j (trail_values c)
 trail_of {t} {k} {i} {j} s (inl c) =
     let hash : code t (i + c.spaces) ≡ 35 = hash_in c.hash.comment in
@@ -202,7 +203,7 @@ trail_of {t} {k} {i} {j} s (inr n) = subst (λ z. Trail t k i z []) n.1 (⊎_eli
       let none : Stuck (Row t i) = record { none = λ j w r. let a = hash_rest h.before h.hash r.rest in n.0.none k h.spaces a.end j a.text refl h.few h.before a.comment a.ends } in
       comments h.spaces h.few h.before h.hash (line_end_chosen (from_start (s (omega (arith, l))) done) none)
 
--- with fewer spaces, where no indentation is to be detected
+-- with fewer spaces, if no indentation is to be detected
 pub shallower : {t : List ℕ} {n : ℤ} {k i j : ℕ} {w : List CommentValue} → Shallow t n i → least n ≤ k → Trail t k i j w → Trail t (least n) i j w
 shallower h l (comments m b s e c) = comments m (hash_shallow h s e) s e c
 shallower h l (no_comment f) = no_comment (λ m b s e. f m (omega (arith, l, b)) s e)

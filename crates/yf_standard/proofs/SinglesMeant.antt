@@ -1,4 +1,4 @@
--- What the productions of single-quoted scalars (7.3.2) add to content is the text that `Quoted` of yf_quoted derives.
+-- The productions of single-quoted scalars (7.3.2) add to content the text that `Quoted` of yf_quoted derives.
 use Rattle.std.proofs.Common.{◌≡◌, ℕ, ◌+◌, ℤ, true, false, List, [], ◌∷◌, ◌++◌, sym, ap, ◌∙◌, subst, arith}
 use Rattle.yf_chars.specs.declared.context.Ctx.{Ctx}
 use Rattle.yf_chars.specs.Text.{code}

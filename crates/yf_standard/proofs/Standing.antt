@@ -1,4 +1,4 @@
--- What every production of the standard stands for: a relation of the crates below, or what the lemmas on it speak of.
+-- The relation for each production of the standard: a relation of the crates below, or one that the lemmas on it use.
 use Rattle.std.proofs.Common.{◌≡◌, ◌≢◌, ℕ, ◌<◌, ◌≤◌, pos, ◌+ℤ◌, Bool, true, false, List, length, ◌⊎◌}
 use Rattle.std.specs.Prelude.{⊤}
 use Rattle.yf_chars.specs.declared.context.Ctx.{Ctx}
@@ -55,7 +55,7 @@ abbrev pub Off : Bool → Type 0 → Type 0
 Off true X = ⊤
 Off false X = X
 
--- what the productions stand for
+-- the relations of the productions
 unfoldable pub StandsFor : (t : List ℕ) (low : ℕ) (s : Bool) → ℕ → Form → ℕ → ℕ → Type 0
 StandsFor t low s e b-break i j = Break t i j
 StandsFor t low s e b-as-line-feed i j = Break t i j

@@ -178,7 +178,7 @@ part_of_mark {t} (character {i = i} e) = (order_mark (eqb-true (code t i) 0xFEFF
 abbrev pub RoundSaid : List ℕ → ℕ → ℕ → ℕ → List Token → Type 0
 RoundSaid t e = Either (SuffixRound t e) (Either (Character t no_tokens c-byte-order-mark) (Either (Noted (CommentLine t)) (ExplicitSaid t e)))
 
--- what is left of a stream
+-- the rest of a stream
 record RestIs (t : List ℕ) (e i : ℕ) (y : List Token) : Type 0 where
   pub height : ℕ
   pub value : Documents

@@ -1,4 +1,4 @@
--- The lines of a block scalar up to the last one with content, without that one's end: what both styles make of them is the same.
+-- The lines of a block scalar up to the last one with content, without that line's end: both styles read them alike.
 use Rattle.std.proofs.Common.{◌≡◌, ℕ, ◌+◌, ◌<◌, ◌≤◌, pos, ◌<ℤ◌, Bool, true, true≢false, length, List, [], ◌∷◌, ◌++◌, refl, sym, ap, ◌∙◌, ⊎_elim, arith}
 use Rattle.std.proofs.lemmas.Bool.{cases_lt}
 use Rattle.std.proofs.lemmas.Int.{ints}

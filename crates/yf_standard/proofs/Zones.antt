@@ -1,4 +1,4 @@
--- The part of a text where productions are read, and what block scalars and documents in it stand for.
+-- The part of a text in which productions are read, and the relations of block scalars and documents in it.
 use Rattle.std.proofs.Common.{◌≡◌, ℕ, ◌≤◌, ℤ, negsuc, Bool, true, false, List, length, refl, sym, subst, ◌⊎◌, inl, inr, arith, ◌+◌, ◌∙◌}
 use Rattle.std.specs.Str.{IsUtf8}
 use Rattle.yf_chars.specs.declared.context.Ctx.TheVariants.{BlockIn}
@@ -21,7 +21,8 @@ use Rattle.yf_standard.proofs.ScalarsWhole.{HeaderPart, scalar_read}
 use Rattle.yf_standard.proofs.PartsRead.{star_map, Three, round_read}
 use Rattle.yf_standard.proofs.StreamsRead.{SomeRoot, SomeExplicit, Suffix, Any, Round, explicit_node_read, stream_read}
 
--- the part of a text where productions are read: a document's node, which covers no forbidden line, or all of it
+-- the part of a text in which productions are read: a document's node, which covers no forbidden line, or all of the
+-- text
 pub record Zone (t : List ℕ) (s : Bool) : Type 0 where
   pub utf : IsUtf8 t
   pub low : ℕ

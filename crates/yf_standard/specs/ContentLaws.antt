@@ -1,6 +1,6 @@
--- What the standard's productions mean: the laws that tie what a derivation adds to the content of a scalar
--- (`Contents`) to the relations by which scalars are read, each with the plain sentence that it says.
--- `proofs/ContentLawsHold.antt` proves them.
+-- The meanings of the standard's productions: the laws that relate what a derivation adds to the content of a scalar
+-- (`Contents`) to the relations of the readers of scalars, each with a plain sentence. `proofs/ContentLawsHold.antt`
+-- proves them.
 use Rattle.std.specs.Prelude.{◌≡◌, ℕ, ◌<◌, ℤ, pos, Bool, true, false, List, length, None, encode_utf8_all}
 use Rattle.std.specs.Str.{IsUtf8}
 use Rattle.yf_chars.specs.declared.context.Ctx.{Ctx}
@@ -24,7 +24,7 @@ chomp_of STRIP = Strip
 chomp_of CLIP = Clip
 chomp_of KEEP = Keep
 
--- the lines from a place on that a block scalar with k spaces takes, and what these lines mean, with that style and
+-- the lines that a block scalar with k spaces takes from an offset on, and the content of these lines in that style and
 -- chomping
 pub record BlockContent (t : List ℕ) (folded : Bool) (c : Chomping) (k i : ℕ) (y : List Mark) : Type 0 where
   pub lines : List (List ℕ)
@@ -36,28 +36,29 @@ pub record BlockContent (t : List ℕ) (folded : Bool) (c : Chomping) (k i : ℕ
   pub added : y ≡ marks text
   pub bytes : encode_utf8_all text ≡ content_of (record { folded = folded; digit = None; chomp = chomp_of c }) lines tail left_open
 
--- Each derivation of a plain scalar (131) means the text with which it is read.
+-- Each derivation of a plain scalar (131) means the text that is read.
 abbrev pub PlainContents : Type 0
 PlainContents = (t : List ℕ) (e i j : ℕ) (n : ℤ) (c : Ctx) → IsUtf8 t → (d : Derived (read t) t e (ns-plain n c) i j)
     → (x : List ℕ) × (PlainText t n c i j x × (content d ≡ marks x))
 
--- Each derivation of a single-quoted scalar (120) that covers no forbidden line means the text with which it is read.
+-- Each derivation of a single-quoted scalar (120) that covers no forbidden line means the text that is read.
 abbrev pub SingleContents : Type 0
 SingleContents = (t : List ℕ) (e i j : ℕ) (n : ℤ) (c : Ctx) → IsUtf8 t → Clear t i j → (d : Derived (read t) t e (c-single-quoted n c) i j)
     → (x : List ℕ) × (SingleQuoted t n c i j x × (content d ≡ marks x))
 
--- Each derivation of a double-quoted scalar (109) that covers no forbidden line means what it is read as: the
--- characters, and the escapes that write none, with their places.
+-- Each derivation of a double-quoted scalar (109) that covers no forbidden line means what is read: the characters, and
+-- the escapes that write none, with their offsets.
 abbrev pub DoubleContents : Type 0
 DoubleContents = (t : List ℕ) (e i j : ℕ) (n : ℤ) (c : Ctx) → IsUtf8 t → Clear t i j → (d : Derived (read t) t e (c-double-quoted n c) i j)
     → DoubleQuoted t n c i j (pieces (content d))
 
--- Each derivation of the content of a literal scalar (173) that covers no forbidden line means what its lines mean.
+-- Each derivation of the content of a literal scalar (173) that covers no forbidden line means the content of its
+-- lines.
 abbrev pub LiteralContents : Type 0
 LiteralContents = (t : List ℕ) (e i j k : ℕ) (c : Chomping) → IsUtf8 t → Clear t i j → (i < length t → LineStart t i) → (d : Derived (read t) t e (l-literal-content (pos k) c) i j)
     → BlockContent t false c k i (content d)
 
--- So does each derivation of the content of a folded scalar (182).
+-- Each derivation of the content of a folded scalar (182) that covers no forbidden line means the content of its lines.
 abbrev pub FoldedContents : Type 0
 FoldedContents = (t : List ℕ) (e i j k : ℕ) (c : Chomping) → IsUtf8 t → Clear t i j → (i < length t → LineStart t i)
     → (d : Derived (read t) t e (l-folded-content (pos k) c) i j) → BlockContent t true c k i (content d)

@@ -1,5 +1,5 @@
--- What a derivation by the standard's productions adds to the content of a scalar (6.5, 7.3 and 8.1): a function of the derivation, by the
--- name of each production and by what its parts add. The standard's own names say most of it.
+-- The content that a derivation by the standard's productions adds to a scalar (6.5, 7.3 and 8.1): a function of the
+-- derivation, by the name of each production and the content of its parts. The standard's own names say most of it.
 use Rattle.std.specs.Prelude.{ℕ, ◌+◌, ◌-◌, Bool, ◌==◌, ◌&&◌, List, [], ◌∷◌, ◌++◌, Option, Some, None, if◌then◌else◌}
 use lib.Utf8.{scalar}
 use Rattle.yf_chars.specs.Text.{code}
@@ -12,11 +12,11 @@ use Rattle.yf_standard.specs.Productions.{rule}
 use Rattle.yf_standard.specs.Literal.{Derived}
 use Rattle.yf_standard.specs.Literal.Derived.{by_rule, by_collection, nothing, one_of, one_then, in_left, in_right, absent, present, no_more, one_more, at_least_one, without, where_holds, for_some_m, for_some_k, within, clear_of_markers}
 
--- what a production makes of what its parts mean
+-- a function that gives the meaning of a production from the meanings of its parts
 abbrev pub Making : (Condition → ℕ → Type 0) → List ℕ → Type 0 → Type 0
 Making L t A = (e : ℕ) (f : Form) (i j : ℕ) → Derived L t e (rule f) i j → List A → List A
 
--- what a derivation means, in order of the text: of one character, and of each production by what it makes of its parts
+-- the meaning of a derivation, in order of the text, from the meaning of one character and that of each production
 unfoldable pub meant : {L : Condition → ℕ → Type 0} {t : List ℕ} {A : Type 0} → (ℕ → List A) → Making L t A
     → {e : ℕ} {f : Form} {i j : ℕ} → Derived L t e f i j → List A
 meant one made (by_rule {e = e} {f = f} {i = i} {j = j} k d) = made e f i j d (meant one made d)
@@ -38,23 +38,23 @@ meant one made (for_some_k k d) = meant one made d
 meant one made (within d few) = meant one made d
 meant one made (clear_of_markers d c) = meant one made d
 
--- a character of content, or an escape: the number that it writes, and from where to where it is
+-- a character of content, or an escape: the number that it writes, its start and its end
 pub data Mark : Type 0 where
   char : ℕ → Mark
   escape : ℕ → ℕ → ℕ → Mark
 
--- 5.7: what an escape writes, by its letter or by the hexadecimal digits after that
+-- 5.7: the number that an escape writes, from its letter or from the hexadecimal digits after it
 unfoldable pub escape_value : List ℕ → ℕ → ℕ → Option ℕ → ℕ
 escape_value t i j (Some v) = v
 escape_value t i j None = number t (i + 2) (j - (i + 2))
 
--- 7.3.1: of an escaped break, the white space before its backslash and the empty lines after it
+-- 7.3.1: an escaped break adds the white space before its backslash and the empty lines after it
 unfoldable pub no_backslash : List Mark → List Mark
 no_backslash [] = []
 no_backslash (char c ∷ xs) = if c == 92 then no_backslash xs else char c ∷ no_backslash xs
 no_backslash (x ∷ xs) = x ∷ no_backslash xs
 
--- 7.3: what is between quotes; 8.1: what is after the sign of a block scalar
+-- 7.3: the content between quotes; 8.1: the content after the sign of a block scalar
 unfoldable pub but_last : List Mark → List Mark
 but_last [] = []
 but_last (x ∷ []) = []
@@ -65,7 +65,7 @@ but_first [] = []
 but_first (x ∷ xs) = xs
 
 unfoldable pub content_made : List ℕ → Form → ℕ → ℕ → List Mark → List Mark
--- 6.1 and 6.2: indentation and separation are no content
+-- 6.1 and 6.2: indentation and separation are not content
 content_made t (s-indent n) i j x = []
 content_made t (s-indent-less-than n) i j x = []
 content_made t (s-indent-less-or-equal n) i j x = []
@@ -104,7 +104,7 @@ abbrev pub marks : List ℕ → List Mark
 marks [] = []
 marks (c ∷ cs) = char c ∷ marks cs
 
--- an escape whose number is no character's is none; where it is
+-- an escape whose number isn't a character's is bad; its offset
 unfoldable pub piece_of : ℕ → ℕ → Piece
 piece_of v i = if scalar v then good v else bad i
 
@@ -112,7 +112,7 @@ piece_of v i = if scalar v then good v else bad i
 unfoldable pub is_pair : ℕ → ℕ → ℕ → ℕ → ℕ → ℕ → Bool
 is_pair v i k w g j = (is_high v && is_low w) && ((k == i + 6) && ((g == k) && (j == k + 6)))
 
--- 5.7: what the marks of a double-quoted scalar mean, where such two are one character
+-- 5.7: the meaning of the marks of a double-quoted scalar, in which such a pair is one character
 unfoldable pub pieces : List Mark → List Piece
 pieces [] = []
 pieces (char c ∷ xs) = good c ∷ pieces xs

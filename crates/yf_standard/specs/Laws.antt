@@ -1,5 +1,5 @@
--- The laws that tie what is read here to the standard's productions, each with the plain sentence that it says.
--- `proofs/LawsHold.antt` proves them, and `laws` has them as its contract.
+-- The laws that relate the readers' definitions to the standard's productions, each with a plain sentence.
+-- `proofs/LawsHold.antt` proves them, and they are the contract of `standard_laws`.
 use Rattle.std.specs.Prelude.{ℕ, ◌≤◌, List, length}
 use Rattle.std.specs.Str.{IsUtf8}
 use Rattle.yf_lines.specs.Basic.{ForbiddenLine}
@@ -17,27 +17,27 @@ use Rattle.yf_standard.specs.Rules.{read, letter}
 abbrev pub IsStandardStream : List ℕ → Type 0
 IsStandardStream t = Derived (read t) t DEPTH l-yaml-stream 0 (length t)
 
--- What is derived here as a stream within the limit, the standard derives with the reading rules.
+-- The standard derives, with the reading rules, each stream that the crates below derive within the limit.
 abbrev pub StreamsAreStandard : Type 0
 StreamsAreStandard = (t : List ℕ) (h : ℕ) (x : Documents) → IsUtf8 t → Stream t h x → h ≤ DEPTH → IsStandardStream t
 
--- What the standard derives so, is derived here as a stream within the limit.
+-- The crates below derive, within the limit, each such stream of the standard.
 abbrev pub StandardStreamsAreDerived : Type 0
 StandardStreamsAreDerived = (t : List ℕ) → IsUtf8 t → IsStandardStream t → (h : ℕ) × ((x : Documents) × (Stream t h x × (h ≤ DEPTH)))
 
--- So a text that is refused since nothing derives it as a stream is none of the standard's.
+-- So a text that is refused because nothing derives it as a stream is not a stream of the standard.
 abbrev pub RefusedStreamsAreNone : Type 0
 RefusedStreamsAreNone = (t : List ℕ) → IsUtf8 t → NoStream t → IsStandardStream t → ⊥
 
--- The reading rules only restrict: what is derived with them, the standard's text alone derives, but for the start of a line and the sum
--- of an indentation, which `letter` reads as `read` does.
+-- The reading rules only restrict: a form derived with them is derived by the standard's letter too. The start of a
+-- line and the sum of an indentation are excepted: `letter` reads these as `read` does.
 abbrev pub RulesOnlyRestrict : Type 0
 RulesOnlyRestrict = (t : List ℕ) (e i j : ℕ) (f : Form) → Derived (read t) t e f i j → Derived (letter t) t e f i j
 
--- So a text that has a reading the standard's text alone derives as a stream.
+-- So the standard's letter derives each text that has a reading as a stream.
 abbrev pub ReadTextsAreStandard : Type 0
 ReadTextsAreStandard = (t : List ℕ) (r : Lists) → IsUtf8 t → ReadingOf t r → Derived (letter t) t DEPTH l-yaml-stream 0 (length t)
 
--- A forbidden line, which a document's node covers none of, is where c-forbidden of the standard is derived.
+-- A forbidden line, which a document's node may not cover, begins where c-forbidden of the standard is derived.
 abbrev pub ForbiddenLinesAreStandard : Type 0
 ForbiddenLinesAreStandard = (t : List ℕ) (i : ℕ) → IsUtf8 t → (ForbiddenLine t i → (j : ℕ) × Derived (read t) t DEPTH c-forbidden i j) × ((j : ℕ) → Derived (read t) t DEPTH c-forbidden i j → ForbiddenLine t i)

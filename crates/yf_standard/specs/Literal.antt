@@ -1,5 +1,5 @@
--- What a form derives: `Derived L t e f i j` says that the form f derives the text t from byte i to byte j with at most e collections open
--- in it at once, where L says what a condition means at a place.
+-- Derivations of forms: `Derived L t e f i j` says that the form f derives the text t from byte i to byte j with at
+-- most e collections open in it at once; L gives the meaning of a condition at an offset.
 use Rattle.std.specs.Prelude.{◌≡◌, ℕ, ◌<◌, ◌≤◌, ◌-◌, ℤ, true, false, List, length, take, drop}
 use Rattle.std.specs.Str.{chars}
 use Rattle.yf_chars.specs.Text.{code, next}
@@ -9,7 +9,7 @@ use Rattle.yf_standard.specs.Notation.{Form, Condition}
 use Rattle.yf_standard.specs.Notation.Form.{ε, never, ‹◌›, ◌∙◌, ◌∣◌, ◌⁇, ◌⋆, ◌⁺, ◌less◌, ⟨◌⟩, some-m, some-k, at-most, excluding-c-forbidden, c-flow-sequence, c-flow-mapping, ns-flow-pair, l+block-sequence, ns-l-compact-sequence, l+block-mapping, ns-l-compact-mapping}
 use Rattle.yf_standard.specs.Productions.{rule}
 
--- a form that is made of others, a production, and a production that is a collection
+-- a form made of others, a production, and a production that is a collection
 pub data Kind : Type 0 where
   OPERATOR : Kind
   PRODUCTION : Kind

@@ -1,5 +1,6 @@
--- What may be on the right of a production (4.1 of the standard), by the name of a production or made of other forms. ‹ s › is one
--- character of a set, a ∙ b a then b, a ∣ b either, a ⁇ a or nothing, a ⋆ any number of a, a ⁺ one a or more.
+-- Forms: the right sides of productions (4.1 of the standard), which are the name of a production or made of other
+-- forms. ‹ s › is one character of a set, a ∙ b a then b, a ∣ b either, a ⁇ a or nothing, a ⋆ any number of a, a ⁺ one
+-- a or more.
 use Rattle.std.specs.Prelude.{ℕ, zero, suc, ◌+◌, ℤ, pos, ◌+ℤ◌, ◌==◌, ◌&&◌}
 use Rattle.yf_chars.specs.declared.context.Ctx.{Ctx}
 use Rattle.yf_chars.specs.declared.context.Ctx.TheVariants.{BlockOut, BlockIn, FlowOut, FlowIn, BlockKey, FlowKey}
@@ -11,22 +12,22 @@ pub data Chomping : Type 0 where
   CLIP : Chomping
   KEEP : Chomping
 
--- c-indentation-indicator(m): a digit, or nothing, where m is to be detected
+-- c-indentation-indicator(m): a digit, or nothing if m is to be detected
 pub data Indicator : Type 0 where
   GIVEN : ℕ → Indicator
   DETECTED : Indicator
 
--- conditions on the text at a place: the standard's, and the reading rules (docs/STANDARD.md)
+-- conditions on the text at an offset: the standard's, and the reading rules (docs/STANDARD.md)
 pub data Condition : Type 0 where
   start-of-line : Condition
   end-of-input : Condition
   lookahead= : Set → Condition
   lookahead≠ : Set → Condition
   lookbehind= : Set → Condition
-  -- one break: CR LF is one, and neither of the two is a break alone
+  -- one break: CR LF is one, and neither CR nor LF in it is a separate break
   not-before-line-feed : Condition
   not-after-carriage-return : Condition
-  -- longest names: no character of the name, of a tag's suffix, follows
+  -- longest names: no character of the name, or of a tag's suffix, follows
   name-ends : Condition
   tag-ends : Condition
   -- reserved names: the name that begins here is neither YAML nor TAG
@@ -39,7 +40,7 @@ pub data Condition : Type 0 where
   no-folded-line : ℤ → Condition
   -- detected indentation (8.1.1.1): the lines from here on, in a collection at n, are indented by k
   auto-detect : ℤ → ℤ → Condition
-  -- indicated indentation: k is n + m, where n counts as 0 if it is -1
+  -- indicated indentation: k is n + m; n counts as 0 if it is -1
   is-sum : ℤ → ℕ → ℤ → Condition
   -- explicit values: no `:` of the entry at n follows
   no-value : ℤ → Condition
@@ -244,7 +245,7 @@ plus n m = n +ℤ pos m
 abbrev pub some-t : (Chomping → Form) → Form
 some-t f = f STRIP ∣ f CLIP ∣ f KEEP
 
--- in-flow(c) of 140: the context that 136 goes on with
+-- in-flow(c) of 140: the context of the parts of 136
 abbrev pub in-flow-context : Ctx → Ctx
 in-flow-context FlowOut = FlowIn
 in-flow-context FlowIn = FlowIn
@@ -253,6 +254,6 @@ in-flow-context FlowKey = FlowKey
 in-flow-context BlockOut = BlockOut
 in-flow-context BlockIn = BlockIn
 
--- [x31-x39], whose value is m
+-- [x31-x39] with the value m
 unfoldable pub digit-of : ℕ → Set
 digit-of m c = (0x31 to 0x39) c && (c == 48 + m)

@@ -1,5 +1,6 @@
--- The productions of YAML 1.2.2, chapters 5 to 9, in the standard's order, by its names and numbers. Those that derive one character of a
--- set are in `Characters`. What is not the standard's own text is in ⟨ ⟩: a condition with a name, whose meaning is in `Rules`.
+-- The productions of YAML 1.2.2, chapters 5 to 9, in the standard's order, with its names and numbers. Those that
+-- derive one character of a set are in `Characters`. Text in ⟨ ⟩ is not the standard's own: it is a condition with a
+-- name, whose meaning is in `Rules`.
 use Rattle.std.specs.Prelude.{zero, suc, ◌+◌, pos, negsuc, ◌-ℤ◌}
 use Rattle.yf_chars.specs.declared.context.Ctx.TheVariants.{BlockOut, BlockIn, FlowOut, FlowIn, BlockKey, FlowKey}
 use Rattle.yf_standard.specs.Characters.{x, ◌∪◌, ◌∖◌, c-sequence-entry, c-mapping-key, c-mapping-value, c-collect-entry, c-sequence-start, c-sequence-end, c-mapping-start, c-mapping-end, c-comment, c-anchor, c-alias, c-tag, c-literal, c-folded, c-single-quote, c-double-quote, c-directive, c-indicator, c-flow-indicator, b-line-feed, b-carriage-return, b-char, nb-char, nb-json, c-byte-order-mark, s-space, s-white, ns-char, ns-dec-digit, ns-hex-digit, ns-word-char, c-escape, ns-esc-null, ns-esc-bell, ns-esc-backspace, ns-esc-horizontal-tab, ns-esc-line-feed, ns-esc-vertical-tab, ns-esc-form-feed, ns-esc-carriage-return, ns-esc-escape, ns-esc-space, ns-esc-double-quote, ns-esc-slash, ns-esc-backslash, ns-esc-next-line, ns-esc-non-breaking-space, ns-esc-line-separator, ns-esc-paragraph-separator, ns-anchor-char, ns-plain-safe}

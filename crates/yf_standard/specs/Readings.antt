@@ -1,5 +1,5 @@
--- From tokens to what is read (chapters 7 and 8): events, in which a node has the properties that are before it;
--- comments; the places of tags; and the places of escapes that write no character.
+-- From tokens to readings (chapters 7 and 8): events, in which a node has the properties before it; comments; the
+-- offsets of tags; and the offsets of escapes that write no character.
 use Rattle.std.specs.Prelude.{ℕ, Bool, List, [], ◌∷◌, ◌++◌, Option, Some, None, map}
 use Rattle.yf_events.specs.Event.{EventValue, EventInText}
 use Rattle.yf_grammar.specs.Productions.Meaning.{Meaning}
@@ -14,12 +14,12 @@ abbrev pub place_of : Option ℕ → List ℕ
 place_of None = []
 place_of (Some i) = i ∷ []
 
--- where the tags of events are
+-- the offsets of the tags of events
 abbrev pub tag_places : List EventInText → List ℕ
 tag_places [] = []
 tag_places (e ∷ es) = place_of e.tag_offset ++ tag_places es
 
--- what a meaning says
+-- what a meaning states
 abbrev pub said_of : Meaning → Said
 said_of x = record {
   events = map (λ e. e.event) x.events;
@@ -41,7 +41,7 @@ pub record StreamSaid : Type 0 where
   -- all comments, in order of the text
   pub comments : List Note
 
--- 9.2: what the tokens of a stream say after these directives
+-- 9.2: what the tokens of a stream after these directives state
 unfoldable pub stream_said : List Directive → List Token → StreamSaid
 stream_said ds [] = record { documents = []; comments = [] }
 stream_said ds (a_directive i words ∷ x) = stream_said (ds ++ record { offset = i; words = words } ∷ []) x
@@ -54,7 +54,7 @@ stream_said ds (a_document marked d ∷ x) =
     }
 stream_said ds (c ∷ x) = stream_said ds x
 
--- what documents say
+-- what documents state
 abbrev pub document_said : Document → DocumentSaid
 document_said d = record {
   marked = d.marked;

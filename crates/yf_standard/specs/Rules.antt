@@ -1,5 +1,5 @@
--- What the conditions of the productions mean: `letter` as the standard's text alone has them, where a reading rule asks nothing, and
--- `read` with the reading rules (docs/STANDARD.md).
+-- The meanings of the conditions of the productions: `letter` for the standard's text without reading rules, for which
+-- a reading rule requires nothing, and `read` with the reading rules (docs/STANDARD.md).
 use Rattle.std.specs.Prelude.{◌≡◌, ◌≢◌, ℕ, ◌+◌, ◌-◌, ℤ, pos, ◌≤ℤ◌, ◌<◌, ◌≤◌, ⊤, Bool, true, false, ◌==◌, ◌&&◌, List, length}
 use Rattle.yf_chars.specs.Text.{code, before}
 use Rattle.yf_chars.specs.declared.context.Ctx.TheVariants.{BlockIn}
@@ -13,7 +13,7 @@ use Rattle.yf_block_scalar.specs.Body.{base, least, largest, Line, LineContent, 
 use Rattle.yf_standard.specs.Notation.{Condition}
 use Rattle.yf_standard.specs.Notation.Condition.{start-of-line, end-of-input, lookahead=, lookahead≠, lookbehind=, not-before-line-feed, not-after-carriage-return, name-ends, tag-ends, reserved-name, no-line, no-comment-line, no-trail, no-folded-line, auto-detect, is-sum, no-value, sign-ends, no-comment}
 
--- a `:` of an explicit entry at n is on the line that begins at the place
+-- a `:` of an explicit entry at n is on the line that begins at the offset
 pub record ValueLine (t : List ℕ) (n : ℤ) (i : ℕ) : Type 0 where
   pub m : ℕ
   pub column : n ≡ pos m
@@ -33,11 +33,13 @@ pub record NoCommentLine (t : List ℕ) (i : ℕ) : Type 0 where
 pub record NoTrail (t : List ℕ) (n : ℤ) (i : ℕ) : Type 0 where
   pub none : (k m h j : ℕ) (x : List CommentValue) → n ≡ pos k → m < k → Spaces t i m → CommentText t (i + m) h x → BreakOrEnd t h j → ⊥
 
--- no further line with that indentation that begins with no white space, after a break and empty lines; a document marker begins none
+-- no further line with that indentation, after a break and empty lines, begins with a visible character; a document
+-- marker begins none
 pub record NoFoldedLine (t : List ℕ) (n : ℤ) (i : ℕ) : Type 0 where
   pub none : (k h j : ℕ) (x y : List ℕ) (o : Bool) → n ≡ pos k → FoldedBreak t n BlockIn i h x → LineContent t k h j y o → is_ns_char (code t (h + k)) ≡ true → ⊥
 
--- 8.1.1.1: the lines from the place on are indented by k; where none has content, all lines of spaces alone are empty ones
+-- 8.1.1.1: the lines from the offset on are indented by k; if none has content, all lines that have only spaces are
+-- empty lines
 pub data AutoDetect (t : List ℕ) (n : ℤ) (i : ℕ) : ℤ → Type 0 where
   by_first_line : {k : ℕ} → DetectedIndent t n i k → AutoDetect t n i (pos k)
   without_content : {k p : ℕ} {widths : List ℕ} → Chain (EmptyLines t) i p widths → Shallow t n p → largest widths ≤ k → least n ≤ k
@@ -72,8 +74,8 @@ read t (no-value n) i = ValueLine t n i → ⊥
 read t sign-ends i = is_white_or_end (code t i) ≡ true
 read t no-comment i = code t i ≢ 35
 
--- the standard's text alone, with two of its words read as `read` reads them: the start of a line (6.2), which is one after byte order marks
--- too, and n + m (8.1.1.1) where n is -1
+-- the standard's letter, with two of its words read as `read` reads them: the start of a line (6.2), which also follows
+-- byte order marks, and n + m (8.1.1.1) if n is -1
 unfoldable pub letter : List ℕ → Condition → ℕ → Type 0
 letter t start-of-line i = LineStart t i
 letter t end-of-input i = i ≡ length t

@@ -1,5 +1,5 @@
--- The comments, names, scalars and collections in what the standard's productions derive (6.6, 6.8.2, 6.9, 7 and 8),
--- in order of the text: a function of the derivation, by the name of each production and by what its parts mean.
+-- The comments, names, scalars and collections in a derivation by the standard's productions (6.6, 6.8.2, 6.9, 7 and
+-- 8), in order of the text: a function of the derivation, by the name of each production and the meanings of its parts.
 use Rattle.std.specs.Prelude.{ℕ, ◌+◌, ◌-◌, Bool, true, false, List, [], ◌∷◌, ◌++◌, Option, Some, None, codes, encode_utf8_all, length, slice_range}
 use Rattle.yf_comments.specs.Comment.{CommentValue}
 use Rattle.yf_props.specs.Props.{TagValue}
@@ -16,15 +16,16 @@ use Rattle.yf_standard.specs.Notation.Form.{l-directive, ns-yaml-directive, ns-t
 use Rattle.yf_standard.specs.Literal.{Derived}
 use Rattle.yf_standard.specs.Contents.{Mark, Making, meant, content, content_made, pieces}
 
--- a comment: where it begins, and its text
+-- a comment: its start, and its text
 pub record Note : Type 0 where
   pub offset : ℕ
   pub text : List ℕ
 
--- what the tokens of a node say: its events, comments, the places of its tags, and of its escapes that write no character
+-- what the tokens of a node state: its events, comments, the offsets of its tags, and of its escapes that write no
+-- character
 pub record Said : Type 0 where
   pub events : List EventValue
-  -- each with where it begins
+  -- each with its start
   pub comments : List Note
   pub tags : List ℕ
   pub escapes : List ℕ
@@ -32,10 +33,10 @@ pub record Said : Type 0 where
 abbrev pub with_event : EventValue → Said → Said
 with_event e s = record s { events = e ∷ s.events }
 
--- a comment, where it begins and its text; an anchor's name; an alias and a tag, where each begins and what it names;
--- a tag's handle; a scalar with its content; where a sequence (true) or a mapping starts, in flow style (true) or
--- not, and where it ends; a word of a directive; a directive, where it begins and its words; a document, whether
--- `---` is written, and its node's tokens
+-- a comment, its start and its text; an anchor's name; an alias and a tag, each with its start and its name; a tag's
+-- handle; a scalar with its content; the start of a sequence (true) or a mapping, in flow style (true) or not, and its
+-- end; a word of a directive; a directive, its start and its words; a document, whether `---` is written, and its
+-- node's tokens
 pub data Token : Type 0 where
   a_comment : ℕ → List ℕ → Token
   an_anchor : List ℕ → Token
@@ -54,11 +55,11 @@ unfoldable pub shorthand : List ℕ → ℕ → ℕ → List Token → TagValue
 shorthand t i j (a_handle h ∷ x) = IsShort h (slice_range t (i + length h) j)
 shorthand t i j x = IsNonSpecific
 
--- what tokens say after these properties
+-- what tokens after these properties state
 unfoldable pub said : PropsValue → List Token → Said
 said p [] = record { events = []; comments = []; tags = []; escapes = [] }
 said p (a_comment i text ∷ x) = let s = said p x in record s { comments = record { offset = i; text = text } ∷ s.comments }
--- 6.9: properties are those of the next node
+-- 6.9: properties belong to the next node
 said p (an_anchor name ∷ x) = said (record p { anchor = Some name }) x
 said p (a_tag i tag ∷ x) = let s = said (record p { tag = Some tag }) x in record s { tags = i ∷ s.tags }
 -- 7.1
@@ -92,9 +93,9 @@ unfoldable pub marked_document : List Token → List Token
 marked_document (a_document marked s ∷ z) = a_document true s ∷ z
 marked_document x = a_document true (said no_props x) ∷ []
 
--- y is what the derivation adds to content, x what its parts have
+-- y is the content of the derivation, and x has the tokens of its parts
 unfoldable pub tokens_made : List ℕ → Form → ℕ → ℕ → List Mark → List Token → List Token
--- 5.4, 6.1, 6.2 and 6.4: breaks and white space are none
+-- 5.4, 6.1, 6.2 and 6.4: breaks and white space have no tokens
 tokens_made t b-break i j y x = []
 tokens_made t (s-indent n) i j y x = []
 tokens_made t (s-indent-less-than n) i j y x = []
@@ -128,7 +129,7 @@ tokens_made t (ns-plain n c) i j y x = a_scalar Plain y ∷ []
 tokens_made t (c-flow-sequence n c) i j y x = starts true true ∷ (x ++ ends true ∷ [])
 tokens_made t (c-flow-mapping n c) i j y x = starts false true ∷ (x ++ ends false ∷ [])
 tokens_made t (ns-flow-pair n c) i j y x = starts false true ∷ (x ++ ends false ∷ [])
--- 8.1: lines of block scalars and their end are content alone; comments are after them
+-- 8.1: lines of block scalars and their end have only content; comments are after them
 tokens_made t (b-chomped-last k) i j y x = []
 tokens_made t (l-nb-literal-text n) i j y x = []
 tokens_made t (b-nb-literal-next n) i j y x = []
@@ -179,7 +180,7 @@ tag_place_among (c ∷ x) = tag_place_among x
 abbrev pub note_of : CommentValue → Note
 note_of c = record { offset = c.offset; text = c.text }
 
--- the comments, each with where it begins
+-- the comments, each with its start
 abbrev pub notes_of : List CommentValue → List Note
 notes_of [] = []
 notes_of (c ∷ cs) = note_of c ∷ notes_of cs

@@ -1,4 +1,4 @@
-//! The laws that tie what is read here to the standard's productions.
+//! The laws that relate the readers' definitions to the standard's productions.
 ghost use Rattle.yf_standard.specs.Acceptance.{FaultsTellOfTheStandard, StandardStreamsMeanOne, StandardTextsAreRead};
 ghost use Rattle.yf_standard.specs.ContentLaws.{DoubleContents, FoldedContents, LiteralContents, PlainContents, SingleContents};
 ghost use Rattle.yf_standard.specs.Laws.{ForbiddenLinesAreStandard, ReadTextsAreStandard, RefusedStreamsAreNone, RulesOnlyRestrict, StandardStreamsAreDerived, StreamsAreStandard};
@@ -6,13 +6,17 @@ ghost use Rattle.yf_standard.specs.NodeLaws.{BlockNodes, FlowNodes};
 ghost use Rattle.yf_standard.specs.StreamLaws.{ReadingsAreSaid, StreamTokens};
 ghost use Rattle.yf_standard.specs.TokenLaws.{AliasTokens, CommentTokens, FoldedScalars, LiteralScalars, PropertyTokens, SeparateTokens};
 
-/// Does nothing: its contract is what holds of every text. What is derived here as a stream, within the limit of
-/// open collections, is by the reading rules a stream of the standard (`l-yaml-stream`, production 211), and what is
-/// one is derived here; so no text that is refused for its syntax is one. The rules only restrict what the standard's
-/// text alone derives, so a text that is read is a stream by that too. Forbidden lines are those of production 206.
-/// What the standard derives means one thing here. A text has a reading exactly where the standard derives it and what
-/// it means breaches nothing (sections 5.7, 6.8, 6.9 and 7.1); a text that is refused with `Syntax` or `TooDeep` the
-/// standard doesn't derive, and one that is refused with another fault it does, but the text breaches what that tells.
+/// Does nothing: its contract holds for every text.
+///
+/// The definitions of the crates below derive a text as a stream, within the limit of open collections, if and only if
+/// the standard's productions do with the reading rules (`l-yaml-stream`, production 211). So no text that is refused
+/// for its syntax is a stream of the standard. The rules only restrict the standard's letter, so a text that has a
+/// reading is a stream by the letter too. Forbidden lines are those of production 206.
+///
+/// Each text that the standard derives has exactly one meaning. A text has a reading if and only if the standard
+/// derives it and its meaning breaks none of the standard's other rules (sections 5.7, 6.8, 6.9 and 7.1). If a text is
+/// refused with `Syntax` or `TooDeep`, the standard doesn't derive it. If it is refused with another fault except
+/// `Memory`, the standard derives it, and the text breaks the rule that the fault names.
 pub fn standard_laws()
     ensures accepted { StreamsAreStandard }
     ensures derived { StandardStreamsAreDerived }
@@ -25,15 +29,17 @@ pub fn standard_laws()
     ensures faults { FaultsTellOfTheStandard }
 {}
 
-/// Does nothing: its contract is what some of the standard's productions mean. The meaning is a function of the
-/// derivation, by the names of the productions (`specs/Contents.antt` and `specs/Tokens.antt`). Each derivation of a
-/// plain, a single-quoted or a double-quoted scalar, and of the content of a literal or a folded scalar, means the text
-/// with which it is read, with its bad escapes (sections 5.7, 6.5, 7.3, 8.1.1.2, 8.1.2 and 8.1.3). Each derivation of
-/// comments, of separation, of an alias and of node properties has the comments and names with which it is read (6.6 to
-/// 6.9, 7.1). Each derivation of a node that covers no forbidden line has the events, the comments, and the places of
-/// tags and of bad escapes with which it is read: that is what its tokens say (`specs/Readings.antt`; chapters 7 and 8).
-/// Each derivation of all of a text as a stream is read as the documents that its tokens say, with their directives and
-/// with all comments (6.8 and chapter 9). So all derivations of a text that has a reading say that reading.
+/// Does nothing: its contract gives the meanings of some of the standard's productions. A meaning is a function of the
+/// derivation, by the names of the productions (`specs/Contents.antt` and `specs/Tokens.antt`).
+///
+/// Each derivation of a plain, a single-quoted or a double-quoted scalar, and of the content of a literal or a folded
+/// scalar, means the text that is read, with its bad escapes (sections 5.7, 6.5, 7.3, 8.1.1.2, 8.1.2 and 8.1.3). For
+/// quoted scalars and the content of block scalars, this law is for derivations that cover no forbidden line. Each
+/// derivation of comments, of separation, of an alias and of node properties has the comments and names that are read
+/// (6.6 to 6.9, 7.1). Each derivation of a node that covers no forbidden line has the events, the comments, and the
+/// offsets of tags and of bad escapes that are read (`specs/Readings.antt`; chapters 7 and 8). Each derivation of a
+/// whole text as a stream is read as the documents that its tokens state, with their directives and with all comments
+/// (6.8 and chapter 9). So all derivations of a text that has a reading state that reading.
 pub fn meaning_laws()
     ensures plain { PlainContents }
     ensures single { SingleContents }
