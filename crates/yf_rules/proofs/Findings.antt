@@ -2,7 +2,7 @@
 pub mod CheckLemmas
 pub mod FoundLemmas
 pub mod FindingLemmas
--- in what formatting gives, rules find none of what the house style fixes
+-- in a formatted text no finding of the rules is fixable
 pub mod MendedFindings
 pub mod AllRulesLemmas
 -- in the reading of a text each set is exact, and the findings are one list

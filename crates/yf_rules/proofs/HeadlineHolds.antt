@@ -1,4 +1,4 @@
--- What is proved of a text and its formatting holds, by the laws that are given.
+-- The statements on a text and its formatting follow from the laws.
 use Rattle.std.proofs.Common.{◌≡◌, ◌^◌, ◌<◌, ◌≤◌, ℕ, List, [], ◌++◌, length, refl, subst, ⊎_elim}
 use Rattle.std.specs.Prelude.{Option, Result, Ok, Err, IfOk}
 use Rattle.std.proofs.lemmas.Bool.{cases_lt}
@@ -49,13 +49,13 @@ pub within_limit : {A : Type 0} (t : List ℕ) (r : Result A Fault) → (2 ^ 30 
 within_limit t (Ok a) long = ⊎_elim (λ (h : 2 ^ 30 < length t). let e = long h in absurd cc) (λ (h : length t ≤ 2 ^ 30). h) (cases_lt (2 ^ 30) (length t))
 within_limit t (Err fault) long = tt
 
--- what is given of a text that was read, where it is a formatting of it that is not too long
+-- the facts about a text that was read, if a formatting of it isn't too long
 pub rendered_holds : FormattingsHold → {B E : Type 0} (s : Style) (known : Option (List ℕ)) (t : List ℕ) → Gave known t → length t ≤ INPUT_LIMIT → IsUtf8 t → (bytes : B → List ℕ)
     → (given : Result B E) → IfOk given (λ f. FormatKept t s (bytes f)) → IfOk given (λ f. length (bytes f) ≤ LONGEST) → IfOk given (λ f. FormattingGiven s known (bytes f))
 rendered_holds laws s known t gave within utf8 bytes (Ok f) kept fits = record { text = t; gave = gave; headline = headline_holds laws within utf8 kept fits }
 rendered_holds laws s known t gave within utf8 bytes (Err e) kept fits = tt
 
--- What rules find in what formatting gives.
+-- The findings of rules in a formatted text.
 
 one_rule : RulesAreMended → {src : Table} {reading : Lists} {style : Style} {findings : List Finding} (rule : StyleRule) → IsFormatted src reading style → RuleFindings (definition_of rule) src reading style findings → NoneFixable findings
 one_rule mended {src} {reading} {style} {findings} rule w (at_places {places = places} number id fixable n i f (found_at {os = os} at are) ascend lines) =

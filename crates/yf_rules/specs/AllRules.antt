@@ -1,4 +1,4 @@
--- All rules of style, and when values are those rules.
+-- All rules of style, and which values are those rules.
 use Rattle.std.specs.Prelude.{◌≡◌, ℕ, List, [], ◌∷◌, ⊤, map}
 use Rattle.std.specs.List.{Contains}
 use Rattle.yf_forms.specs.declared.style.Style.{Style}
@@ -22,7 +22,8 @@ all_rules =
 abbrev pub RulesAreListed : Type 0
 RulesAreListed = (rule : StyleRule) → Contains all_rules rule
 
--- the definition says what that of the rule says: it has its number, its name and whether the house style fixes what it finds, and the same is at fault by it
+-- the definition is equivalent to that of the rule: it has its number, its name and whether the house style fixes its
+-- findings, and finds the same lists of offsets
 pub record IsDefinition (d : RuleDefinition) (rule : StyleRule) : Type 0 where
   pub number : d.number ≡ (definition_of rule).number
   pub id : d.id ≡ (definition_of rule).id
@@ -30,7 +31,7 @@ pub record IsDefinition (d : RuleDefinition) (rule : StyleRule) : Type 0 where
   pub no_more : (src : Table) (r : Lists) (s : Style) (offsets : List ℕ) → d.faults src r s offsets → (definition_of rule).faults src r s offsets
   pub no_fewer : (src : Table) (r : Lists) (s : Style) (offsets : List ℕ) → (definition_of rule).faults src r s offsets → d.faults src r s offsets
 
--- the values, by their definitions, are those rules, one by one
+-- the values have the definitions of those rules, one by one
 abbrev pub Are : {B : Type 0} → (B → RuleDefinition) → List B → List StyleRule → Type 0
 Are definition [] [] = ⊤
 Are definition (b ∷ bs) (rule ∷ rules) = IsDefinition (definition b) rule × Are definition bs rules
@@ -41,14 +42,14 @@ Are definition (b ∷ bs) [] = ⊥
 abbrev pub rule_names : List (List ℕ)
 rule_names = map (λ rule. (definition_of rule).id) all_rules
 
--- all rules but those of these names
+-- all rules except those with these names
 abbrev pub rules_without : List (List ℕ) → List StyleRule
 rules_without names = asked definition_of names all_rules
 
--- Where no rule is left out, all are asked.
+-- If no rule is left out, all are asked.
 abbrev pub AllAreAsked : Type 0
 AllAreAsked = rules_without [] ≡ all_rules
 
--- what a check by all rules but those of these names answers
+-- the result of a check by all rules except those with these names
 abbrev pub FoundWithout : List (List ℕ) → Style → Table → Lists → List Finding → Type 0
 FoundWithout names style src reading findings = CheckAnswer (λ rule found. RuleFindings (definition_of rule) src reading style found) (rules_without names) findings

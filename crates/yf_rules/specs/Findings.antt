@@ -1,4 +1,4 @@
--- What the rules find in a text, before it is known where the text comes from.
+-- The findings of the rules in a text, whatever its source.
 use Rattle.std.specs.Prelude.{◌≡◌, ℕ, List}
 use Rattle.std.specs.Str.{IsUtf8}
 use Rattle.yf_lines.specs.Lines.{AreLines, Table}
@@ -12,8 +12,9 @@ use Rattle.yf_rules.specs.NothingToFix.{NoneFixable}
 use Rattle.yf_rules.specs.declared.finding.Finding.{Finding}
 use Rattle.yf_stream.specs.StreamReader.{TheReading}
 
--- the lines are those of the text, and in a reading whose events are a well nested stream the rules find this; C tells what the rules
--- find. It is the reading of the text. Where the text is the formatting of some text in the style, the house style fixes none of it
+-- The lines are those of the text, and the rules find these findings in the text's reading, whose events are a well
+-- nested stream; C relates a reading to its findings. If the text is the formatting of some text in the style, none is
+-- fixable.
 pub record FoundIn (C : Table → Lists → List Finding → Type 0) (style : Style) (text : List ℕ) (findings : List Finding) : Type 0 where
   pub src : Table
   pub reading : Lists

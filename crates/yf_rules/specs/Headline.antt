@@ -1,4 +1,4 @@
--- What is proved of a text that is accepted and of its formatting.
+-- What is proved about an accepted text and its formatting.
 use Rattle.std.specs.Prelude.{◌≤◌, ℕ, List, length}
 use Rattle.std.specs.Str.{IsUtf8}
 use Rattle.yf_events.specs.Nested.{IsStream}
@@ -12,10 +12,11 @@ use Rattle.yf_forms.specs.declared.style.Style.{Style}
 use Rattle.yf_laws.specs.Mended.{IsMended}
 use Rattle.yf_rules.specs.declared.run.TheConstants.{INPUT_LIMIT}
 
--- A text t of at most 1 GiB, which the standard's productions derive as a stream that breaches nothing, is accepted with its only reading, whose
--- events are a well nested stream within the limit of open collections; u is its formatting, and nothing else is; u is such a stream too, and
--- accepted, with the same content and the same comments at the same places; formatting it again changes nothing; nothing in it is at fault that the
--- house style fixes; and it has at most 1 GiB, so that it can be read again.
+-- A text t of at most 1 GiB, which the standard's productions derive as a stream that breaks no rule, is accepted with
+-- its only reading, whose events are a well nested stream within the limit of open collections. u is its only
+-- formatting. u is such a stream too, and accepted, with the same content and the same comments at the same places.
+-- Formatting it again changes nothing, it has no fixable finding, and it has at most 1 GiB, so that it can be read
+-- again.
 pub record Headline (t : List ℕ) (s : Style) (u : List ℕ) : Type 0 where
   pub within : length t ≤ INPUT_LIMIT
   pub utf8 : IsUtf8 t

@@ -8,5 +8,5 @@ pub mod Quoted
 pub mod TreeSets
 pub mod UniqueFindings
 pub mod CheckAfterFormat
--- what the runs are given, and what they give
+-- the inputs and the results of the runs
 pub mod Runs

@@ -1,8 +1,8 @@
--- Findings of which the house style fixes none.
+-- Findings of which none is fixable.
 use Rattle.std.specs.Prelude.{◌≡◌, false, List}
 use Rattle.std.specs.List.{Contains}
 use Rattle.yf_rules.specs.declared.finding.Finding.{Finding}
 
--- none of these findings is one that the house style fixes
+-- none of these findings is fixable
 pub record NoneFixable (findings : List Finding) : Type 0 where
   pub none : (f : Finding) → Contains findings f → f.fixable ≡ false

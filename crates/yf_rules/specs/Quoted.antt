@@ -11,7 +11,7 @@ is_special before b =
     else if nat_eq before 194 then nat_lt b 160
     else false
 
--- such a byte is in a name, after another byte
+-- whether a name has such a byte, after another byte
 abbrev pub has_special : ℕ → List ℕ → Bool
 has_special before [] = false
 has_special before (b ∷ rest) = if is_special before b then true else has_special b rest

@@ -1,4 +1,4 @@
--- what the runs are given, and what they give
+-- the inputs and the results of the runs
 pub mod ByteStream
 pub mod Input
 pub mod Run

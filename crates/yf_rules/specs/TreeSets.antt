@@ -1,4 +1,4 @@
--- The sets of the rules that ask something of a reading: in the reading of a text they are exact.
+-- The sets of the rules that have a condition on the reading: for the reading of a text they are exact.
 use Rattle.std.specs.Prelude.{ℕ, List}
 use Rattle.std.specs.Str.{IsUtf8}
 use Rattle.yf_lines.specs.Lines.{Table}
@@ -25,8 +25,8 @@ pub record TreeSetsAreExact (src : Table) (reading : Lists) (style : Style) : Ty
   pub key_mark : (offsets : List ℕ) → key_mark_at src reading style offsets
       → Exactly (NeedlessMark src reading style trees) offsets
 
--- Each reading of a UTF-8 text has what the definitions of indentation, flow-layout, repeated-keys and key-mark ask of a
--- reading, so in it their sets are exact.
+-- Each reading of a UTF-8 text meets the conditions of the definitions of indentation, flow-layout, repeated-keys and
+-- key-mark, so in it their sets are exact.
 abbrev pub SetsOfTextsAreExact : Type 0
 SetsOfTextsAreExact = (src : Table) (reading : Lists) (style : Style) → IsUtf8 src.text → ReadingOf src.text reading
     → TreeSetsAreExact src reading style

@@ -12,8 +12,8 @@ use Rattle.yf_rules.specs.declared.finding.Finding.{Finding}
 abbrev pub finding_values : Finding → Position × ℕ × List ℕ × Bool
 finding_values f = (f.place, f.number, f.id.now, f.fixable)
 
--- A text has only one list of findings in a style, whichever rules are left out: any two lists of what the rules find in
--- it have equal values in the same order.
+-- A text has only one list of findings in a style, whichever rules are left out: any two lists of the rules' findings
+-- in it have equal values in the same order.
 abbrev pub FindingsAreOne : Type 0
 FindingsAreOne = (t : List ℕ) (style : Style) (without : List (List ℕ)) (x y : List Finding) → IsUtf8 t
     → FoundIn (FoundWithout without style) style t x → FoundIn (FoundWithout without style) style t y

@@ -1,4 +1,4 @@
-//! A run by the action that is asked of it, over any reader and any writer. `specs/Runs/Action` has the definitions.
+//! Runs an action over any reader and any writer. `specs/Runs/Action` has the definitions.
 ghost use Rattle.std.specs.Prelude.{◌≡◌, IfErr, IfOk, MatchResult, OnOk};
 ghost use Rattle.yf_rules.specs.Runs.Action.{ActionDone, ActionRefused};
 ghost use Rattle.yf_rules.specs.Runs.ByteStream.{stream_of};
@@ -14,7 +14,7 @@ use yf_lines::fault::Fault;
 use yf_lines::text::OwnedText;
 use yf_lines::watched::{Sink, Source};
 
-/// What is done with a stream.
+/// An action on a stream.
 #[derive(Clone, Copy)]
 pub enum Action<'a> {
     /// Prints the events (`run_events`).
@@ -23,14 +23,15 @@ pub enum Action<'a> {
     Check(&'a [OwnedText]),
     /// Prints the formatting (`run_fmt`).
     Format,
-    /// Prints where the text first differs from its formatting, if it does (`run_fmt_check`).
+    /// Prints the position at which the text first differs from its formatting, if it does (`run_fmt_check`).
     Compare,
     /// Prints the unified diff of the text and its formatting, both under this name (`run_fmt_diff`).
     Diff(&'a str),
 }
 
-/// Reads all bytes and does the action. Returns false if there is a finding, or if the text is not its own formatting.
-/// The bytes and the findings are kept for the caller. Only `Check` takes memory for the rules.
+/// Reads all bytes and runs the action. Returns false if it reports a finding, or if `Compare` or `Diff` finds that the
+/// text is not its own formatting. The bytes and the findings are kept for the caller. Only `Check` takes memory for
+/// the rules.
 ///
 /// # Errors
 ///

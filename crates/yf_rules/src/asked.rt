@@ -1,4 +1,4 @@
-//! The names of rules, by which they are left out of a check.
+//! The names of rules, with which a check leaves rules out.
 ghost use Rattle.std.specs.Prelude.{◌≡◌};
 ghost use Rattle.yf_rules.specs.AllRules.{rule_names};
 ghost use Rattle.yf_rules.specs.Asked.{is_among};
@@ -23,14 +23,14 @@ pub const RULE_NAMES: [&str; 14] = [
     "hidden-character",
 ];
 
-/// Whether a rule has this name.
+/// Returns whether a rule has this name.
 pub fn is_rule(name: &str) -> bool
     ensures { result ≡ is_among rule_names name.now }
 {
     RULE_NAMES.contains(&name)
 }
 
-/// Whether a name is one of these.
+/// Returns whether a name is one of these.
 pub fn is_among(names: &[OwnedText], id: &str) -> bool
     ensures { result ≡ is_among names.now id.now }
 {

@@ -15,7 +15,7 @@ use yf_lines::fault::Fault;
 use yf_lines::place::Position;
 use yf_lines::text::OwnedText;
 
-/// What a rule is known by.
+/// Returns the number and the name of a rule, and whether the house style fixes its findings.
 fn about_of(rule: &Box<dyn Rule>) -> About
     ensures number { result.number ≡ (definition rule.now).number }
     ensures id { result.id.now ≡ (definition rule.now).id }
@@ -42,7 +42,7 @@ fn positions_by(
     rule.find(alloc, src, reading, style)
 }
 
-/// The findings at these places of the rule that is known by that.
+/// Returns the findings of a rule at these positions.
 fn findings_at(alloc: Global, about: About, places: &[Position]) -> Result<Vec<Finding>, AllocError>
     ensures { IfOk result (λ findings. findings.items ≡ map (finding_at about.number about.id about.fixable) places.now) }
 {
@@ -77,14 +77,14 @@ fn findings_of(
     }
 }
 
-/// Whether a finding is before another one by line, column and number.
+/// Returns whether a finding is before another one by line, column and number.
 fn comes_before(a: &Finding, b: &Finding) -> bool
     ensures { result ≡ is_lt (key_cmp (sort_key a.now) (sort_key b.now)) }
 {
     (a.place.line, a.place.column, a.number) < (b.place.line, b.place.column, b.number)
 }
 
-/// Whether findings are sorted by line, column and number.
+/// Returns true only if findings are sorted by line, column and number.
 fn are_sorted(findings: &[Finding]) -> bool
     ensures { result ≡ true → IsSortedByKey sort_key key_cmp findings.now }
 {
@@ -96,8 +96,8 @@ fn are_sorted(findings: &[Finding]) -> bool
     true
 }
 
-/// Sorts findings by line, column and number; those that are alike in all three keep their order. It takes memory only where
-/// they are not sorted yet.
+/// Sorts findings by line, column and number. Findings that are equal in all three keep their order. It takes memory
+/// only if the findings aren't sorted yet.
 fn sort_findings(findings: &mut Vec<Finding>) -> Result<(), AllocError>
     ensures { IfOk result (λ _. SortedFrom findings.old.items findings.new.items) }
 {
@@ -110,7 +110,7 @@ fn sort_findings(findings: &mut Vec<Finding>) -> Result<(), AllocError>
     }
 }
 
-/// Adds the findings of one more rule after the others. Where there are none yet, they are not copied.
+/// Adds the findings of one more rule after the others. If there are no others, it copies nothing.
 fn add(all: &mut Vec<Finding>, mut findings: Vec<Finding>) -> Result<(), Fault>
     ensures refused { IfErr result (λ fault. fault ≡ Fault.Memory) }
     ensures added { IfOk result (λ _. all.new.items ≡ all.old.items ++ findings.items) }
@@ -126,12 +126,12 @@ fn add(all: &mut Vec<Finding>, mut findings: Vec<Finding>) -> Result<(), Fault>
 }
 
 /// Returns the findings of the rules in a text with this reading, without those of the rules whose names are in
-/// `without`. Each box reports a position once. The findings are sorted by line, column and number; those that are
-/// equal in all three keep the order of the boxes. A name that no rule has leaves none out.
+/// `without`. Each box reports a position once. The findings are sorted by line, column and number. Findings that are
+/// equal in all three keep the order of the boxes. A name that no rule has is ignored.
 ///
 /// # Errors
 ///
-/// `Fault::Memory` where a growth of memory was refused.
+/// `Fault::Memory` if a growth of memory is refused.
 pub fn check(
     alloc: Global,
     rules: &[Box<dyn Rule>],

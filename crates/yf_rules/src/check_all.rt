@@ -12,7 +12,7 @@ use crate::with_rules::{WithRules, with_all_rules};
 use yf_lines::fault::Fault;
 use yf_lines::text::OwnedText;
 
-// What a check looks at.
+// The input of a check.
 #[derive(Clone, Copy)]
 struct Checking<'a, 't> {
     alloc: Global,
@@ -42,8 +42,8 @@ impl WithRules for Checking<'_, '_> {
 }
 
 /// Returns the findings of all rules of style in a text with this reading, without those of the rules whose names are
-/// in `without`, sorted by line, column and number. A name that no rule has leaves none out. In a formatted text
-/// nothing is found that the house style fixes.
+/// in `without`, sorted by line, column and number. A name that no rule has is ignored. In a formatted text no finding
+/// is fixable.
 ///
 /// # Errors
 ///

@@ -1,4 +1,4 @@
-//! Whether a text is its own formatting, and where it first differs from it. `specs/Runs/Compare` has the definitions.
+//! Compares a text with its formatting. `specs/Runs/Compare` has the definitions.
 ghost use Rattle.std.specs.Prelude.{◌≡◌, ◌≢◌, ◌<◌, true, IfErr, IfOk, IfSome, OnOk, MatchOption, MatchResult};
 ghost use Rattle.yf_rules.specs.Runs.ByteStream.{WriteEnds, stream_of};
 ghost use Rattle.yf_rules.specs.Runs.Compare.{CompareRun, Difference, DifferAt, DiffersFirst, IsClean};
@@ -19,9 +19,9 @@ use yf_lines::source_text::Src;
 use yf_lines::watched::{Sink, Source};
 
 /// Reads all bytes, and returns whether the text is its own formatting. If it is, nothing is written, and a check with
-/// the same settings finds nothing that the house style fixes. If it isn't, one line is written, `L:C not formatted`:
-/// the position of the first character in which the text and its formatting differ, or of the end of the text if that
-/// is a prefix of its formatting.
+/// the same settings has no fixable finding. If it isn't, one line is written, `L:C not formatted`: the position of the
+/// first character in which the text and its formatting differ, or of the end of the text if the text is a prefix of
+/// its formatting.
 ///
 /// # Errors
 ///
@@ -52,7 +52,8 @@ pub fn run_fmt_check<R: Source, W: Sink>(
     }
 }
 
-// Reads all bytes, and returns the position where the text first differs from its formatting, or nothing if it doesn't.
+// Reads all bytes, and returns the position at which the text first differs from its formatting, or nothing if it
+// doesn't.
 //
 // Fails like `run_events`, except with the faults of a writer.
 fn read_difference<R: Source>(
@@ -77,8 +78,8 @@ fn read_difference<R: Source>(
     }
 }
 
-/// Returns the position of the first character in which a text differs from another one, or of its end if it is a prefix
-/// of that; nothing if they are the same. A table of lines is made only if they differ.
+/// Returns the position of the first character in which a text differs from another one, or of its end if it is a
+/// prefix of the other. Returns nothing if they are equal. A table of lines is made only if they differ.
 pub fn difference(alloc: Global, text: &str, other: &str) -> Result<Option<Position>, AllocError>
     ensures { IfOk result (λ place. MatchOption place (text.now ≡ other.now) (DiffersFirst text.now other.now)) }
 {
@@ -102,7 +103,7 @@ fn first_difference(text: &str, other: &str) -> usize
     at
 }
 
-// Returns the offset after the character that begins at an offset in two texts, if both have the same one there.
+// Returns the offset after the character at an offset in two texts, if both have that character there.
 fn after_same(text: &str, other: &str, at: usize) -> Option<usize>
     requires { SameUpTo text.now other.now at }
     ensures { MatchOption result (text.now ≢ other.now → DifferAt text.now other.now at)

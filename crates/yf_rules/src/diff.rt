@@ -1,4 +1,4 @@
-//! How a text differs from its formatting, as a unified diff. `specs/Runs/Diffed` has the definitions.
+//! The difference of a text and its formatting, as a unified diff. `specs/Runs/Diffed` has the definitions.
 ghost use Rattle.std.specs.Prelude.{◌≡◌, true, IfErr, IfOk, IfSome, MatchResult, OnOk};
 ghost use Rattle.yf_rules.specs.Runs.ByteStream.{stream_of};
 ghost use Rattle.yf_rules.specs.Runs.Compare.{IsClean};

@@ -1,8 +1,8 @@
-//! What is found by a rule.
+//! The findings of rules.
 
 use yf_lines::place::Position;
 
-/// A place at fault, with the rule that found it.
+/// A position at which a rule is broken, with that rule.
 #[derive(Clone, Copy)]
 pub struct Finding {
     pub place: Position,
@@ -10,6 +10,6 @@ pub struct Finding {
     pub number: usize,
     /// The rule's name.
     pub id: &'static str,
-    /// Whether the house style fixes it.
+    /// Whether the house style fixes the finding.
     pub fixable: bool,
 }

@@ -21,7 +21,7 @@ use yf_print::layout::layout_by;
 use yf_stream::stream::read_stream;
 
 // Returns a text in the house style, from its reading. The normal form has the collections of the reading in the same
-// forms, so it is printed by what was measured and decided of the reading.
+// forms, so it is printed from the measures and forms of the reading.
 fn formatted(
     alloc: Global,
     text: &str,
@@ -39,10 +39,10 @@ fn formatted(
     layout_by(alloc, text, &normal, measures, forms, style)
 }
 
-/// Returns a stream in the house style. `Headline` says all that is proved of the two texts: the result is the only
-/// formatting of the text; it is a stream of at most 1 GiB, with the same content and the same comments at the same
-/// places; formatting it again changes nothing; and a check finds nothing in it that the house style fixes. Types,
-/// spellings and blank lines are kept as `Keeps` says.
+/// Returns a stream in the house style. `Headline` states what is proved about the two texts. The result is the only
+/// formatting of the text. It is a stream of at most 1 GiB, with the same content and the same comments at the same
+/// places. Formatting it again changes nothing, and a check of it has no fixable finding. `Keeps` states how types,
+/// spellings and blank lines are kept.
 ///
 /// # Errors
 ///

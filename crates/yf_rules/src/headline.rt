@@ -1,4 +1,4 @@
-//! What holds of every text, for every style.
+//! The laws of every text and every style.
 ghost use Rattle.yf_rules.specs.AllRules.{AllAreAsked, RulesAreListed};
 ghost use Rattle.yf_laws.specs.Formattings.{RefusedTextsHaveNoReading, StandardTextsAreFormatted};
 ghost use Rattle.yf_laws.specs.Laws.{ReadingsAreOfTexts};
@@ -17,21 +17,21 @@ ghost use Rattle.yf_stream.specs.Laws.{ReadTextsHaveNoFault, ReadingsAreOne};
 use yf_laws::every_text::{rules_are_mended, settings_are_kept, texts_are_read_and_formatted};
 use yf_standard::laws::meaning_laws;
 
-/// The laws of reading and formatting, for every text and every style. The function does nothing; its contract is what
-/// it is for.
+/// The laws of reading and formatting, for every text and every style. The function does nothing; its contract is the
+/// laws.
 ///
-/// A text has a reading exactly if the standard's productions (YAML 1.2.2, chapters 5 to 9), with the reading rules,
-/// derive all of it as `l-yaml-stream` with at most `DEPTH` collections open at once, and its meaning, which is unique,
-/// breaks none of the further rules (sections 5.7, 6.8, 6.9 and 7.1). Without the reading rules they derive it too. A
-/// refusal says which of the two is missing. A text has only one reading. If it has one, `read_stream` refuses it only
-/// for lack of memory; if `read_stream` refuses it for another reason, it has none.
+/// A text has a reading if and only if the standard's productions (YAML 1.2.2, chapters 5 to 9), with the reading
+/// rules, derive all of it as `l-yaml-stream` with at most `DEPTH` collections open at once, and its meaning, which is
+/// unique, breaks none of the standard's other rules (sections 5.7, 6.8, 6.9 and 7.1). Without the reading rules the
+/// productions derive it too. A fault says which of these conditions fails. A text has at most one reading. If it has
+/// one, `read_stream` fails only for lack of memory. If `read_stream` fails for another reason, the text has none.
 ///
-/// The tokens of each derivation of a text say its documents, and so the reading: directives, events with their anchors
-/// and tags, and comments (`streams`, `readings`). So all derivations say one reading.
+/// The tokens of each derivation of a text state its documents, and so the reading: directives, events with their
+/// anchors and tags, and comments (`streams`, `readings`). So all derivations state one reading.
 ///
-/// Each such text has a formatting in each style, which is such a text too, keeps content and comments, is its own
-/// formatting, and has no fault that `fmt` fixes. It begins its documents as `document_start` says, spells quoted
-/// scalars as `invisible` says, and keeps comments in their blocks if `comments` says so.
+/// Each such text has a formatting in each style. The formatting is such a text too, keeps content and comments, is its
+/// own formatting, and has no fixable finding. It begins its documents as `document_start` says, spells quoted scalars
+/// as `invisible` says, and keeps comments in their blocks if `comments` says so.
 ///
 /// Each reading of a text has trees, its comments and its offsets are in the order of the text, and its scalars can be
 /// spelled in their styles. In such a reading each rule finds exactly its set, and a check has only one list of

@@ -4,11 +4,11 @@ ghost use Rattle.yf_rules.specs.Quoted.{all_escaped, by_number, escaped, has_spe
 
 use std::alloc::{AllocError, Global};
 
-/// The byte before the number of a control character that is two bytes.
+/// The first byte of a control character of two bytes.
 const LEAD: u8 = 0xC2;
 
-/// Returns a name as Git writes it in a diff. A name with a control character, a quote or a backslash is in double quotes, with
-/// escapes as in C; any other is as it was. `git apply` and GNU `patch` read both.
+/// Returns a name as Git writes it in a diff. A name with a control character, a quote or a backslash is in double
+/// quotes, with escapes as in C. Any other name is unchanged. `git apply` and GNU `patch` read both.
 pub fn quoted(alloc: Global, name: &str) -> Result<Vec<u8>, AllocError>
     ensures { IfOk result (λ text. text.items ≡ quoted name.now) }
 {
@@ -94,7 +94,7 @@ fn push_byte(text: &mut Vec<u8>, byte: u8) -> Result<(), AllocError>
     text.extend_from_slice(&[byte])
 }
 
-// Adds a byte by its number.
+// Adds a byte as a backslash and three octal digits.
 fn push_number(text: &mut Vec<u8>, byte: u8) -> Result<(), AllocError>
     ensures { IfOk result (λ _. text.new.items ≡ text.old.items ++ by_number byte) }
 {

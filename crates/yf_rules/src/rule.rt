@@ -1,4 +1,4 @@
-//! What a rule is.
+//! Rules of style.
 ghost use Rattle.std.specs.Prelude.{◌≡◌, ℕ, List, true, false, IfErr, IfOk};
 ghost use Rattle.yf_rule_sets.specs.RuleSets.Places.{Ascending, PlacesOf};
 
@@ -7,19 +7,19 @@ use yf_lines::place::Position;
 pub use yf_rule_sets::facts::found::{AllocError, FoundOffsets, Global, Reading, Src, Style};
 use yf_rule_sets::facts::places::known_positions;
 
-/// What a rule is known by.
+/// The number and the name of a rule, and whether the house style fixes its findings.
 #[derive(Clone, Copy)]
 pub struct About {
-    /// Its number, by which findings at one place are sorted.
+    /// The rule's number, which orders findings at one position.
     pub number: usize,
-    /// Its name in what is printed.
+    /// The rule's name, as it is printed.
     pub id: &'static str,
-    /// Whether the house style fixes what it finds.
+    /// Whether the house style fixes the rule's findings.
     pub fixable: bool,
 }
 
 impl About {
-    /// Of a rule whose findings the house style fixes.
+    /// Describes a rule whose findings the house style fixes.
     pub fn fixable(number: usize, id: &'static str) -> About
         ensures number { result.number ≡ number }
         ensures id { result.id.now ≡ id.now }
@@ -32,7 +32,7 @@ impl About {
         }
     }
 
-    /// Of a rule whose findings it leaves.
+    /// Describes a rule whose findings the house style doesn't fix.
     pub fn unfixable(number: usize, id: &'static str) -> About
         ensures number { result.number ≡ number }
         ensures id { result.id.now ≡ id.now }
@@ -44,7 +44,8 @@ impl About {
     }
 }
 
-/// A rule of style. What it is says its definition; those of the house style are in `specs/Rules.antt` of yf_rule_sets.
+/// A rule of style. Its definition states what it finds; the definitions of the house style's rules are in
+/// `specs/Rules.antt` of yf_rule_sets.
 pub trait Rule: Drop {
     ghost use Rattle.std.specs.Prelude.{[]};
     ghost use Rattle.yf_rule_sets.specs.Definition.{RuleDefinition};
@@ -53,44 +54,46 @@ pub trait Rule: Drop {
 
     ghost definition: { Self → RuleDefinition };
 
-    /// What it is known by.
+    /// Returns the number and the name of the rule, and whether the house style fixes its findings.
     fn about(&self) -> About
         ensures number { result.number ≡ (definition self.now).number }
         ensures id { result.id.now ≡ (definition self.now).id }
         ensures fixable { result.fixable ≡ (definition self.now).fixable };
 
-    /// Its number, by which findings at one place are sorted.
+    /// Returns the rule's number, which orders findings at one position.
     fn number(&self) -> usize
         ensures { result ≡ (definition self.now).number }
     {
         self.about().number
     }
 
-    /// Its name in what is printed.
+    /// Returns the rule's name, as it is printed.
     fn id(&self) -> &'static str
         ensures { result.now ≡ (definition self.now).id }
     {
         self.about().id
     }
 
-    /// Whether the house style fixes what it finds.
+    /// Returns whether the house style fixes the rule's findings.
     fn fixable(&self) -> bool
         ensures { result ≡ (definition self.now).fixable }
     {
         self.about().fixable
     }
 
-    /// The byte offsets at fault in a text with this reading: none in what formatting gives, where the house style fixes what the rule finds.
+    /// Returns the byte offsets at which the rule is broken in a text with this reading. In a formatted text they are
+    /// none, if the house style fixes the rule's findings.
     fn offsets(&self, alloc: Global, src: &Src, reading: &Reading, style: &Style) -> FoundOffsets
         ensures faults { IfOk result (λ offsets. (definition self.now).faults src.now reading.now style.now offsets.items) }
         ensures mends { IfOk result (λ offsets. (definition self.now).fixable ≡ true
             → IsFormatted src.now reading.now style.now → offsets.items ≡ []) };
 
-    /// The places at fault in a text with this reading, in ascending order by line and column, each once.
+    /// Returns the positions at which the rule is broken in a text with this reading, sorted by line and column, each
+    /// once.
     ///
     /// # Errors
     ///
-    /// `Fault::Memory` where a growth of memory was refused.
+    /// `Fault::Memory` if a growth of memory is refused.
     fn find(
         &self,
         alloc: Global,
@@ -112,7 +115,7 @@ pub trait Rule: Drop {
     }
 }
 
-/// Sorts places by line and column, and leaves each once.
+/// Sorts positions by line and column, and removes duplicates.
 fn ascend(places: &mut Vec<Position>)
     ensures ascending { Ascending places.new.items }
     ensures places { (t os : List ℕ) → PlacesOf t os places.old.items → PlacesOf t os places.new.items }
@@ -121,7 +124,8 @@ fn ascend(places: &mut Vec<Position>)
     places.dedup();
 }
 
-/// The places of the byte offsets that a rule found, in ascending order and each once, unless memory was refused.
+/// Returns the positions of the byte offsets that a rule found, sorted by line and column, each once. Fails with
+/// `Fault::Memory` if a growth of memory is refused.
 fn positions_of(alloc: Global, src: &Src, offsets: &[usize]) -> Result<Vec<Position>, Fault>
     ensures refused { IfErr result (λ fault. fault ≡ Fault.Memory) }
     ensures ascending { IfOk result (λ places. Ascending places.items) }

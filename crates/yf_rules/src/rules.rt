@@ -1,4 +1,4 @@
-//! The rules of the house style as rules: by what each is known.
+//! The rules of the house style as values of `Rule`.
 ghost use Rattle.yf_rule_sets.specs.RuleOf.{definition_of};
 
 use crate::rule::{About, FoundOffsets, Global, Reading, Rule, Src, Style};

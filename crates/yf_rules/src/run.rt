@@ -24,7 +24,7 @@ use yf_lines::text::OwnedText;
 use yf_lines::watched::{Sink, Source};
 use yf_stream::stream::read_stream;
 
-/// How many bytes a run reads at most: 1 GiB.
+/// The limit of bytes that a run reads: 1 GiB.
 pub const INPUT_LIMIT: usize = 1_073_741_824;
 
 /// Reads all bytes, and writes the events of the stream, one line for each. Nothing is written before the whole stream
@@ -32,11 +32,11 @@ pub const INPUT_LIMIT: usize = 1_073_741_824;
 ///
 /// # Errors
 ///
-/// - `ReadFailed` if a read fails, or if there are more than `INPUT_LIMIT` bytes.
-/// - `NotUtf8` if the bytes are no text.
-/// - Those of `read_stream` if the text is refused.
+/// - `ReadFailed` if a read fails, or if the reader has more than `INPUT_LIMIT` bytes.
+/// - `NotUtf8` if the bytes are not UTF-8.
+/// - The faults of `read_stream` if it refuses the text.
 /// - `WriteFailed` if a write fails or takes nothing. A prefix of the lines has then been written; after any other
-///   fault, nothing.
+/// fault, nothing.
 /// - `Memory` if a growth of memory is refused.
 pub fn run_events<R: Source, W: Sink>(
     alloc: Global,
@@ -61,8 +61,8 @@ pub fn run_events<R: Source, W: Sink>(
 
 /// Reads all bytes, and writes a line for each finding of all rules of style, except those whose names are in
 /// `without`, sorted by position: line and column, the rule's name, and ` (fixable)` if the house style fixes it.
-/// Returns whether there is a finding, and keeps the findings. In a text that formatting gives with the same settings,
-/// none of them is one that the house style fixes. Memory for the rules is taken only after a text was read.
+/// Returns whether there is a finding, and keeps the findings. In a text that is a formatting with the same settings,
+/// no finding is fixable. Memory for the rules is taken only after the text is read.
 ///
 /// # Errors
 ///
@@ -92,7 +92,7 @@ pub fn run_check_all<R: Source, W: Sink>(
     print_findings(findings, found, writer)
 }
 
-// Returns what all rules of style find in a text, except those whose names are in `without`.
+// Returns the findings of all rules of style in a text, except those whose names are in `without`.
 fn all_findings_in(
     alloc: Global,
     without: &[OwnedText],
@@ -159,7 +159,7 @@ fn write_finding<W: Sink>(finding: &Finding, writer: &mut W) -> Result<(), Fault
     write_texts(writer, &[line, ":", column, " ", finding.id, fixable, "\n"])
 }
 
-/// Reads all bytes, and writes the text in the house style: exactly what `format` returns for it.
+/// Reads all bytes, and writes the text in the house style: the result of `format`.
 ///
 /// # Errors
 ///

@@ -11,21 +11,21 @@ pub trait WithRules {
     /// What the work returns.
     type Value: Drop;
 
-    /// What holds of the work before, the work after, and the returned value.
+    /// The relation of the work before, the work after, and the returned value.
     ghost Gives: { Self → Self → Self.Value → Type 0 } = { λ _ _ _. Unit {0} };
 
-    /// Does the work with these rules, which are all of them, in the order of their numbers.
+    /// Does the work with all rules, in the order of their numbers.
     fn with_rules(&mut self, rules: &[Box<dyn Rule>]) -> Self::Value
         requires { Are (λ rule. definition rule) rules.now all_rules }
         ensures { Gives self.old self.new result };
 }
 
-/// Boxes all rules of style, and does the work with them. A new rule is a new line of this list, and of `all_rules` in
+/// Boxes all rules of style, and does the work with them. For a new rule, add a line to this list and to `all_rules` in
 /// the specs.
 ///
 /// # Errors
 ///
-/// `AllocError` if memory for the rules is refused. Nothing of the work is then done.
+/// `AllocError` if memory for the rules is refused. None of the work is then done.
 pub fn with_all_rules<W: WithRules>(alloc: Global, work: &mut W) -> Result<W::Value, AllocError>
     ensures given { IfOk result (λ answer. W.Gives work.old work.new answer) }
     ensures kept { OnErr result (work.new ≡ work.old) }

@@ -1,4 +1,4 @@
--- What values find that are the rules, the rules find.
+-- Values that are the rules find what the rules find.
 use Rattle.std.proofs.Common.{◌≡◌, ℕ, Bool, true, false, Option, List, [], ◌∷◌, ◌++◌, refl, ap, sym, subst, ◌∙◌, arith}
 use Rattle.std.specs.Prelude.{cond, not}
 use Rattle.yf_forms.specs.declared.style.Style.{Style}
@@ -35,7 +35,7 @@ rules_are_listed RepeatedKeys = (11, omega arith, refl)
 rules_are_listed KeyMark = (12, omega arith, refl)
 rules_are_listed HiddenCharacter = (13, omega arith, refl)
 
--- a definition that is a rule's own is that of the rule
+-- the definition of a rule is a definition for it
 pub is_definition : (d : RuleDefinition) (rule : StyleRule) → d ≡ definition_of rule → IsDefinition d rule
 is_definition d rule same = record {
   number = ap (λ (e : RuleDefinition). e.number) same;
@@ -50,7 +50,7 @@ module _ (src : Table) (reading : Lists) (style : Style) where
       → FoundAt src.text ((definition_of rule).faults src reading style) ps
   places_same is (found_at {os = os} f p) = found_at (is.no_more src reading style os f) p
 
-  -- what is found by a definition, its rule finds
+  -- the rule finds what its definition finds
   rule_finds : {d : RuleDefinition} {rule : StyleRule} {found : List Finding} → IsDefinition d rule → RuleFindings d src reading style found
       → RuleFindings (definition_of rule) src reading style found
   rule_finds is (at_places number id fixable n i f places ascend are) =
@@ -74,7 +74,7 @@ last_of definition (c ∷ bs) b (r ∷ rules) are =
     let rest = last_of definition bs b rules are.1 in
     record { before = r ∷ rest.before; last = rest.last; split = ap (λ (l : List StyleRule). r ∷ l) rest.split; are = (are.0, rest.are); is = rest.is }
 
--- where values are rules, those that are asked are the rules that are asked
+-- if values are rules, those that are asked are the rules that are asked
 module _ {B : Type 0} (definition : B → RuleDefinition) (without : List (List ℕ)) where
   one_more_are : (b : B) (bs : List B) (rule : StyleRule) (rules : List StyleRule) (is_asked : Bool) → IsDefinition (definition b) rule → Are definition bs rules
       → Are definition (cond is_asked (b ∷ bs) bs) (cond is_asked (rule ∷ rules) rules)

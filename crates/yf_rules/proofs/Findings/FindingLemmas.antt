@@ -1,4 +1,4 @@
--- The lines of the findings that are left are those of the next one and of the ones after it.
+-- The lines of the remaining findings are those of the next one and of the ones after it.
 use Rattle.std.proofs.Common.{◌≡◌, ℕ, ◌+◌, ◌<◌, ◌≤◌, List, ◌∷◌, ◌++◌, Bool, Option, Result, Ok, Err, length, drop, get_or, ap, sym, subst, add-one, drop-cons}
 use Rattle.std.specs.Prelude.{IfErr, IfOk}
 use Rattle.std.specs.Str.{IsUtf8}
@@ -54,7 +54,7 @@ found_text C style src reading items (Ok v) same lines nested reads checked mend
     }
 found_text C style src reading items (Err e) same lines nested reads checked mended = tt
 
--- what the rules find in the text that was read
+-- the findings of the rules in the text that was read
 pub found_in : {C : CheckClaim} {style : Style} {known : Option (List ℕ)} {text : List ℕ} {findings : List Finding}
     → FoundIn C style text findings → GivenText known text → CheckResult C style known findings
 found_in {style = style} {known = known} found given = record {
@@ -70,7 +70,7 @@ found_in {style = style} {known = known} found given = record {
   mends = λ source u formats. found.mends source u (subst (λ t. IsFormatting source style t) found.of_text formats);
 }
 
--- the lines of what was found were written, or the writer failed
+-- the lines of the findings were written, or the writer failed
 pub lines_written : {C : CheckClaim} {style : Style} (input before after : ByteStream) {findings : List Finding}
     (outcome : Result Bool Fault) → CheckResult C style input.contents findings
     → IfOk outcome (λ any. Writes before after (findings_text findings)) → IfOk outcome (λ any. any ≡ has_any findings)
@@ -89,7 +89,7 @@ lines_broke C style input before after {failed} {findings} (Err fault) found wor
     subst (RefusedCheck C style input (left_of input failed) before after) (sym broke.0)
     (record { findings = findings; found = found; broke = broke.1 }, works)
 
--- the same findings have the same lines
+-- equal findings have equal lines
 pub wrote_same : (before after : ByteStream) {x y : List Finding} → x ≡ y → Writes before after (findings_text x)
     → Writes before after (findings_text y)
 wrote_same before after same wrote = subst (λ z. Writes before after (findings_text z)) same wrote
@@ -97,6 +97,6 @@ wrote_same before after same wrote = subst (λ z. Writes before after (findings_
 pub any_same : {x y : List Finding} → x ≡ y → has_any x ≡ has_any y
 any_same e = ap has_any e
 
--- a reading that is the same is as well nested
+-- an equal reading is well nested too
 pub nested_same : {x y : Lists} → x ≡ y → IsStream DEPTH (events_of x) → IsStream DEPTH (events_of y)
 nested_same e s = subst (λ r. IsStream DEPTH (events_of r)) e s

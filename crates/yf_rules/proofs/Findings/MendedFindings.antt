@@ -1,4 +1,4 @@
--- Where a rule finds nothing that the house style fixes, none of its findings is one that it fixes.
+-- If a rule finds nothing that the house style fixes, none of its findings is fixable.
 use Rattle.std.proofs.Common.{◌≡◌, ℕ, Bool, true, false, List, [], ◌∷◌, ◌++◌, map, Ok, Err, Result, refl, sym, ap, ◌∙◌, subst, ⊎_elim}
 use Rattle.std.specs.Prelude.{IfOk}
 use Rattle.std.specs.Borrow.{Bor}
@@ -20,7 +20,7 @@ use Rattle.yf_rule_sets.proofs.RuleSets.KeySetLemmas.{head_or_later, is_head, no
 
 -- Offsets.
 
--- what the offsets are of which a rule tells that they are at fault
+-- the condition on the offsets that a rule finds
 pub none_at_fault : {V E : Type 0} (rule : RuleDefinition) (src : Table) (r : Lists) (s : Style) (items : V → List ℕ) (o : Result V E) → FormatsAreMended rule → IfOk o (λ v. rule.faults src r s (items v))
     → IfOk o (λ v. rule.fixable ≡ true → IsFormatted src r s → items v ≡ [])
 none_at_fault rule src r s items (Ok v) mended a = λ fixable w. mended fixable src r s w (items v) a
@@ -52,7 +52,7 @@ left_alone number id fixable (p ∷ ps) e = record {
       (head_or_later (finding_at number id fixable p) (map (finding_at number id fixable) ps) f c);
 }
 
--- those of one rule, where W holds
+-- the findings of one rule, if W holds
 pub rule_silent : {W : Type 0} (number : ℕ) (id : Bor (List ℕ)) (fixable is_fixable : Bool) (xs places : List Position) (findings : List Finding) → fixable ≡ is_fixable → xs ≡ places
     → (is_fixable ≡ true → W → places ≡ []) → findings ≡ map (finding_at number id fixable) xs → W → NoneFixable findings
 rule_silent number id fixable is_fixable xs places findings same are f e w =

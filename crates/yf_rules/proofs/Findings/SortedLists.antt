@@ -1,5 +1,5 @@
--- A strictly sorted list is determined by its members. A stable sort is determined by the list that is sorted, up to a
--- value of each element by which its key goes.
+-- The members of a strictly sorted list determine it. The list that is sorted determines a stable sort, except for a
+-- value of each element on which its key depends.
 use Rattle.std.proofs.Common.{◌≡◌, ◌&&◌, suc, ◌+◌, Bool, true, false, List, [], ◌∷◌, get_or, map, refl, sym, subst, ap, ◌∙◌, ⊎_elim, arith, true≢false}
 use Rattle.std.specs.Prelude.{cond, filter, not}
 use Rattle.std.specs.Cmp.{IsStrictWeakOrder, IsTotalOrder}
@@ -16,7 +16,7 @@ use Rattle.std.proofs.lemmas.Map.Keys.{sorted_tail}
 use Rattle.std.proofs.lemmas.Map.Views.{All-after_first}
 use Rattle.yf_rule_sets.proofs.RuleSets.KeySetLemmas.{head_or_later, is_head, is_later, nothing_in}
 
--- Strictly sorted lists with the same members are one list.
+-- Strictly sorted lists with the same members are equal.
 module _ {K : Type 0} {R : K → K → Ordering} (o : IsTotalOrder R) where
   not_before_itself : (x : K) → R x x ≡ Less → ⊥
   not_before_itself x e = let t = tied_itself o x in cc
@@ -83,7 +83,7 @@ module _ {X T : Type 0} (value : X → T) where
       (w.0, is_later x xs w.0 w.1, w.2))
       (cases_Bool (p x))
 
-  -- without their first elements, both of which the filter leaves or neither
+  -- without their first elements, if the filter removes both or neither
   pub rest_values : (p : X → Bool) (x : X) (xs : List X) (y : X) (ys : List X) → p y ≡ p x
       → map value (filter p (y ∷ ys)) ≡ map value (filter p (x ∷ xs)) → map value (filter p ys) ≡ map value (filter p xs)
   rest_values p x xs y ys same e = go (p y) (p x) same e where

@@ -53,7 +53,7 @@ listed_same : {xs : List ℕ} (os qs : List ℕ) → os ≡ xs → qs ≡ xs →
 listed_same os qs a b n c = subst (λ (z : List ℕ). Contains z n) (a ∙ sym b) c
 
 module _ (src : Table) (reading : Lists) (style : Style) (w : IsTextual reading) where
-  -- two lists of what is at fault by a rule have the same members
+  -- two lists of offsets found by a rule have the same members
   same_faults : (rule : StyleRule) (os qs : List ℕ) → (definition_of rule).faults src reading style os
       → (definition_of rule).faults src reading style qs → (n : ℕ) → Contains os n → Contains qs n
   same_faults TrailingBlanks os qs a b = exact_same a b
@@ -119,7 +119,7 @@ same_ends (a ∷ xs) (b ∷ ys) x y e =
     let same : xs ≡ ys = ends.0 in
     ((cc), ends.1)
 
--- those of several rules, one after the other, where those of each have the same values
+-- the findings of several rules, one rule after the other, if those of each have equal values
 module _ {B : Type 0} (R : B → List Finding → Type 0)
     (single : (b : B) (x y : List Finding) → R b x → R b y → map finding_values y ≡ map finding_values x) where
   order_values : (bs cs : List B) (x y : List Finding) → bs ≡ cs → InOrder R bs x → InOrder R cs y

@@ -1,4 +1,4 @@
--- How far two texts are the same, and what the run that compares a text with its formatting has read and written.
+-- How far two texts are equal, and what the run that compares a text with its formatting has read and written.
 use Rattle.std.proofs.Common.{◌≡◌, ◌≢◌, ◌∙◌, ℕ, [], true, ◌<◌, ◌≤◌, List, length, take, refl, ap, sym, subst, ⊎_elim, arith}
 use Rattle.std.specs.Prelude.{Option, Some, None, IfSome, MatchOption}
 use Rattle.std.proofs.Math.Seq.{take-length}
@@ -20,11 +20,11 @@ use Rattle.yf_rules.specs.Runs.Compare.DiffersFirst.{differs_first}
 use Rattle.yf_rules.specs.Runs.Run.{FormattingGiven}
 use Rattle.yf_rules.proofs.Runs.GivenTexts.{GivenText}
 
--- texts that both end where they are the same so far are the same
+-- texts that are equal so far and both end there are equal
 both_end : (t u : List ℕ) (at : ℕ) → SameUpTo t u at → at ≡ length t → at ≡ length u → t ≡ u
 both_end t u at s e f = sym (subst (λ k. take k t ≡ t) (sym e) (take-length t)) ∙ (s.same ∙ subst (λ k. take k u ≡ u) (sym f) (take-length u))
 
--- where the first text ends, the other one goes on, or they are the same
+-- at the end of the first text, the other one continues, or they are equal
 pub ends_before : (t u : List ℕ) (at : ℕ) → IsUtf8 u → SameUpTo t u at → code t at ≡ no_char → at ≡ length t → t ≢ u → DifferAt t u at
 ends_before t u at utf8 s none e other = record {
   before = s;
@@ -38,12 +38,11 @@ ends_before t u at utf8 s none e other = record {
 pub at_start : (t u : List ℕ) → IsUtf8 t → IsUtf8 u → SameUpTo t u 0
 at_start t u utf8 other = record { boundary = IsCharBoundary-start t utf8; other_boundary = IsCharBoundary-start u other; same = refl }
 
--- texts that differ somewhere are not the same
+-- texts that differ at an offset are not equal
 are_apart : {t u : List ℕ} {place : Position} → DiffersFirst t u place → t ≢ u
 are_apart (differs_first {at = offset} d p) same = d.differ (ap (λ v. code v offset) same)
 
--- a text that is its formatting is one that formatting gives of it, with all that is said of that; and one that is not
--- is not
+-- a text that equals its formatting is its own formatting, with all that is proved about it; and one that doesn't isn't
 module _ {t u : List ℕ} {style : Style} (kept : FormatKept t style u) where
   pub own_formatting : t ≡ u → FormatKept t style t
   own_formatting same = subst (λ v. FormatKept t style v) (sym same) kept
@@ -55,13 +54,13 @@ module _ {t u : List ℕ} {style : Style} (kept : FormatKept t style u) where
   exactly None same = own_formatting same
   exactly (Some place) differs = other_formatting (are_apart differs)
 
--- where a text is its formatting, nothing in it is at fault that the house style fixes
+-- a text that is its own formatting has no fixable finding
 mended_where : (t u : List ℕ) (style : Style) (place : Option Position) → MatchOption place (t ≡ u) (DiffersFirst t u) → IsMended u style
     → MatchOption place (IsMended t style) (λ _. Unit {0})
 mended_where t u style None same m = subst (λ v. IsMended v style) (sym same) m
 mended_where t u style (Some place) differs m = tt
 
--- what is found of a text that was read
+-- the difference of a text that was read
 pub difference_of : {style : Style} {known : Option (List ℕ)} {t u : List ℕ} → GivenText known t → Headline t style u → (place : Option Position)
     → MatchOption place (t ≡ u) (DiffersFirst t u) → Difference style known place
 difference_of {style} {t = t} {u = u} given headline place first = record {
@@ -72,7 +71,7 @@ difference_of {style} {t = t} {u = u} given headline place first = record {
   mended = mended_where t u style place first headline.mended;
 }
 
--- what formatting gives has nothing that the house style fixes
+-- a formatted text has no fixable finding
 pub own_is_clean : {style : Style} {known : Option (List ℕ)} {formatted : List ℕ} (rendered : FormattingGiven style known formatted) → rendered.text ≡ formatted
     → IfSome known (IsClean style)
 own_is_clean {style} {known = None} rendered same = tt

@@ -1,4 +1,4 @@
--- What the run that tells the diff of a text and its formatting has read and written.
+-- What the run that prints the diff of a text and its formatting has read and written.
 use Rattle.std.proofs.Common.{◌≡◌, ◌∙◌, ℕ, true, List, [], ap, sym, subst}
 use Rattle.std.specs.Prelude.{Option, IfSome}
 use Rattle.yf_diff.specs.Diff.{AddsDiff}

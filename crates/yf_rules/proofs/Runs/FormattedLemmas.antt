@@ -1,4 +1,4 @@
--- What the run that formats has written, told by what was formatted and how its writing ended, and why nothing could be
+-- What the run that formats has written, from the formatted text and the end of its writing, and why nothing could be
 -- formatted.
 use Rattle.std.proofs.Common.{◌≡◌, ℕ, List, Bool, subst, sym}
 use Rattle.std.specs.Prelude.{Result, Ok, Err, IfErr, OnOk}

@@ -15,7 +15,7 @@ pub record GivenText (known : Option (List ℕ)) (t : List ℕ) : Type 0 where
   pub within : length t ≤ INPUT_LIMIT
   pub utf8 : IsUtf8 t
 
--- It is what the bytes are that were read.
+-- It is the text of the bytes that were read.
 pub given_text : {known : Option (List ℕ)} {bytes slice t : List ℕ} → Gave known bytes → length bytes ≤ INPUT_LIMIT → slice ≡ bytes → IsUtf8 slice
     → t ≡ slice → GivenText known t
 given_text {known} {bytes} {slice} {t} gave within same utf8 is = record {
@@ -24,11 +24,11 @@ given_text {known} {bytes} {slice} {t} gave within same utf8 is = record {
   utf8 = subst (λ (u : List ℕ). IsUtf8 u) (sym is) utf8;
 }
 
--- a reader after it was read; what it has left is of no account
+-- a reader after it was read; its remaining bytes don't matter
 abbrev pub left_of : ByteStream → Bool → ByteStream
 left_of input failed = record { contents = input.contents; failed = failed }
 
--- Bytes that are no text are refused.
+-- Bytes that are not UTF-8 are refused.
 module _ (input : ByteStream) {failed : Bool} {bytes slice : List ℕ} (gave : Gave input.contents bytes) (within : length bytes ≤ INPUT_LIMIT)
     (same : slice ≡ bytes) (works : failed ≡ input.failed) where
   pub no_text : (fault : Fault) → IsNoText slice fault → RefusedText input (left_of input failed) fault

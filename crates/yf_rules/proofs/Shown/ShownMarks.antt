@@ -1,4 +1,4 @@
--- A `?` that begins a plain scalar is no mark of a key.
+-- A `?` that begins a plain scalar is not a mark of a key.
 use Rattle.std.proofs.Common.{◌≡◌, ℕ, ◌+◌, List, codes, refl, sym, ◌∙◌}
 use Rattle.std.proofs.lemmas.Bool.{true≢false}
 use Rattle.std.specs.Str.{chars}

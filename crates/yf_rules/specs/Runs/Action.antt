@@ -1,5 +1,5 @@
--- What a run does, by the action that is asked of it.
--- (input, left: the reader before and after the run; before, after: the writer; good: what the run returns)
+-- What a run does for its action.
+-- (input, left: the reader before and after the run; before, after: the writer; good: the result of the run)
 use Rattle.std.specs.Prelude.{◌≡◌, Bool, true, not, IfSome}
 use Rattle.yf_forms.specs.declared.style.Style.{Style}
 use Rattle.yf_lines.specs.declared.fault.Fault.{Fault}
@@ -12,7 +12,8 @@ use Rattle.yf_rules.specs.Runs.Diffed.{BrokeOffDiff, DiffRun}
 use Rattle.yf_rules.specs.Runs.Run.{BrokeOff, BrokeOffLines, BrokeOffText, FindingsWritten, FormattingWritten}
 use Rattle.yf_rules.specs.Runs.Run.{NotationWritten, RefusedRun}
 
--- The action was done. The result is false if there is a finding, or if the text is not its own formatting.
+-- The action was done. The result is false if `Check` has a finding, or if the text of `Compare` or `Diff` is not its
+-- own formatting.
 abbrev pub ActionDone : Action → Style → ByteStream → ByteStream → ByteStream → Bool → Type 0
 ActionDone Events style input before after good = NotationWritten input before after × (good ≡ true)
 ActionDone (Check without) style input before after good =
@@ -23,7 +24,7 @@ ActionDone Compare style input before after good =
 ActionDone (Diff name) style input before after good =
     DiffRun style name.now input before after good × (good ≡ true → IfSome input.contents (IsClean style))
 
--- A text was read, but the writer failed, and a prefix of what the action prints was written.
+-- A text was read, but the writer failed, and a prefix of the action's output was written.
 abbrev pub ActionBroke : Action → Style → ByteStream → ByteStream → ByteStream → Type 0
 ActionBroke Events style input before after = BrokeOff input before after
 ActionBroke (Check without) style input before after =

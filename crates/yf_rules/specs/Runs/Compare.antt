@@ -1,4 +1,4 @@
--- Whether a text is its own formatting, and where it differs from that first.
+-- Whether a text is its own formatting, and the position at which they first differ.
 use Rattle.std.specs.Prelude.{◌≡◌, ◌≢◌, ℕ, List, [], ◌∷◌, take, Bool, Option, Some, None, MatchOption, codes, decimal}
 use Rattle.std.specs.List.{concat}
 use Rattle.std.specs.Option.{is_none}
@@ -14,23 +14,23 @@ use Rattle.yf_laws.specs.Mended.{IsMended}
 use Rattle.yf_rules.specs.Runs.ByteStream.{ByteStream, Writes, BreaksOff}
 use Rattle.yf_rules.specs.Runs.Run.{RefusedRun, FormattingGiven}
 
--- the texts are the same before the offset, at which no character of either is cut
+-- the texts are equal before the offset, which is a boundary in both
 pub record SameUpTo (t u : List ℕ) (at : ℕ) : Type 0 where
   pub boundary : IsCharBoundary t at
   pub other_boundary : IsCharBoundary u at
   pub same : take at t ≡ take at u
 
--- the same, and at the offset they have different characters, or one of them ends
+-- the texts are equal before the offset, and there they have different characters, or one of them ends
 pub record DifferAt (t u : List ℕ) (at : ℕ) : Type 0 where
   pub before : SameUpTo t u at
   pub differ : code t at ≢ code u at
 
--- the place in t of the first character in which t and u differ, or of its end
+-- the position in t of the first character in which t and u differ, or of its end
 pub data DiffersFirst (t u : List ℕ) (place : Position) : Type 0 where
   differs_first : {at : ℕ} → DifferAt t u at → IsPlaceOf t at place → DiffersFirst t u place
 
--- a text was read, and the place is where it first differs from its formatting; there is none where it is its own
--- formatting, and only there. Then nothing in it is at fault that the house style fixes
+-- A text was read, and the position is the first one at which it differs from its formatting. There is no position if
+-- and only if the text is its own formatting; then it has no fixable finding.
 pub record Difference (style : Style) (known : Option (List ℕ)) (place : Option Position) : Type 0 where
   pub formatted : List ℕ
   pub rendered : FormattingGiven style known formatted
@@ -47,15 +47,15 @@ abbrev pub difference_text : Option Position → List ℕ
 difference_text None = []
 difference_text (Some place) = difference_line place
 
--- A text was read, and the result is whether it is its own formatting. If it isn't, the line with the position was
--- written, and nothing else.
+-- A text was read, and the result is whether it is its own formatting. If it isn't, only the line with the position was
+-- written.
 pub record CompareRun (style : Style) (input before after : ByteStream) (same : Bool) : Type 0 where
   pub place : Option Position
   pub difference : Difference style input.contents place
   pub wrote : Writes before after (difference_text place)
   pub answer : same ≡ is_none place
 
--- Nothing in the text is at fault that the house style fixes.
+-- The text has no fixable finding.
 abbrev pub IsClean : Style → List ℕ → Type 0
 IsClean style text = IsMended text style
 

@@ -1,4 +1,4 @@
--- How a text differs from its formatting, as a unified diff.
+-- The difference of a text and its formatting, as a unified diff.
 use Rattle.std.specs.Prelude.{◌≡◌, ◌≢◌, ℕ, List, [], Bool, true, false, Option}
 use Rattle.yf_diff.specs.Diff.{AddsDiff}
 use Rattle.yf_lines.specs.declared.fault.Fault.{Fault}
@@ -9,8 +9,8 @@ use Rattle.yf_laws.specs.Mended.{IsMended}
 use Rattle.yf_rules.specs.Runs.ByteStream.{ByteStream, Writes, BreaksOff}
 use Rattle.yf_rules.specs.Runs.Run.{RefusedRun, FormattingGiven}
 
--- A text was read, and this is the diff of it and its formatting, both under the name. The diff is empty exactly if the
--- text is its own formatting; then nothing in it is at fault that the house style fixes.
+-- A text was read, and this is the diff of it and its formatting, both under the name. The diff is empty if and only if
+-- the text is its own formatting; then the text has no fixable finding.
 pub record DiffOf (style : Style) (name : List ℕ) (known : Option (List ℕ)) (diff : List ℕ) : Type 0 where
   pub formatted : List ℕ
   pub rendered : FormattingGiven style known formatted
@@ -25,8 +25,8 @@ abbrev pub is_same : List ℕ → Bool
 is_same [] = true
 is_same _ = false
 
--- A text was read, the diff of it and its formatting was written, and nothing else, and the result is whether the text
--- is its own formatting.
+-- A text was read, only the diff of it and its formatting was written, and the result is whether the text is its own
+-- formatting.
 pub record DiffRun (style : Style) (name : List ℕ) (input before after : ByteStream) (same : Bool) : Type 0 where
   pub diff : List ℕ
   pub of_text : DiffOf style name input.contents diff

@@ -16,7 +16,7 @@ ReadRefusal limit input left Memory = NoFailure input left
 ReadRefusal limit input left ReadFailed = (left.failed ≡ true) ⊎ (Exceeds input limit × NoFailure input left)
 ReadRefusal limit input left _ = ⊥
 
--- The bytes are no text, and the fault says where their longest prefix that is one ends.
+-- The bytes are not UTF-8, and the fault has the offset of the end of their longest prefix that is.
 abbrev pub IsNoText : List ℕ → Fault → Type 0
 IsNoText bytes (NotUtf8 offset) = (¬ IsUtf8 bytes) × IsValidUpTo bytes offset
 IsNoText bytes _ = ⊥

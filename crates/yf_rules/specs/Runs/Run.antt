@@ -1,5 +1,5 @@
--- What the runs do, by what their reader gave: of the text that was read they use its reading, and there is no other.
--- (known: what the reader had to give, if that is known; input, left: the reader before and after the run; before,
+-- What the runs do, from what their reader gave. They use the reading of the text that was read, which is the only one.
+-- (known: the bytes that the reader had, if they are known; input, left: the reader before and after the run; before,
 -- after: the writer)
 use Rattle.std.specs.Prelude.{◌≡◌, ◌≤◌, ℕ, List, [], ◌∷◌, length, Bool, true, false, Option, IfSome, codes, decimal}
 use Rattle.std.specs.List.{concat, flat_map}
@@ -33,13 +33,13 @@ CheckClaim = Table → Lists → List Finding → Type 0
 abbrev pub Gave : Option (List ℕ) → List ℕ → Type 0
 Gave known bytes = IfSome known (λ all. bytes ≡ all)
 
--- The bytes that were kept are those that were read, if the fault is one of them or of the writer.
+-- The bytes that were kept are those that were read, unless the fault is `Memory` or `ReadFailed`.
 abbrev pub Keeps : Option (List ℕ) → List ℕ → Fault → Type 0
 Keeps known bytes Memory = Unit {0}
 Keeps known bytes ReadFailed = Unit {0}
 Keeps known bytes _ = Gave known bytes
 
--- A text was read, and the notation of its reading was written, whose events are a well nested stream.
+-- A text was read, the events of its reading are a well nested stream, and the notation of the reading was written.
 pub record NotationWritten (input before after : ByteStream) : Type 0 where
   pub text : List ℕ
   pub reading : Lists
@@ -50,7 +50,7 @@ pub record NotationWritten (input before after : ByteStream) : Type 0 where
   pub reads : TheReading text reading
   pub wrote : Writes before after (notation_of reading)
 
--- The same, but the writer failed, and a prefix of the notation was written.
+-- A text was read, but the writer failed, and a prefix of the notation of its reading was written.
 pub record BrokeOff (input before after : ByteStream) : Type 0 where
   pub text : List ℕ
   pub reading : Lists
@@ -61,7 +61,7 @@ pub record BrokeOff (input before after : ByteStream) : Type 0 where
   pub reads : TheReading text reading
   pub broke : BreaksOff before after (notation_of reading)
 
--- The bytes that were read are no text, and their longest prefix that is one ends at the offset.
+-- The bytes that were read are not UTF-8, and their longest prefix that is ends at the offset.
 pub record GaveNoText (known : Option (List ℕ)) (offset : ℕ) : Type 0 where
   pub bytes : List ℕ
   pub gave : Gave known bytes
@@ -69,8 +69,8 @@ pub record GaveNoText (known : Option (List ℕ)) (offset : ℕ) : Type 0 where
   pub none : ¬ IsUtf8 bytes
   pub front : IsValidUpTo bytes offset
 
--- A text was read, and the fault is one of the reader of streams, with a position in the text: the text is no stream,
--- or breaches the rule that the fault names.
+-- A text was read, and the fault is one of the reader of streams, with a position in the text: the text is not a
+-- stream, or breaks the rule that the fault names.
 pub record GaveNoStream (known : Option (List ℕ)) (fault : Fault) : Type 0 where
   pub text : List ℕ
   pub gave : Gave known text
@@ -96,9 +96,9 @@ abbrev pub has_any : List Finding → Bool
 has_any [] = false
 has_any (f ∷ rest) = true
 
--- A text was read, its lines are these, and in its reading, whose events are a well nested stream, the rules find this;
--- C says what the rules find. If the text is the formatting of some text in the style, the house style fixes none of
--- it.
+-- A text was read, its lines are these, and the rules find these findings in its reading, whose events are a well
+-- nested stream; C relates a reading to its findings. If the text is the formatting of some text in the style, none is
+-- fixable.
 pub record CheckResult (C : CheckClaim) (style : Style) (known : Option (List ℕ)) (findings : List Finding)
     : Type 0 where
   pub src : Table
@@ -120,25 +120,25 @@ pub record FindingsWritten (C : CheckClaim) (style : Style) (input before after 
   pub wrote : Writes before after (findings_text findings)
   pub answer : any ≡ has_any findings
 
--- The same, but the writer failed, and a prefix of the lines was written.
+-- A text was read and checked, but the writer failed, and a prefix of the lines was written.
 pub record BrokeOffLines (C : CheckClaim) (style : Style) (input before after : ByteStream) : Type 0 where
   pub findings : List Finding
   pub found : CheckResult C style input.contents findings
   pub broke : BreaksOff before after (findings_text findings)
 
--- A text was read, and what is given for it is its formatting, with all that `Headline` says of the two.
+-- A text was read, and this is its formatting, with all that `Headline` states about the two.
 pub record FormattingGiven (style : Style) (known : Option (List ℕ)) (formatted : List ℕ) : Type 0 where
   pub text : List ℕ
   pub gave : Gave known text
   pub headline : Headline text style formatted
 
--- The same, and what is given was written, once and with nothing beside it.
+-- A text was read, and its formatting was written once, and nothing else.
 pub record FormattingWritten (style : Style) (input before after : ByteStream) : Type 0 where
   pub formatted : List ℕ
   pub rendered : FormattingGiven style input.contents formatted
   pub wrote : Writes before after formatted
 
--- The same, but the writer failed, and a prefix of the formatting was written.
+-- A text was read, but the writer failed, and a prefix of its formatting was written.
 pub record BrokeOffText (style : Style) (input before after : ByteStream) : Type 0 where
   pub formatted : List ℕ
   pub rendered : FormattingGiven style input.contents formatted
@@ -159,7 +159,7 @@ RefusedText input left Memory = NoFailure input left
 RefusedText input left ReadFailed = ReadRefusal INPUT_LIMIT input left ReadFailed
 RefusedText input left _ = ⊥
 
--- Why a run is refused, and what it has then written: if the writer failed, what Broken says, else nothing.
+-- Why a run is refused, and what it has written: if the writer failed, what Broken states, otherwise nothing.
 abbrev pub RefusedRun : Type 0 → ByteStream → ByteStream → ByteStream → ByteStream → Fault → Type 0
 RefusedRun Broken input left before after WriteFailed = Broken × NoFailure input left
 RefusedRun Broken input left before after fault = RefusedText input left fault × NothingWritten before after

@@ -1,4 +1,4 @@
--- The bytes so far are what the reader has lost, and none of its reads has failed.
+-- The bytes so far are those that the reader has lost, and none of its reads has failed.
 use Rattle.std.proofs.Common.{◌≡◌, ◌+◌, ◌-◌, vec_len}
 use Rattle.std.specs.Io.KnownBytes.{Consumes}
 use Rattle.yf_rules.proofs.input.read_all.Given as goal

@@ -1,4 +1,4 @@
--- What is added and what is left make the whole.
+-- The added bytes and the remaining ones make the whole.
 use Rattle.std.proofs.Common.{◌≡◌, ◌++◌, drop}
 use Rattle.yf_rules.specs.Quoted.{all_escaped}
 use Rattle.yf_rules.proofs.quoted.push_escaped.Given as goal

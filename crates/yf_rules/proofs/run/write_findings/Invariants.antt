@@ -1,4 +1,4 @@
--- What is left of the findings is what is still to be written.
+-- The remaining findings are still to be written.
 use Rattle.std.proofs.Common.{drop}
 use Rattle.yf_lines.proofs.OutputLemmas.{Progress}
 use Rattle.yf_rules.specs.Runs.Run.{findings_text}

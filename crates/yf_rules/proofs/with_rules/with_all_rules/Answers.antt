@@ -6,7 +6,7 @@ use Rattle.yf_rules.proofs.Findings.AllRulesLemmas.{is_definition}
 use Rattle.yf_rules.proofs.with_rules.with_all_rules.OwnLists.{own-1, at-1-1}
 use Rattle.yf_rules.proofs.with_rules.with_all_rules.Goals as goal
 
--- the definition at each box is that of the rule that was boxed
+-- the definition at each box is that of the boxed rule
 pub with_rules-requires : goal.with_rules-requires
 with_rules-requires g c =
     let made-1 = read_made own-1 (own-1.entry at-1-1) at-1-1 refl RuleDefinition (λ j w. j.1.definition w) _ _
