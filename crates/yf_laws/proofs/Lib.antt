@@ -5,7 +5,7 @@ pub mod FormatKeeps
 pub mod Texts
 -- `normal`: the normal form of a reading, which is settled, and the only one
 pub mod NormalForms
--- `layout`: the pass of the printer prints the rows of the layout
+-- `layout`: the printer's pass prints the rows of the layout
 pub mod Printer
 -- `trails_of`: the comments that trail are those of the layout
 pub mod Trails
@@ -25,7 +25,7 @@ pub mod Columns
 pub mod RowNodes
 -- the reading of a formatted text is laid out as that text: comments, notes on blank lines, rows
 pub mod ReadAgain
--- a second run changes nothing (`FixedLaws`): trees that are alike up to offsets are laid out alike
+-- a second run changes nothing (`FixedLaws`): trees that differ only in offsets are laid out alike
 pub mod SecondRun
 -- what formatting leaves unchanged (`Keeps`)
 pub mod Keeps
@@ -33,9 +33,9 @@ pub mod Keeps
 pub mod Size
 -- in a formatted text tabs are only in contents
 pub mod Tabs
--- the definitions by small readings
+-- the definitions, evaluated on small readings
 pub mod Shown
--- what holds of a text and its formatting, and of every text (`Formattings`)
+-- the statements on a text and its formatting, and on every text (`Formattings`)
 pub mod FormattingsAre
 pub mod RulesMended
 -- a formatted text has no fixable finding (`FormatsAreMended`)

@@ -1,4 +1,4 @@
--- `layout`: the pass of the printer prints the rows of the layout
+-- `layout`: the printer's pass prints the rows of the layout
 pub mod ColumnsFed
 pub mod SkipLemmas
 pub mod FeedLemmas

@@ -1,4 +1,4 @@
--- a second run changes nothing (`FixedLaws`): trees that are alike up to offsets are laid out alike
+-- a second run changes nothing (`FixedLaws`): trees that differ only in offsets are laid out alike
 pub mod AlikeLemmas
 pub mod FixedNodes
 pub mod FixedRows

@@ -1,4 +1,4 @@
--- the definitions by small readings
+-- the definitions, evaluated on small readings
 pub mod Examples
 pub mod ShownComments
 pub mod ShownCore

@@ -10,7 +10,7 @@ pub mod NodeBytes
 pub mod StreamBytes
 pub mod TreeBytes
 pub mod ReadingBytes
--- how many bytes rows have by these
+-- the number of bytes of rows, from these
 pub mod LeafBytes
 pub mod NodeCosts
 pub mod RowBytes

@@ -1,4 +1,4 @@
--- The laws of formatting a text again, each with the plain sentence that it says.
+-- The laws of formatting a text again, each with a plain sentence.
 use Rattle.std.specs.Prelude.{ℕ, List}
 use Rattle.std.specs.Str.{IsUtf8}
 use Rattle.yf_events.specs.declared.lists.Lists.{Lists}

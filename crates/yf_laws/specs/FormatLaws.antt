@@ -16,7 +16,7 @@ use Rattle.yf_laws.specs.Format.{IsFormatting}
 use Rattle.yf_laws.specs.Laws.{HasSameComments, HasSameContent, IsAccepted}
 use Rattle.yf_laws.specs.Layouts.Layout.{source_of}
 
--- Formatting a text that has a reading gives a text.
+-- A text that has a reading has a formatting.
 abbrev pub FormatsExist : Type 0
 FormatsExist = (t : List ℕ) (s : Style) (r : Lists) → ReadingOf t r → (u : List ℕ) × IsFormatting t s u
 
@@ -32,8 +32,9 @@ TrailsFitIn {s = s} f = TrailsFit (source_of f.normal (rows_of f.normal s f.writ
 abbrev pub FormatsTrailOnce : Type 0
 FormatsTrailOnce = (t u : List ℕ) (s : Style) → IsUtf8 t → (f : IsFormatting t s u) → TrailsFitIn f
 
--- u is a text that means one thing within the limit of open collections and breaks no rule of streams, and its documents mean the trees of the
--- normal form, with their directives; each begins with a `---`, but for a first one that is bare.
+-- u is a text that has one meaning within the limit of open collections and breaks no rule of streams. Its documents
+-- mean the trees of the normal form, with their directives; each begins with a `---`, except for a first one that is
+-- bare.
 pub record WellFormed {t : List ℕ} {s : Style} {u : List ℕ} (f : IsFormatting t s u) : Type 0 where
   pub utf8 : IsUtf8 u
   pub documents : Documents

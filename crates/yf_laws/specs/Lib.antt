@@ -9,7 +9,7 @@ pub mod Laws
 pub mod Types
 -- block scalars as yf_block_scalar writes them; flow collections without comments
 pub mod Nodes
--- which readings are laid out, and what holds of the readings of texts
+-- which readings are laid out, and the facts about the readings of texts
 pub mod NormalForms
 -- the lines of a normal reading, its comments and its blank lines
 pub mod Layouts
@@ -21,5 +21,5 @@ pub mod Preservation
 -- a formatted text has no fixable finding; what is proved about every text
 pub mod Mended
 pub mod Formattings
--- what a setting promises
+-- the promises of settings
 pub mod Settings

@@ -1,3 +1,3 @@
--- which readings are laid out, and what holds of the readings of texts
+-- which readings are laid out, and the facts about the readings of texts
 pub mod NormalForm
 pub mod OfText

@@ -1,4 +1,4 @@
--- what a setting promises of the readings of a text and of its formatting
+-- what a setting promises about the readings of a text and of its formatting
 pub mod DocumentStarts
 pub mod HiddenCharacters
 pub mod CommentBlocks

@@ -13,18 +13,18 @@ use Rattle.yf_stream.specs.ReadingOf.{ReadingOf}
 
 -- a node as such a function sees it; the tag is the resolved one
 pub data TypedNode : Type 0 where
-  -- tag, whether it is plain with a steady text, text
+  -- the tag, whether the scalar is plain with a steady text, and the text
   typed_scalar : Option (List ℕ) → Bool → List ℕ → TypedNode
   typed_sequence : Option (List ℕ) → TypedNode
   typed_mapping : Option (List ℕ) → TypedNode
-  -- it has the type of the node that it names
+  -- an alias has the type of the node that it names
   typed_alias : List ℕ → TypedNode
 
 abbrev pub is_plain : ScalarStyle → Bool
 is_plain Plain = true
 is_plain style = false
 
--- what the event begins, with its tag
+-- the node that the event begins, with its tag
 abbrev pub typed_of_event : EventValue → Option (List ℕ) → List TypedNode
 typed_of_event (scalar_node props style text) tag = typed_scalar tag (is_plain style && is_steady text) text ∷ []
 typed_of_event (sequence_starts flow props) tag = typed_sequence tag ∷ []

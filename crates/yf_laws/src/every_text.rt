@@ -1,4 +1,4 @@
-//! What holds of every text.
+//! The laws of every text.
 ghost use Rattle.yf_laws.specs.Formattings.{FormattingsHold, RefusedTextsHaveNoReading, StandardTextsAreFormatted};
 ghost use Rattle.yf_laws.specs.Laws.{ReadingsAreOfTexts};
 ghost use Rattle.yf_laws.specs.Mended.{RulesAreMended};

@@ -5,5 +5,5 @@ pub mod HeadlineHolds
 pub mod Findings
 -- what the runs read and write: `run_fmt`, `run_fmt_check`, `run_fmt_diff`
 pub mod Runs
--- the definitions by small readings
+-- the definitions, evaluated on small readings
 pub mod Shown

@@ -1,3 +1,3 @@
--- the definitions by small readings
+-- the definitions, evaluated on small readings
 pub mod ShownMarks
 pub mod ShownKeys

@@ -46,7 +46,7 @@ marks_append (c ∷ x) y = ap (λ z. char c ∷ z) (marks_append x y)
 pub marks_last : (x : List ℕ) (c : ℕ) → marks (x ++ c ∷ []) ≡ marks x ++ char c ∷ []
 marks_last x c = marks_append x (c ∷ [])
 
--- steps, one after another
+-- steps, in sequence
 pub chain_spells : {R : ℕ → ℕ → List Mark → Type 0} {S : ℕ → ℕ → List ℕ → Type 0} {i j : ℕ} {x : List Mark}
     → ((i j : ℕ) (x : List Mark) → R i j x → Spells S i j x) → Chain R i j x → Spells (Chain S) i j x
 chain_spells f done = spelled done

@@ -59,7 +59,7 @@ trail_noted {t} {n} {i} {j} (both (puts l) (both {k = b} (noted {x = x} c) (both
     tokens = ap (λ z. notes x ++ z) (append-nil (notes w)) ∙ sym (notes_append x w);
   }
 
--- parts without tokens, one after another
+-- parts without tokens, in sequence
 star_quiet : {R : ℕ → ℕ → Type 0} {P : ℕ → ℕ → List Token → Type 0} {i j : ℕ} {y : List Token} → ((i j : ℕ) (y : List Token) → P i j y → R i j × (y ≡ [])) → Chain P i j y
     → Star R i j × (y ≡ [])
 star_quiet f done = (none, refl)

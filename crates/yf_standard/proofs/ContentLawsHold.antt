@@ -17,7 +17,7 @@ use Rattle.yf_standard.proofs.BlockWhole.{BlockRead, literal_mean, block_whole}
 use Rattle.yf_standard.proofs.Zones.{Zone}
 use Rattle.yf_standard.proofs.Closed.{root_known}
 
--- all of the text up to a place
+-- all of the text up to an offset
 abbrev pub zone : (t : List ℕ) → IsUtf8 t → ℕ → Zone t false
 zone t u j = record { utf = u; low = 0; high = j; clear = λ q. absurd (true≢false (sym q)); root = λ q. root_known t u }
 

@@ -184,7 +184,7 @@ four_then {t} {i} {v = v} y a (a_four {v = w} b) = ⊎_elim (λ (p : (is_high v 
   by_second : (is_low w ≡ false) × NoLow t (i + 6) → FourThen t i (i + 6 + 6) v (escape w (i + 6) (i + 6 + 6) ∷ []) y
   by_second m = alone (four_piece a m.1) (not_a_low i (i + 6) v w (i + 6) (i + 6 + 6) y m.0)
 
--- a key's characters, one after another
+-- a key's characters, in sequence
 module _ {t : List ℕ} where
   char_first : {i k j : ℕ} {z : List Piece} (y : List Mark) (q : List Piece) → DoubleChar t i k q → Chain (DoubleChar t) k j z → pieces y ≡ q ++ z → Chain (DoubleChar t) i j (pieces y)
   char_first {i = i} {j = j} y q c r e = subst (λ z. Chain (DoubleChar t) i j z) (sym e) (step c r)

@@ -119,7 +119,7 @@ module _ {t : List ℕ} {low high : ℕ} (clear : Clear t low high) where
       let line : LineContent t k a q (slice_range t (a + k) g) false = content p m f (ends_by_break br) (no_marker_at a (omega (arith, l, c)) (omega (arith, f, h, v, x)) start) in
       record { at = rest.at; before = b.0 ++ slice_range t (a + k) g ∷ rest.before; text = rest.text; lines = chain_append b.1 (step (content_line line) rest.lines); last = rest.last }
 
--- those taken, up to a place
+-- those taken, up to an offset
 pub record TakenRead (t : List ℕ) (k i j : ℕ) : Type 0 where
   pub lines : List (List ℕ)
   pub left_open : Bool

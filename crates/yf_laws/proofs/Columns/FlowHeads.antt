@@ -1,4 +1,4 @@
--- A flow collection that is derived from one place to another has this part of the text, and ends with its bracket.
+-- A flow collection that is derived between two offsets has that span, and ends with its bracket.
 use Rattle.std.proofs.Common.{◌≡◌, ℕ, ℤ, ◌+◌, ◌-◌, ◌⊎◌, inl, inr, Bool, true, false, true≢false, List, [], ◌∷◌, Option, Some, None, refl, sym, ap, ◌∙◌, subst, arith}
 use Rattle.std.specs.Str.{IsUtf8}
 use Rattle.yf_chars.specs.declared.context.Ctx.{Ctx}
@@ -27,7 +27,7 @@ props_in (sequence_starts flow props) = props
 props_in (mapping_starts flow props) = props
 props_in _ = no_props
 
--- of the first of these events
+-- for the first of these events
 abbrev opens : List EventInText → Bool
 opens [] = false
 opens (e ∷ es) = opens_flow e.event

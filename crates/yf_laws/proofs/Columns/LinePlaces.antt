@@ -22,7 +22,7 @@ use Rattle.yf_chars.proofs.Tests.{below}
 use Rattle.yf_chars.proofs.CharBounds.{visible_nb}
 use Rattle.yf_laws.proofs.Writable.GapPasses.{no_return}
 
--- m characters are between the start of the line and the offset, and in them no line starts
+-- m characters are between the start of the line and the offset, and no line starts in them
 pub record OnLine (t : List ℕ) (m i : ℕ) : Type 0 where
   pub line : ℕ
   pub start : LineStart t line

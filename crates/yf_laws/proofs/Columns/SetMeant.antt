@@ -148,7 +148,7 @@ abbrev pub SetEntries : Bool → List ℕ → Style → ℕ → ℕ → Meaning 
 SetEntries true t s m q x = SetList t s m q x
 SetEntries false t s m q x = SetPairList t s m q x
 
--- Entries one after the other.
+-- Entries in sequence.
 
 pub set_last : (t : List ℕ) (s : Style) (b : Bool) (m q : ℕ) (x : Meaning) → SetEntry b t s m q x → SetEntries b t s m q x
 set_last t s true m q x a = record { items = item a.node no_items; events = a.events ∙ sym (append-nil (flat a.node)); set = λ c. set_first (a.on c) (set_item (a.on c) (a.set c) no_set_items) }

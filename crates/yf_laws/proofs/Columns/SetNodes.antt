@@ -30,13 +30,13 @@ pub record EntryOn (t : List ℕ) (m : ℕ) (x : Node) : Type 0 where
   pub is : (standing x).entry ≡ Some entry
   pub column : ColumnAt t m entry.start
 
--- the entry of the key begins with no `?` that is one
+-- the entry of the key doesn't begin with a `?` that marks a key
 pub record Unquestioned (t : List ℕ) (k : Node) : Type 0 where
   pub entry : Entry
   pub is : (standing k).entry ≡ Some entry
   pub none : code t entry.start ≡ 63 → is_white_or_end (code t (entry.start + 1)) ≡ true → ⊥
 
--- it begins with one
+-- it begins with such a `?`
 pub record Questioned (t : List ℕ) (k : Node) : Type 0 where
   pub entry : Entry
   pub is : (standing k).entry ≡ Some entry
@@ -47,7 +47,7 @@ pub record Questioned (t : List ℕ) (k : Node) : Type 0 where
 abbrev pub entries_after : Style → ℕ → Node → Node → ℕ
 entries_after s m k v = if is_implicit s m k then value_entries s m v else m + s.indent
 
--- nodes on one line: no block collections or block scalars
+-- nodes on one line: neither block collections nor block scalars
 abbrev mutual
   pub Blockless : Node → Type 0
   Blockless (scalar at props style text lines) = is_block_style style ≡ false
@@ -63,7 +63,7 @@ abbrev mutual
   BlocklessPairs no_pairs = Unit {0}
   BlocklessPairs (pair k v ps) = Blockless k × (Blockless v × BlocklessPairs ps)
 
--- A node with its entries at one column, or its content at another: Content says this of a block scalar.
+-- A node with its entries at one column, or its content at another; Content is the condition on a block scalar.
 mutual
   pub data SetNode (t : List ℕ) (s : Style) (Content : ℕ → Node → Type 0) : ℕ → ℕ → Node → Type 0 where
     set_line : {m l : ℕ} {x : Node} → Blockless x → SetNode t s Content m l x

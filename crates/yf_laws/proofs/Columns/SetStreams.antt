@@ -1,4 +1,4 @@
--- The documents of a stream that was laid out are set nodes.
+-- The documents of a laid-out stream are set nodes.
 use Rattle.std.proofs.Common.{ℕ, true, List, [], ◌∷◌}
 use Rattle.yf_comments.specs.Comment.{CommentValue}
 use Rattle.yf_events.specs.declared.directive.Directive.{Directive}

@@ -85,7 +85,7 @@ pub signs_low : (c : ℕ) → is_white_or_sign c ≡ true → c < 128
 unfolding is_white
 signs_low c e = grind (arith, nat_tests)
 
--- after a mark a line begins
+-- a line begins after a mark
 column_mark : {t : List ℕ} (i : ℕ) → IsUtf8 t → (p : ℕ → Bool) → ((c : ℕ) → p c ≡ true → c < 128) → code t i ≡ BYTE_ORDER_MARK → column_by p t (next t i) ≡ Some 0
 unfolding next
 column_mark {t} i u p low e =

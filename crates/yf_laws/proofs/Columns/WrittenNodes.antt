@@ -13,8 +13,8 @@ use Rattle.yf_forms.specs.NormalForms.Normal.{LayoutSetting, Margins, inner_marg
 use Rattle.yf_forms.specs.Nodes.OneLine.{bare, width, written}
 use Rattle.yf_laws.proofs.Columns.LinePlaces.{OnLine}
 
--- The flow collection is written so from bracket to bracket; it ends in the line that it begins in, as many characters after the column as it is
--- wide, and its last character is one byte.
+-- The flow collection is written so from bracket to bracket. It ends on the line on which it begins, as many characters
+-- after the column as its width, and its last character is one byte.
 pub record WrittenAt (house : Style) (t : List ℕ) (column : ℕ) (x : Node) : Type 0 where
   pub span : Span
   pub is : (standing x).span ≡ Some span
@@ -35,7 +35,7 @@ mutual
     written_sequence : {margins : Margins} {at : NodeOffsets} {props : PropsValue} {xs : Items} → WrittenItems t c margins.entries xs → WrittenNode t c margins (sequence at false props xs)
     written_mapping : {margins : Margins} {at : NodeOffsets} {props : PropsValue} {ps : Pairs} → WrittenPairs t c margins.entries ps → WrittenNode t c margins (mapping at false props ps)
 
-  -- of entries at that column
+  -- for entries at that column
   pub data WrittenItems (t : List ℕ) (c : LayoutSetting) : ℕ → Items → Type 0 where
     no_written_items : {m : ℕ} → WrittenItems t c m no_items
     written_item : {m : ℕ} {x : Node} {xs : Items} → WrittenNode t c (inner_margins c.style m) x → WrittenItems t c m xs → WrittenItems t c m (item x xs)

@@ -93,7 +93,7 @@ module _ {t : List ℕ} (c : LayoutSetting) (cs : List CommentValue) (u : IsUtf8
   key_written m p (mapping at false props no_pairs) i e w a = written_mapping no_written_pairs
   key_written m p (mapping at false props (pair k v ps)) i e w a = absurd (true≢false (sym i))
 
-  -- the margins of the value of an implicit key, and of another one
+  -- the margins of the value of an implicit key, and of any other value
   value_at : (m : ℕ) {k v l w : Node} → is_implicit c.style m l ≡ true → Alike Anywhere k l → Alike Anywhere v w → KeysAgree c.style c.comments cs k v l w
       → value_of_implicit c m k v ≡ value_margins (setting c.style cs) m l w
   value_at m {k} {v} n a b g =
@@ -131,7 +131,7 @@ module _ {t : List ℕ} (c : LayoutSetting) (cs : List CommentValue) (u : IsUtf8
     pairs_written (pair_rows {hs = hs} {rs = rs} r others) l (block_pair a b g more) =
         pair_written r (lined_left hs rs l) a b g (pairs_written others (lined_right hs rs l) more)
 
--- Notes on blank lines change nothing of that.
+-- Notes on blank lines don't change this.
 
 mutual
   noted : (x : Node) → Alike Anywhere x (unnoted x)

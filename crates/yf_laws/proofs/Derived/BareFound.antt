@@ -56,7 +56,7 @@ lead_there n m e f = ap (λ k. at_lead k m) e ∙ ap (λ k. at_lead 1 k) f
 no_lead : (n m : ℕ) → n ≡ 0 → at_lead n m ≡ false
 no_lead n m e = ap (λ k. at_lead k m) e
 
--- a comment before which no document begins is none, nor is one after which none of the others is earlier
+-- `list_any` is false if the test fails for each comment of the list
 any_false : (p : CommentValue → Bool) (cs : List CommentValue) → ((c : CommentValue) → In c cs → p c ≡ false) → list_any p cs ≡ false
 any_false p [] n = refl
 any_false p (c ∷ cs) n = ap (λ b. b || list_any p cs) (n c in_first) ∙ any_false p cs (λ d i. n d (in_rest i))
@@ -122,7 +122,7 @@ module _ (r : Lists) (start : ℕ) (others : List ℕ) (are : document_starts r.
   led_first [] up free = refl
   led_first (c ∷ cs) (upward_more l up) free = led_step c cs up free (led_first cs up (λ d i. free d (in_rest i)))
 
--- Of the normal form of a reading.
+-- For the normal form of a reading.
 
 starts_from : {t : List ℕ} {i : ℕ} {ds : List Doc} {trees : List DocumentTree} → TreesStand t i ds trees → AllFrom i (document_starts ds)
 starts_from (no_trees_stand l) = none_later

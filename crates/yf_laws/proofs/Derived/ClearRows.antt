@@ -64,7 +64,7 @@ line_clear {t} w r {q} u l a s =
     let end = rest_break u at.rest in
     record { place = q + length w + 1; clear = clear_join (text_clear at (a.none q (10 ∷ r) u feed_follows s)) (clear_break end.0); rest = end.1 }
 
--- of a line from a place on after its first character, whatever its text
+-- for a line from an offset after its first character on, whatever its text
 line_rest_clear : {t : List ℕ} (k : ℕ) (w r : List ℕ) {q : ℕ} → IsUtf8 t → IsLineText w → 0 < k → Rest t q (w ++ (10 ∷ r)) → ClearTo t (q + k) r
 line_rest_clear {t} k w r {q} u l some s =
     let at = rest_text w u l s in
@@ -117,7 +117,7 @@ trails_unmarked (x ∷ xs) a = unmarked_more 32 (32 ∷ (x ++ trails_bytes xs)) 
 rest_of_row : {t : List ℕ} (d : Deco) {body : List (List ℕ)} (r : List ℕ) {q : ℕ} → IsUtf8 t → IsDeco d → AreBodyTexts body → Rest t q (body_then body (gap_then d.gap r)) → ClearTo t q r
 rest_of_row d r u a b s = let one = body_clear (gap_then d.gap r) u b s in also one (gap_clear d.gap r u a.gap one.rest)
 
--- a row's text: on a line of its own, visible from its start, and no marker
+-- a row's text: on a line of its own, visible from its start, and not a marker
 pub record IsRowText (x : Row) : Type 0 where
   pub text : IsLineText x.text
   pub unmarked : IsNoMarker x.text

@@ -12,7 +12,7 @@ use Rattle.yf_forms.specs.Nodes.Lines.{ended, after_two_spaces, trimmed}
 use Rattle.yf_print.specs.Layouts.Rows.{Row, Ending, anywhere, at_text_start}
 use Rattle.yf_print.specs.Layouts.KeptColumns.{Columns, columns_of}
 
--- Rows one after the other.
+-- Rows in sequence.
 
 pub lines_append : (xs ys : List Row) (ds : List Deco) (r : List ℕ) → lines_then (xs ++ ys) ds r ≡ lines_then xs ds (lines_then ys (past xs ds) r)
 lines_append [] ys ds r = refl
@@ -41,7 +41,7 @@ body_law (x ∷ xs) r =
     append_assoc (ended x) (flat_map ended xs) r
     ∙ (append_assoc x (10 ∷ []) (flat_map ended xs ++ r) ∙ ap (λ z. x ++ (10 ∷ z)) (body_law xs r))
 
--- a line's bytes, and r after them
+-- a line's bytes, followed by r
 line_law : (column : ℕ) (text : List ℕ) (body : List (List ℕ)) (r : List ℕ)
     → (replicate column 32 ++ (ended text ++ flat_map ended body)) ++ r ≡ replicate column 32 ++ (text ++ (10 ∷ body_then body r))
 line_law column text body r =

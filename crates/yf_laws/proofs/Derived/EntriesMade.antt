@@ -1,4 +1,4 @@
--- Entries of a block collection, from their rows: items, explicit pairs, and entries one after the other.
+-- Entries of a block collection, from their rows: items, explicit pairs, and entries in sequence.
 use Rattle.std.proofs.Common.{◌≡◌, ℕ, max, ◌+◌, ◌-◌, ◌≤◌, pos, Bool, true, false, List, [], ◌∷◌, ◌++◌, replicate, Option, Some, None, refl, sym, ap, ◌∙◌, subst, arith, append-nil, ◌⊎◌, ⊎_elim}
 use Rattle.std.specs.Prelude.{if◌then◌else◌}
 use Rattle.std.specs.Str.{IsUtf8}

@@ -52,7 +52,7 @@ use Rattle.yf_forms.specs.NormalForms.BareStart.{is_bare}
 use Rattle.yf_laws.proofs.Derived.BareReadings.{bare_begins, normal_begins, reading_begins}
 use Rattle.yf_print.specs.Layouts.KeptColumns.{columns_of}
 
--- Heights: styles and brackets change none.
+-- Heights: styles and brackets don't change them.
 
 two_tall : {a b c d : ℕ} → a ≡ c → b ≡ d → max a b ≡ max c d
 two_tall {a} {b} {c} {d} e f = ap (λ w. max w b) e ∙ ap (λ w. max c w) f
@@ -118,7 +118,7 @@ mutual
 pub root_tall : (t : List ℕ) (c : LayoutSetting) (d : DocumentTree) → tall (normal_document t c d).root ≡ tall d.root
 root_tall t c d = settled_tall c (root_margins c.style) (styled t c d.root) ∙ styled_tall t c d.root
 
--- Signs: neither do they change what the rules ask of an event.
+-- Signs: they don't change what the rules require of an event.
 
 restyled_sign : (q : Style) (flow : Bool) (v : EventValue) → sign (restyled_event q flow v) ≡ sign v
 restyled_sign q flow stream_starts = refl

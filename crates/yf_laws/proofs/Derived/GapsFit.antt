@@ -49,7 +49,7 @@ decos_fit g c (row ∷ rows) t a =
 own_lines_fit : (c : Source) (rows : List Row) → AreRemarks (map (λ (r : Remark). r.0) c.remarks) → AreRemarks (own_line_comments c rows)
 own_lines_fit c rows a = filter_fits (λ d. not (is_among (flat_map (trailing c) rows) d)) a
 
--- of a normal reading with these rows
+-- for a normal reading with these rows
 first_gap_fits : (g : Columns) (m : Lists) (rows : List Row) → AreRemarks (map (λ (r : Remark). r.0) (source_of m rows).remarks) → AreGapLines (first_gap g m rows)
 first_gap_fits g m rows a = gap_fits g at_text_start rows (own_lines_fit (source_of m rows) rows a)
 

@@ -48,7 +48,7 @@ use Rattle.yf_laws.proofs.Derived.StepsInText.{starts_of, MeaningLaid, laid_afte
 use Rattle.yf_lines.proofs.VisibleLines.{visible_at}
 use Rattle.yf_stream.proofs.Uniqueness.OneDirective.{ascii_ns}
 
--- the row of a key with its `:`, as it is before its value is known
+-- the row of a key with its `:`, before its value is known
 abbrev pub key_head : ℕ → List ℕ → List ℕ → List ℕ → List Span → Bool → Row
 key_head column text offsets items leaves blank =
     record { column = column; text = text; starts = start_of column false offsets ∷ []; items = items; leaves = leaves; key_comment = None; blank_before = blank; begins = false; ending = anywhere; body = []; lines = 0 }

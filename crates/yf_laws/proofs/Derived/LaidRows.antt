@@ -17,7 +17,7 @@ use Rattle.yf_laws.proofs.Derived.LayoutSteps.{Step, a_leaf, leaf_steps, comment
 use Rattle.yf_laws.proofs.SecondRun.AlikeLemmas.{same_leaves}
 use Rattle.yf_laws.proofs.Derived.StepsInText.{MeaningLaid, laid_node, laid_noting}
 
--- Rows one after the other.
+-- Rows in sequence.
 
 pub steps_append : (xs ys : List Row) (ds : List Deco) → steps_in (xs ++ ys) ds ≡ steps_in xs ds ++ steps_in ys (past xs ds)
 steps_append [] ys ds = refl
@@ -46,7 +46,7 @@ as_many (x ∷ xs) (y ∷ ys) e = ap (λ w. a_leaf ∷ w) (as_many xs ys (same_t
   same_tail : {a b : ℕ} → suc a ≡ suc b → a ≡ b
   same_tail e = omega (arith, e)
 
--- a node on one line, which is between two places
+-- a node on one line, between two offsets
 pub laid_line : {t : List ℕ} {i j : ℕ} {x : Node} {m : Meaning} (ls : List Span) → NodeAt t i j m → MeansTrees x m → m.comments ≡ [] → length ls ≡ length (leaves x) → MeaningLaid i j m (leaf_steps ls)
 laid_line {i = i} {j = j} {m = m} ls a b silent count =
     let node : b.node ≡ a.node = (node_unique b.node a.node [] [] (append-nil (flat b.node) ∙ (sym b.events ∙ (a.events ∙ sym (append-nil (flat a.node)))))).0 in

@@ -1,4 +1,4 @@
--- The laws of layouts, each with the plain sentence that it says. `proofs/Derived/LayoutLawsHold.antt` proves them.
+-- The laws of layouts, each with a plain sentence. `proofs/Derived/LayoutLawsHold.antt` proves them.
 use Rattle.std.specs.Prelude.{◌≡◌, ℕ, ◌≤◌, Bool, List, ◌++◌, map}
 use Rattle.std.specs.Str.{IsUtf8}
 use Rattle.yf_comments.specs.Comment.{CommentValue}

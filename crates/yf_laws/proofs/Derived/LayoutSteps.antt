@@ -18,12 +18,12 @@ leaf_steps ss = map (λ s. a_leaf) ss
 abbrev pub comment_steps : List (List ℕ) → List Step
 comment_steps xs = map (λ x. a_comment x) xs
 
--- of rows, with what each carries after it
+-- the steps of rows, with what each carries after it
 abbrev pub steps_in : List Row → List Deco → List Step
 steps_in [] ds = []
 steps_in (x ∷ xs) ds = leaf_steps x.leaves ++ (comment_steps (carried_texts (first ds)) ++ steps_in xs (after ds))
 
--- of a normal reading with these rows
+-- the steps of a normal reading with these rows
 abbrev pub steps_of : Columns → Lists → List Row → List Step
 steps_of g m rows = comment_steps (remarks_of (first_gap g m rows)) ++ steps_in rows (row_decos g m rows)
 

@@ -92,7 +92,7 @@ pub past_decos : (xs : List Row) {ds : List Deco} → AreDecos ds → AreDecos (
 past_decos [] a = a
 past_decos (x ∷ xs) a = past_decos xs (after_decos a)
 
--- Rows one after the other.
+-- Rows in sequence.
 
 pub comments_append : (xs ys : List Row) (ds : List Deco) → comments_in (xs ++ ys) ds ≡ comments_in xs ds ++ comments_in ys (past xs ds)
 comments_append [] ys ds = refl

@@ -1,4 +1,4 @@
--- How a literal or folded scalar that is made is in the text: its event, and its lines.
+-- A derived literal or folded scalar in the text: its event, and its lines.
 use Rattle.std.proofs.Common.{◌≡◌, ◌≢◌, ℕ, zero, suc, ◌+◌, ◌-◌, ◌<◌, ◌≤◌, ◌⊎◌, inl, inr, ℤ, true, false, true≢false, List, [], ◌++◌, length, replicate, Option, refl, sym, ap, subst, arith, length-append, ⊎_elim}
 use Rattle.std.proofs.lemmas.List.{length-map}
 use Rattle.std.specs.Str.{IsUtf8}
@@ -41,7 +41,7 @@ style_back Double e = absurd (true≢false (sym e))
 style_back Literal e = refl
 style_back Folded e = refl
 
--- How it is in the text.
+-- The scalar in the text.
 
 keeps_or : (n : ℕ) → (chomp_of n ≡ Keep) ⊎ (n - 1 ≡ 0)
 keeps_or zero = inr refl

@@ -212,7 +212,7 @@ spaced_some [] y e f = absurd (true≢false e)
 spaced_some (b ∷ x) [] e f = absurd (true≢false f)
 spaced_some (b ∷ x) (c ∷ y) e f = refl
 
--- the lines are some
+-- the scalar has lines
 pub body_some : (column n : ℕ) (ls : List (List ℕ)) → EndsWithContent ls → map (line_at column) (ls ++ replicate n []) ≡ [] → ⊥
 body_some column n [] last e = last
 body_some column n (x ∷ ls) last e = absurd cc

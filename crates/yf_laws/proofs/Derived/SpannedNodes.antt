@@ -1,4 +1,4 @@
--- A block node has characters: the first of its events has a part of the text. So the root of a document without `---` has a row.
+-- A block node has characters: the first of its events has a span. So the root of a document without `---` has a row.
 use Rattle.std.proofs.Common.{◌≡◌, ℕ, ◌+◌, ℤ, Bool, true, false, List, [], ◌∷◌, ◌++◌, Option, None, refl, sym, ap, ◌∙◌, encode_utf8_all}
 use Rattle.std.specs.Prelude.{is_some}
 use Rattle.yf_quoted.specs.Quoted.{text_of, bad_escapes}

@@ -1,4 +1,5 @@
--- Leaves and comments that are in a text in the order of steps, from one place up to another; and so those of the parts of a production.
+-- Leaves and comments that are in a text in the order of steps, from one offset up to another; and those of the parts
+-- of a production.
 use Rattle.std.proofs.Common.{◌≡◌, ℕ, ◌≤◌, Bool, true, false, List, [], ◌∷◌, ◌++◌, map, Option, Some, None, refl, sym, ap, ◌∙◌, subst, arith, append_assoc, append-nil}
 use Rattle.std.proofs.lemmas.List.{map-append}
 use Rattle.yf_comments.specs.Comment.{CommentValue}

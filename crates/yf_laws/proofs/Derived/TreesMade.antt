@@ -149,7 +149,7 @@ dash_makes c column {x} f =
     item_makes column (entry_start x) (blank_before_entry (standing x).entry) c.style.indent_from refl
     (record { block = refl; least = (least_inner (is_sequence x) column c.style.indent c.style.indent_from).0; lines = refl }) (f.claim (inner_margins c.style column))
 
--- a bound of one entry, and of others after it
+-- a bound for one entry, and for others after it
 bound_last : {c : LayoutSetting} {sequence : Bool} {column a b : ℕ} {P : List ℕ → Meaning → List PlacedRow → Type 0} {rs : List Row} → a ≡ b → EntriesMakes c sequence column a P rs → EntriesMakes c sequence column b P rs
 bound_last {c} {sequence} {column} {P = P} {rs = rs} e = subst (λ n. EntriesMakes c sequence column n P rs) e
 

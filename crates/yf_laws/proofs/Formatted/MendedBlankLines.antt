@@ -52,7 +52,7 @@ not_solid {src} {r} w k l e (solid_scalar {x = x} a) b =
 
 -- Starts of lines.
 
--- a line with an offset that begins one begins there
+-- a line with an offset at which a line begins, begins there
 starts_there : {src : Table} {r : Lists} {s : Style} → IsFormatted src r s → (o k : ℕ) → LineStart src.text o → (a : HasOffset src o k) → a.line.start ≡ o
 starts_there {src} w o k s a =
     let u = (formed w.utf8 w.formats).utf8 in

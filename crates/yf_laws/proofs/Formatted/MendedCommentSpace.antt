@@ -21,7 +21,7 @@ use Rattle.yf_rule_sets.specs.RuleSets.Whites.CloseComment.{of_comment}
 use Rattle.yf_laws.proofs.Formatted.MendedLines.{exactly_none}
 use Rattle.yf_rule_sets.proofs.Texts.WhitesLemmas.{at_line_start, at_two_spaces}
 
--- no white is before the start of a line
+-- no white space is before the start of a line
 start_no_white : {t : List ℕ} {k : ℕ} → IsUtf8 t → LineStart t k → (k ≡ 0) ⊎ (is_white (code t (k - 1)) ≡ false)
 start_no_white {t} {k} u s =
     ⊎_elim (λ (z : k ≡ 0). inl z)

@@ -26,7 +26,7 @@ use Rattle.yf_laws.proofs.OutputLines.LaidLines.{LineIs, LinesAre, no_lines, mor
 use Rattle.yf_rule_sets.specs.RuleSets.Scalars.{head_count}
 use Rattle.yf_chars.proofs.CharFacts.{feed_no_nb, space_white}
 
--- Texts that begin with no space.
+-- Texts that don't begin with a space.
 
 data NoSpace : List ℕ → Type 0 where
   nothing : NoSpace []
@@ -56,7 +56,7 @@ folded_no_space e ((c ∷ x) ∷ ls) =
     let one : suc e ≡ e + 1 = omega arith in
     subst (λ k. NoSpace (feeds k ++ (c ∷ x) ++ folded_after (is_white c) 0 ls)) one (other (λ z. omega (arith, z)))
 
--- how many spaces are first
+-- the number of leading spaces
 spaces_counted : (w : List ℕ) → NoSpace w → head_count 32 w ≡ 0
 spaces_counted [] a = refl
 spaces_counted (c ∷ w) (other n) = ap (λ b. if b then suc (head_count 32 w) else 0) (ne_eqb c 32 n)
@@ -134,7 +134,7 @@ text_leads false m b y ls e n = record {
   none = λ q. no_space_append (literal_no_space ls) n;
 }
 
--- what a rule counts of it
+-- the number that a rule counts
 feeds_first : (m : ℕ) (w : List ℕ) → head_count 10 (feeds m ++ w) ≡ m + head_count 10 w
 feeds_first zero w = let none : head_count 10 w ≡ 0 + head_count 10 w = omega arith in none
 feeds_first (suc m) w = let one : suc (m + head_count 10 w) ≡ suc m + head_count 10 w = omega arith in ap suc (feeds_first m w) ∙ one
@@ -288,7 +288,7 @@ first_at {t} {ls} column m b y text others more u lines got a =
     columns zero = refl
     columns (suc k) = ap suc (columns k)
 
-    -- no line feed begins it
+    -- it doesn't begin with a line feed
     no_feed_there : (l : Line) (column b : ℕ) (y : List ℕ) → IsUtf8 t → LineIs t l (replicate column 32 ++ (b ∷ y)) → b ≢ 10
     no_feed_there l column b y u c e =
         let spaces = rest_spaces column l.start u (subst (λ w. Rest t l.start w) (append_assoc (replicate column 32) (b ∷ y) (10 ∷ c.follows)) c.there) in

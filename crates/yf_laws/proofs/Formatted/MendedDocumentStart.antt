@@ -90,7 +90,7 @@ reading_marks {src} {r} {s} w =
     let all : values (q.derived_events ++ (unplaced stream_ends ∷ [])) ≡ values q.derived_events ++ (stream_ends ∷ []) = values_append q.derived_events (unplaced stream_ends ∷ []) in
     sym (ap markers_in (noting_values q.noted)) ∙ (ap markers_in all ∙ (documents_marks (stream_ends ∷ []) (formats_meant w.utf8 w.formats q) q.events ∙ append-nil (marks q.derived.documents)))
 
--- only a first document that may be bare is without a `---`
+-- only a first document that may be bare has no `---`
 marked_alone : {bare : Bool} {ms : List Doc} {trees : List _} {es : List Document} (k : ℕ) → DocumentsMeant bare ms trees es → slice_get (marks es) k ≡ Some false → (k ≡ 0) × (bare ≡ true)
 marked_alone k no_documents_meant e = absurd (no_item k false e)
 marked_alone zero (document_meant {bare = bare} a more) e = (refl, turned bare (sym a.marked ∙ same_Some _ _ e)) where

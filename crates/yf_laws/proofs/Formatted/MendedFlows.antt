@@ -40,7 +40,7 @@ first_value e = cc
 more_pairs : {k v l w : Node} {xs ys : Pairs} → pair k v xs ≡ pair l w ys → xs ≡ ys
 more_pairs e = cc
 
--- a flow collection that a choice gives was kept
+-- a flow collection that is the result of a choice was kept
 chosen : (x y z : Node) (b : Bool) → is_flow y ≡ false → is_flow z ≡ true → (if b then x else y) ≡ z → (b ≡ true) × (x ≡ z)
 chosen x y z true f g e = (refl, e)
 chosen x y z false f g e = absurd (true≢false (sym g ∙ sym (ap is_flow e) ∙ f))
@@ -94,7 +94,7 @@ module _ (t : List ℕ) (c : LayoutSetting) where
   fine_node other (sequence at false props xs) w e f g = absurd (true≢false (sym g))
   fine_node other (mapping at false props ps) w e f g = absurd (true≢false (sym g))
 
-  -- the entries of a block collection are settled, and styled, as themselves
+  -- the entries of a block collection are settled and styled as themselves
   items_settled : (at : NodeOffsets) (props : PropsValue) (margins : Margins) (xs : Items) → settled c margins (sequence at false props xs) ≡ sequence at false props xs → settled_items c margins.entries xs ≡ xs
   items_settled at props margins no_items e = refl
   items_settled at props margins (item x xs) e = same_items e

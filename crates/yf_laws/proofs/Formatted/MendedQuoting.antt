@@ -25,7 +25,7 @@ use Rattle.yf_rule_sets.specs.RuleSets.Styles.{QuotingFault}
 use Rattle.yf_rule_sets.specs.RuleSets.Styles.QuotingFault.{other_style}
 use Rattle.yf_laws.proofs.Formatted.MendedLines.{exactly_none}
 
--- a scalar in the style of the house, or no scalar
+-- a scalar in the house style, or no scalar
 abbrev IsStyled : Style → EventValue → Type 0
 IsStyled q (scalar_node props style text) = wanted style text q ≡ style
 IsStyled q stream_starts = Unit {0}
@@ -59,7 +59,7 @@ all_styled : {q : Style} {es fs : List EventInText} → SameButStyles q es fs �
 all_styled none_left = tt
 all_styled {q} (one_more {e = e} flow a) = (restyled_styled q flow e.event, all_styled a)
 
--- so is each event that differs by its marker
+-- this holds for each event that differs by its marker
 with_marker : (q : Style) (v : EventValue) → IsStyled q (unmarked_value v) → IsStyled q v
 with_marker q (scalar_node props style text) a = a
 with_marker q stream_starts a = tt

@@ -30,7 +30,7 @@ use Rattle.yf_laws.proofs.Formatted.MendedContents.{LineThere, first_content_of}
 use Rattle.yf_laws.proofs.Formatted.MendedScalars.{follow_drop}
 use Rattle.yf_rule_sets.proofs.RuleSets.DocumentLemmas.{char_boundary}
 
--- Lines that are read from a place on.
+-- Lines that are read from an offset on.
 
 line_here : {t : List ℕ} {l : Line} {ls : List Line} {y : List ℕ} (ys : List (List ℕ)) (x : List ℕ) → LineIs t l y → ((i : ℕ) → slice_get ys i ≡ Some x → LineThere t ls i x) → (i : ℕ) → slice_get (y ∷ ys) i ≡ Some x
     → LineThere t (l ∷ ls) i x
@@ -129,7 +129,7 @@ module _ (src : Table) (u : IsUtf8 src.text) (are : AreLines src.text src.lines)
         by [] e g = absurd cc
         by (m ∷ ms) e g = (ms, e ∙ ap (λ w. w ∷ ms) (same_Some _ _ g))
 
-  -- as the rule looks at it
+  -- as the rule inspects it
   pub content_is_at : (l : ℕ) (x : Node) (props : PropsValue) (style : ScalarStyle) (text : List ℕ) (lines : List (List ℕ)) (span : Span) (follows first indent : ℕ) → BlockAt src.text l x
       → x ≡ scalar (standing x) props style text lines → (standing x).span ≡ Some span → LinesBegunAt src.lines (content_start src.text span props) follows → BlockContent src.lines text follows first indent → indent ≡ l
   content_is_at l x props style text lines span follows first indent (block_at {at = at} {props = p} {style = st} {text = tx} {lines = ls} body z deep a) e f begun c =

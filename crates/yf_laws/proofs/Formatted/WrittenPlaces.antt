@@ -31,7 +31,7 @@ use Rattle.yf_rule_sets.proofs.RuleSets.DocumentLemmas.{char_boundary}
 
 -- Runs of characters.
 
--- from one place to another they are equally long
+-- parts between the same offsets are equally long
 same_run : {t : List ℕ} {p q : ℕ → Bool} {i j k : ℕ} {x y : List ℕ} → Many t p i j x → Many t q i k y → j ≡ k → length x ≡ length y
 same_run done done e = refl
 same_run {t} {q = q} {i = i} done (step (one n) c) e = let far = chain_forward (one_functional t q) c in let order = next_later t i in absurd (omega (arith, far, order, e))

@@ -129,7 +129,7 @@ module _ (c : Source) (d : CommentValue) where
       ∙ (ap (λ z. z || ((at_leaves row.leaves || at_leaves (leaves_on rows)) && not trails_key)) (sym (among_join (option_to_list row.key_comment) (keys_on rows) d))
       ∙ ap (λ z. is_among (keys_on (row ∷ rows)) d || (z && not trails_key)) (sym (leaves_join row.leaves (leaves_on rows)))))))
 
--- of the rows of a reading
+-- for the rows of a reading
 pub rows_exact : (m : Lists) (rows : List Row) (d : CommentValue) → is_among (flat_map (trailing (source_of m rows)) rows) d ≡ ends_line (source_of m rows) d
 unfolding at_leaves trails_key
 rows_exact m rows d =

@@ -24,7 +24,7 @@ use Rattle.yf_laws.proofs.Trails.TrailOthers.{firsts}
 use Rattle.std.specs.Str.{IsUtf8}
 use Rattle.yf_print.specs.Layouts.KeptColumns.{Columns}
 
--- Lines have bytes, and documents rows.
+-- Lines have bytes, and documents have rows.
 
 no_lines : (e : Ending) (ls : List Line) → bytes_after e ls ≡ [] → ls ≡ []
 no_lines e [] f = refl

@@ -23,9 +23,9 @@ use Rattle.yf_forms.specs.NormalForms.BareStart.{is_bare}
 use Rattle.yf_forms.specs.NormalForms.Normal.{setting_of}
 use Rattle.yf_print.specs.Layouts.KeptColumns.{Columns}
 
--- Comments that are taken out.
+-- Comments that are removed.
 
--- those before a row, with nothing known of the rows after it, and those that are left
+-- those before a row, with nothing known about the rows after it, and those that are left
 before_row : {p q : Columns} {x y : Row} {xs ys : List Row} {cs ds : List CommentValue} → SamePlaces p q (x ∷ xs) (y ∷ ys) cs ds → SamePlaces p q [] [] (filter (precedes_item x) cs) (filter (precedes_item y) ds)
 before_row no_comments = no_comments
 before_row {p} {q} {x} {y} (same_comment {c = c} {d = d} {cs = cs} {ds = ds} a b (same_place e f) k more) = by (precedes_item x c) (precedes_item y d) e (before_row more) where

@@ -1,4 +1,4 @@
--- Nodes that are matched have matched rows: as many, with places, notes and comments of keys that are matched.
+-- Matched nodes have matched rows: as many, with matched offsets, notes and comments of keys.
 use Rattle.std.proofs.Common.{◌≡◌, ℕ, Bool, true, false, true≢false, List, [], ◌∷◌, ◌++◌, map, Option, None, refl, sym, ap, ◌∙◌, subst}
 use Rattle.std.specs.Prelude.{◌&&◌, ◌-◌, if◌then◌else◌, is_some}
 use Rattle.yf_comments.specs.Comment.{CommentValue}

@@ -27,7 +27,7 @@ use Rattle.yf_laws.proofs.OutputLines.ColumnsHold.{StartsHold}
 
 -- Columns.
 
--- a multiple of the indentation, and no greater one than the limit
+-- a multiple of the indentation, no greater than the limit
 pub record IsStep (indent limit column : ℕ) : Type 0 where
   pub steps : ℕ
   pub is : column ≡ steps * indent
@@ -178,7 +178,7 @@ module _ (c : LayoutSetting) (limit : ℕ) where
   inner_loose : {n : ℕ} {x : Node} (margins : Margins) → NodeStepped n x → AtStep n margins.entries → margins.lines ≡ margins.entries → AreLoose (block_scalars (flat x)) (rows c margins x)
   inner_loose {n} margins a d e = a.rows_loose margins d (subst (λ k. AtStep (suc n) k) (sym e) (wider (suc n) (omega arith) d))
 
-  -- entries at a column of n steps at most, with a sign
+  -- entries at a column of at most n steps, with a sign
   explicit_stepped : {n : ℕ} {k v : Node} (column : ℕ) → NodeStepped (suc n) k → NodeStepped (suc n) v → AtStep n column
       → AreStepped (block_scalars (flat k) ++ block_scalars (flat v)) (explicit_pair c.style column k (rows c (key_margins c.style column k) k) (rows c (inner_margins c.style column) v))
   explicit_stepped {n} {k} {v} column a b d =
@@ -243,7 +243,7 @@ module _ (c : LayoutSetting) (limit : ℕ) where
       let two : b ≤ max a b = le-max_right a b in
       (omega (arith, one, l), omega (arith, two, l))
 
-  -- two or three nodes after one another
+  -- two or three nodes in sequence
   two_scalars : (xs ys : List EventInText) {rs : List Row} → AreStepped (block_scalars xs ++ block_scalars ys) rs → AreStepped (block_scalars (xs ++ ys)) rs
   two_scalars xs ys {rs} a = subst (λ z. AreStepped z rs) (sym (scalars_append xs ys)) a
 

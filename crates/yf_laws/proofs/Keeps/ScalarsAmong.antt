@@ -1,4 +1,4 @@
--- The block scalars among events: of two lists, and of a node on one line, which has none.
+-- The block scalars among events: those of two lists, and those of a node on one line, which has none.
 use Rattle.std.proofs.Common.{◌≡◌, ℕ, Bool, false, List, [], ◌∷◌, ◌++◌, refl, ap, ◌∙◌, append-nil}
 use Rattle.std.specs.Prelude.{if◌then◌else◌}
 use Rattle.std.proofs.lemmas.Grind.{flat_map-append}

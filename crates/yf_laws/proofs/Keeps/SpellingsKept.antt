@@ -1,4 +1,4 @@
--- Formatting leaves spellings and types as they are.
+-- Formatting leaves spellings and types unchanged.
 use Rattle.std.proofs.Common.{◌≡◌, ℕ, Bool, true, false, List, [], ◌∷◌, ◌++◌, map, flat_map, zip, Option, refl, sym, ap, ◌∙◌}
 use Rattle.std.specs.Prelude.{◌&&◌, if◌then◌else◌, chars}
 use Rattle.std.specs.Str.{IsUtf8}

@@ -141,7 +141,7 @@ are_normal t c n (d ∷ ds) h =
       nests = parts.0;
     }) (are_normal t c n ds parts.1)
 
--- of the reading r of a text
+-- for the reading r of a text
 abbrev pub trees_in : {m : Lists} {s : Style} → NormalForm m s → List DocumentTree
 trees_in {m} {s} f = map (normal_document f.text (setting_of f.reading s)) f.is.trees
 

@@ -36,7 +36,7 @@ either : {q : Style} {es : List EventInText} (x y : Node) (b : Bool) → SameBut
 either x y true a d = a
 either x y false a d = d
 
--- and with the brackets that are kept
+-- and with the kept brackets
 mutual
   settled_restyled : (t : List ℕ) (c : LayoutSetting) (margins : Margins) (x : Node) → SameButStyles c.style (flat x) (flat (settled c margins (styled t c x)))
   settled_restyled t c margins (scalar at props style text lines) = one_more false none_left
@@ -69,7 +69,7 @@ mutual
       restyled_append (settled_restyled t c (key_margins c.style column (styled t c k)) k)
       (restyled_append (settled_restyled t c (value_margins c column (styled t c k) (styled t c v)) v) (settled_pairs_restyled t c column ps))
 
--- of a document's root
+-- for a document's root
 pub root_restyled : (t : List ℕ) (c : LayoutSetting) (d : DocumentTree) → SameButStyles c.style (flat d.root) (flat (normal_document t c d).root)
 root_restyled t c d = settled_restyled t c (root_margins c.style) d.root
 

@@ -58,7 +58,7 @@ same_pair {k} {l} {v} {w} {ps} {qs} a b c = record {
   leaves = rw (a.leaves, b.leaves, c.leaves) refl;
 }
 
--- of collections with entries
+-- for collections with entries
 
 same_sequence : {at : NodeOffsets} {f g : Bool} {props : PropsValue} {x y : Node} {xs ys : Items} → SameItems (item x xs) (item y ys)
     → SameNode (sequence at f props (item x xs)) (sequence at g props (item y ys))
@@ -96,7 +96,7 @@ mutual
   pairs_same c column (pair k v ps) =
       same_pair (settled_same c (key_margins c.style column k) k) (settled_same c (value_margins c column k v) v) (pairs_same c column ps)
 
--- Nodes in the style of the house.
+-- Nodes in the house style.
 
 quoted_full : (props : PropsValue) (text : List ℕ) (q : Quotes) → is_empty_node props (style_in q) text ≡ false
 quoted_full props text Quotes.Single = refl

@@ -115,7 +115,7 @@ mutual
       ∙ (ap (λ w. forms c (key_site c.style column k) k ++ (w ++ forms_of_pairs c column (settled_pairs c column ps))) value
       ∙ ap (λ w. forms c (key_site c.style column k) k ++ (forms c (value_site c column k v) v ++ w)) others)
 
--- of the normal form of a document, whatever text it is asked with again
+-- for the normal form of a document, with any text
 document_stays : (t : List ℕ) (c : LayoutSetting) (d : DocumentTree) → document_forms [] (setting c.style []) c (normal_document t c d) ≡ document_forms t c c d
 document_stays t c d =
     let site : Site = site_at (root_margins c.style) in

@@ -1,4 +1,4 @@
--- A node of a normal form is in the style of the house already, with whatever text it is asked again.
+-- A node of a normal form is in the house style already, with any text.
 use Rattle.std.proofs.Common.{◌≡◌, ℕ, Bool, true, false, not, ◌&&◌, List, [], ◌∷◌, chars, Option, Some, None, refl, sym, ap, ◌∙◌, true≢false}
 use Rattle.std.specs.Prelude.{if◌then◌else◌}
 use Rattle.std.proofs.lemmas.Bool.{and_parts}
@@ -110,7 +110,7 @@ mutual
       let parts = kept_more_pairs t c x y ps k in
       rw (kept_house t c x parts.0, kept_house t c y parts.1, kept_pairs_house t c ps parts.2) refl
 
--- A normal form is in the style of the house.
+-- A normal form is in the house style.
 
 either : (c : LayoutSetting) (b f : Bool) (x y : Node) → (b ≡ true → House c x) → House c y → House c (if b && f then x else y)
 either c true true x y h k = h refl

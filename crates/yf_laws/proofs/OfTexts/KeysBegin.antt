@@ -1,4 +1,4 @@
--- In trees that are in a text the key of each pair begins an entry, and its value begins none.
+-- In trees that are in a text the key of each pair begins an entry, and its value doesn't.
 use Rattle.std.proofs.Common.{◌≡◌, ℕ, true, List, refl, ap}
 use Rattle.std.proofs.lemmas.Bool.{and_from}
 use Rattle.yf_events.specs.Tree.{Node, Items, Pairs, DocumentTree}

@@ -1,4 +1,4 @@
--- The leaves of trees that are in a text begin one after the other.
+-- The starts of the leaves of trees that are in a text rise.
 use Rattle.std.proofs.Common.{◌≡◌, ℕ, ◌<◌, ◌≤◌, true, List, [], ◌∷◌, ◌++◌, length, Option, refl, sym, subst, arith}
 use Rattle.std.specs.Prelude.{nat_lt}
 use Rattle.std.specs.List.{list_all}
@@ -14,7 +14,7 @@ use Rattle.yf_laws.proofs.Trails.DocumentTrails.{leaves_of}
 use Rattle.yf_laws.proofs.Trails.TrailChoice.{rising}
 use Rattle.yf_chars.proofs.Tests.{below}
 
--- leaves between two places, each after the end of the one before it
+-- leaves between two offsets, each after the end of the one before it
 pub data Steps : ℕ → List Span → ℕ → Type 0 where
   no_step : {i j : ℕ} → i ≤ j → Steps i [] j
   a_step : {i j : ℕ} {s : Span} {ss : List Span} → i ≤ s.start → s.start < s.end → Steps s.end ss j → Steps i (s ∷ ss) j
@@ -35,7 +35,7 @@ steps_to : {h i k j : ℕ} {ss : List Span} → h ≤ i → k ≤ j → Steps i 
 steps_to l m (no_step n) = no_step (omega (arith, l, m, n))
 steps_to l m (a_step n w a) = a_step (omega (arith, l, n)) w (steps_to (omega arith) m a)
 
--- such leaves begin one after the other
+-- the starts of such leaves rise
 
 all_later : {n j : ℕ} {ss : List Span} (m : ℕ) → m < n → Steps n ss j → list_all (λ (r : Span). nat_lt m r.start) ss ≡ true
 all_later m l (no_step k) = refl

@@ -1,4 +1,4 @@
--- The places of trees that are in a text are in order.
+-- The offsets of trees that are in a text are in order.
 use Rattle.std.proofs.Common.{◌≡◌, ℕ, suc, zero, ◌<◌, ◌≤◌, List, [], ◌∷◌, ◌++◌, map, length, Option, Some, sym, subst, arith}
 use Rattle.std.specs.Prelude.{option_to_list, slice_index_or}
 use Rattle.yf_events.specs.declared.directive.Directive.{Directive}
@@ -13,7 +13,7 @@ use Rattle.yf_stream.proofs.Offsets.ReadingTrees.{TreesStand, no_trees_stand, tr
 use Rattle.yf_laws.specs.NormalForms.OfText.{around, marks_in, marks_in_items, marks_in_pairs, marks_in_documents}
 use Rattle.yf_print.specs.Layouts.Rows.{colon_offset}
 
--- places in order, from one up to another
+-- offsets in order, from one up to another
 pub data Rises : ℕ → List ℕ → ℕ → Type 0 where
   no_place : {i j : ℕ} → i ≤ j → Rises i [] j
   a_place : {i k j : ℕ} {ms : List ℕ} → i ≤ k → Rises k ms j → Rises i (k ∷ ms) j

@@ -128,7 +128,7 @@ documents_run room (d ∷ ds) rest h =
     let a = node_runs room NestingState.Root [] d.root (end ∷ others) (moved room NestingState.Root [] _ _ (regrouped (flat d.root) end others) here) in
     and_from (nests room d.root) (documents_nest room ds) a.follows.nested (documents_run room ds rest (ends_document room d.closed others (awaited refl a)))
 
--- the trees of a reading nest so
+-- the trees of a reading nest within the limit
 pub trees_nest : (m : Lists) (n : ℕ) (ds : List DocumentTree) → TreesOf m ds → IsStream n (events_of m) → documents_nest n ds ≡ true
 trees_nest m n ds a h =
     documents_run n ds (unplaced stream_ends ∷ [])

@@ -1,4 +1,4 @@
--- The reading of a text has the places and spellings that the proofs of the layout ask for.
+-- The reading of a text has the offsets and spellings that the proofs of the layout require.
 use Rattle.std.proofs.Common.{◌≡◌, ℕ, true, List, refl}
 use Rattle.std.proofs.lemmas.Bool.{and_from}
 use Rattle.std.specs.Str.{IsUtf8}

@@ -201,7 +201,7 @@ head_column true start k (d ∷ ds) = refl
 head_column false start k [] = refl
 head_column false start k (d ∷ ds) = refl
 
--- of a stream; nothing follows
+-- for a stream; nothing follows
 stream_steps : (c : LayoutSetting) (is_first : Bool) (ds : List Doc) (trees : List DocumentTree) → Steps 0 (stream_rows c is_first ds trees) × (next_column 0 (stream_rows c is_first ds trees) ≡ 0)
 stream_steps c is_first [] trees = (no_steps, refl)
 stream_steps c is_first (d ∷ ds) [] = (no_steps, refl)

@@ -1,4 +1,4 @@
--- Which collections are open along the rows of documents, and so of a layout.
+-- The collections that are open along the rows of documents, and so of a layout.
 use Rattle.std.proofs.Common.{◌≡◌, ℕ, Bool, true, false, List, [], ◌∷◌, ◌++◌, map, refl, sym, ap, ◌∙◌, subst}
 use Rattle.yf_events.specs.declared.directive.Directive.{Directive}
 use Rattle.yf_events.specs.declared.document.Doc.{Doc}

@@ -84,7 +84,7 @@ module _ (t : List ℕ) (c : LayoutSetting) where
     -- on lines of their own, after a key: a leaf, or entries
     below : (margins : Margins) (b : OpenBlock) (bs : List OpenBlock) → InSteps w (b ∷ bs) → b.printed < margins.lines → FitsIn margins x b bs → (is_block_collection x ≡ false → leaves x ≡ [] → ⊥)
         → (is_block_collection x ≡ true → begins_below x ≡ true) → After (b ∷ bs) (rows c margins x) (λ now. Kept b now (b ∷ bs))
-    -- at the beginning of a document
+    -- at the start of a document
     root : (margins : Margins) → margins.column ≡ 0 → After [] (rows c margins x) (λ now. Unit {0})
 
   root_row : {x : Row} → x.starts ≡ [] → x.column ≡ 0 → BodyRight x.body x.lines [] → Chained t w [] (x ∷ []) []
@@ -362,6 +362,6 @@ module _ (t : List ℕ) (c : LayoutSetting) where
           starting = starting_append t w _ one.filled one.starting;
         }
 
-  -- at the beginning of a document
+  -- at the start of a document
   pub root_run : (x : Node) → Fit c.style x → (margins : Margins) → margins.column ≡ 0 → After [] (rows c margins x) (λ now. Unit {0})
   root_run x f margins e = (node_run x f).root margins e

@@ -1,4 +1,5 @@
--- What holds of the columns of comments that were laid out: of that of the next line, of the margin, and of those of the open collections.
+-- If a condition holds for the columns of the next line, of the margin, and of the open collections, it holds for the
+-- columns of laid-out comments.
 use Rattle.std.proofs.Common.{◌≡◌, ℕ, zero, suc, ◌+◌, Bool, true, false, true≢false, List, [], ◌∷◌, ◌++◌, Option, Some, None, refl, sym, ap, ◌∙◌, subst}
 use Rattle.std.proofs.lemmas.Option.{same_Some}
 use Rattle.std.specs.Prelude.{◌&&◌, filter, if◌then◌else◌, nat_lt, not}
@@ -18,7 +19,7 @@ use Rattle.yf_events.specs.declared.event.Span.{Span}
 
 -- Gaps.
 
--- what holds of the column of each comment
+-- the condition P holds for the column of each comment
 pub data GapHolds (P : ℕ → Type 0) : List GapLine → Type 0 where
   none_holds : GapHolds P []
   blank_holds : {gs : List GapLine} → GapHolds P gs → GapHolds P (blank ∷ gs)
@@ -46,11 +47,11 @@ every f (c ∷ cs) = each_more (f c) (every f cs)
 
 -- Comments among rows.
 
--- g are the columns of a comment that is somewhere among these rows, or after them
+-- g returns the column of a comment that is somewhere among these rows, or after them
 pub record WalkFrom (t : List ℕ) (s : Style) (g : Columns) (bs : List OpenBlock) (may : Bool) (rows : List Row) (d : CommentValue) : Type 0 where
   pub is : (next : ℕ) → g d next ≡ columns_if (keeps_blocks s) (column_among_rows t s bs may rows d) next
 
--- and directly before a row
+-- g returns the column of a comment directly before a row
 pub record WalkAbove (t : List ℕ) (s : Style) (g : Columns) (bs : List OpenBlock) (may : Bool) (row : Row) (d : CommentValue) : Type 0 where
   pub is : (next : ℕ) → g d next ≡ columns_if (keeps_blocks s) (column_above t s bs may row d) next
 
@@ -66,7 +67,7 @@ module _ {t : List ℕ} {s : Style} {g : Columns} {bs : List OpenBlock} {may : B
   pub walk_past : {d : CommentValue} → precedes_item row d ≡ false → WalkFrom t s g bs may (row ∷ rows) d → WalkFrom t s g (after_row t row bs) (is_bodyless row.body) rows d
   walk_past {d} e w = record { is = chosen d false e w }
 
-  -- of those before the first row, and of those after it
+  -- for the comments before the first row, and for those after it
   pub above_walk : {cs : List CommentValue} → Each (WalkFrom t s g bs may (row ∷ rows)) cs → Each (WalkAbove t s g bs may row) (filter (precedes_item row) cs)
   above_walk each_none = each_none
   above_walk (each_more {d = d} {ds = ds} w a) = go (precedes_item row d) refl (above_walk a) where
@@ -192,7 +193,7 @@ open_blocks {Q} y {bs} p a = go (goes_on y (not_ended y bs)) (not_ended_blocks y
   go true more = more
   go false more = one_block p more
 
--- of the columns of entries
+-- for the columns of entries
 abbrev pub StartsHold : (ℕ → Type 0) → List Start → Type 0
 StartsHold Q [] = Unit {0}
 StartsHold Q (s ∷ ss) = Q s.column × StartsHold Q ss

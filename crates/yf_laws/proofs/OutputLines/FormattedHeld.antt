@@ -1,4 +1,4 @@
--- What the readings of a formatted text hold of its rows.
+-- The relation of the readings of a formatted text to its rows.
 use Rattle.std.proofs.Common.{◌≡◌, ℕ, zero, suc, List, [], ◌∷◌, ◌++◌, Option, Some, sym, subst}
 use Rattle.std.specs.Prelude.{slice_get}
 use Rattle.std.specs.Str.{IsUtf8}

@@ -51,7 +51,7 @@ pub record ScalarAt (t : List ℕ) (event : EventValue) (part : Option Span) (co
   pub all : length body ≤ count
   pub reach : LinesBetween t count place span.end
 
--- an event with its part of the text, among events
+-- an event with its span, among events
 pub data Holds (event : EventValue) (part : Option Span) : List EventInText → Type 0 where
   here : {e : EventInText} {es : List EventInText} → e.event ≡ event → e.span ≡ part → Holds event part (e ∷ es)
   there : {e : EventInText} {es : List EventInText} → Holds event part es → Holds event part (e ∷ es)
@@ -101,7 +101,7 @@ bodies_more t es fs [] ds r f a = tt
 bodies_more t es fs (x ∷ xs) ds r f a =
     (record { seen = a.0.seen; body = body_more t es fs x.body x.lines (body_then x.body (gap_then (first ds).gap (lines_then xs (after ds) r))) f a.0.body }, bodies_more t es fs xs (after ds) r f a.1)
 
--- rows one after the other
+-- rows in sequence
 pub bodies_append : (t : List ℕ) (es : List EventInText) (xs ys : List Row) (ds : List Deco) (r : List ℕ) → BodiesHeld t es xs ds (lines_then ys (past xs ds) r) → BodiesHeld t es ys (past xs ds) r
     → BodiesHeld t es (xs ++ ys) ds r
 bodies_append t es [] ys ds r a b = b

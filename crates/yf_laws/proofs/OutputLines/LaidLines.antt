@@ -1,5 +1,5 @@
--- The lines of a layout, each with its text: those of rows, with the comments that trail them and the lines of block scalars, and those
--- between rows; and that they are the lines of the text.
+-- The lines of a layout, each with its text: those of rows, with the comments that trail them and the lines of block
+-- scalars, and those between rows. They are the lines of the text.
 use Rattle.std.proofs.Common.{◌≡◌, ◌≢◌, ℕ, zero, suc, ◌+◌, ◌<◌, ◌≤◌, ◌⊎◌, inl, inr, ⊎_elim, true, false, true≢false, List, [], ◌∷◌, ◌++◌, length, drop, replicate, Some, refl, sym, ap, ◌∙◌, subst, arith, append_assoc, length-append, length-drop}
 use Rattle.std.specs.Prelude.{slice_get}
 use Rattle.std.specs.Str.{IsUtf8}
@@ -100,7 +100,7 @@ nb_there {t} {i = i} u (step (one e) c) h l m =
     (λ (n : next t i ≤ h). nb_there u c h n m) (cases_lt h (next t i)))
     (cases_eq h i)
 
--- such an offset is at no character that is none of a line
+-- such an offset is not at a character that isn't an nb-char
 pub nb_no : (c d : ℕ) → c < no_char → is_nb_char c ≡ false → (is_nb_char d ≡ true) ⊎ (d ≡ no_char) → d ≢ c
 nb_no c d l n a e = ⊎_elim (λ (b : is_nb_char d ≡ true). true≢false (sym b ∙ (ap is_nb_char e ∙ n))) (λ (b : d ≡ no_char). omega (arith, l, b, e)) a
 
@@ -130,7 +130,7 @@ line_is {t} l x r u a m s =
     let same : l ≡ made = same_line t l made m line refl in
     (record { follows = r; there = s; text = a; end = ap (λ (w : Line). w.end) same; next = ap (λ (w : Line). w.next) same ∙ ap (λ k. k + 1) (sym (ap (λ (w : Line). w.end) same)) }, refl)
 
--- lines of a text from a place to its end are those that are read there
+-- the lines of a text from an offset to its end are those that are read there
 pub lines_are : {t : List ℕ} {xs : List (List ℕ)} (ls : List Line) {q : ℕ} → IsUtf8 t → AreLines xs → Follow t q (length t) ls → Rest t q (body_then xs []) → LinesAre t ls xs
 lines_are [] u no_line f s = no_lines
 lines_are (l ∷ ls) u no_line f s =

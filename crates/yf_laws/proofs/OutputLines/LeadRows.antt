@@ -1,4 +1,4 @@
--- Rows before which a blank line may be begin with an entry, and no such row begins with a percent sign.
+-- Rows that may follow a blank line begin with an entry, and no such row begins with a percent sign.
 use Rattle.std.proofs.Common.{◌≡◌, ◌≢◌, ℕ, pos, ◌-◌, Bool, true, false, true≢false, List, [], ◌∷◌, ◌++◌, get_or, map, replicate, Option, Some, None, refl, sym, ◌∙◌, subst, arith, append-nil}
 use Rattle.std.specs.Str.{IsUtf8}
 use Rattle.yf_chars.specs.declared.context.Ctx.TheVariants.{BlockKey}
@@ -40,7 +40,7 @@ leads_append : {xs ys : List Row} → LeadRows xs → LeadRows ys → LeadRows (
 leads_append no_lead b = b
 leads_append (lead_more a more) b = lead_more a (leads_append more b)
 
--- a row before which none may be
+-- a row that may not follow a blank line
 unspaced : {x : Row} → x.blank_before ≡ false → IsLead x
 unspaced e = record { none = λ f. absurd (true≢false (sym f ∙ e)) }
 

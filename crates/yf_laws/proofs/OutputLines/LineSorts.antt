@@ -46,7 +46,7 @@ pub data Solid (t : List ℕ) (es : List EventInText) (all : List Line) (k : ℕ
   solid_seen : is_white (code t (l.end - 1)) ≡ false → l.start < l.end → Solid t es all k l
   solid_scalar : {x : List ℕ} → InScalar t es all k x → Solid t es all k l
 
--- the line before that of the index, after which a blank line may be
+-- the line before the one at the index, after which a blank line is allowed
 pub record LineBefore (t : List ℕ) (es : List EventInText) (all : List Line) (k : ℕ) : Type 0 where
   pub index : ℕ
   pub next : k ≡ suc index
@@ -55,7 +55,7 @@ pub record LineBefore (t : List ℕ) (es : List EventInText) (all : List Line) (
   pub solid : Solid t es all index line
   pub undashed : ForbiddenLine t line.start → code t line.start ≡ 45 → ⊥
 
--- the line of the index, before which one may be
+-- the line at the index, before which a blank line is allowed
 pub record LineAfter (t : List ℕ) (all : List Line) (k : ℕ) : Type 0 where
   pub line : Line
   pub at : slice_get all k ≡ Some line

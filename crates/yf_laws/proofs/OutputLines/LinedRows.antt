@@ -279,7 +279,7 @@ module _ {t : List ℕ} (u : IsUtf8 t) (es : List EventInText) (all : List Line)
   bodies_of (a_text f) = f.body
   bodies_of (a_marker f) = subst (λ w. AreBodyTexts w) (sym f.body) no_body_text
 
-  -- the last line of a row, after which a blank line may be
+  -- the last line of a row, after which a blank line is allowed
   row_before : (k : ℕ) (l : Line) (ls : List Line) (x : Row) (d : Deco) (texts : List (List ℕ)) → KindRow x → may_be_blank_after x.ending ≡ true → drop k all ≡ l ∷ ls
       → LineIs t l (own_line x d) → SeenLine t l → LinesAre t ls (x.body ++ texts) → ((i : ℕ) (y : List ℕ) → slice_get x.body i ≡ Some y → InScalar t es all (suc k + i) y)
       → LineBefore t es all (suc k + length x.body)

@@ -59,7 +59,7 @@ use Rattle.yf_laws.proofs.Derived.ClearRows.{place_of_rest, trails_are, trails_b
 use Rattle.yf_laws.proofs.Derived.RowEnds.{trails_at}
 use Rattle.yf_laws.proofs.OutputLines.WellSet.{AllSet, set_append, end_at_line, own_set, rest_next}
 
--- How far it reaches.
+-- Its end.
 
 abbrev event_of : ScalarStyle → List ℕ → List (List ℕ) → ℕ → ℕ → EventInText
 event_of style text lines i j = record { event = scalar_node no_props style text; span = from_to i j; tag_offset = None; entry = None; folded = lines }

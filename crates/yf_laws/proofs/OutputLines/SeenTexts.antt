@@ -1,4 +1,4 @@
--- Texts that begin with a visible character other than #, as no comment and no blank line does.
+-- Texts that begin with a visible character other than #, so that they are not comments or blank lines.
 use Rattle.std.proofs.Common.{◌≡◌, ◌≢◌, ℕ, pos, ◌<◌, ◌≤◌, Bool, true, false, List, [], ◌∷◌, ◌++◌, encode_utf8, drop, refl, sym, ap, ◌∙◌, subst, arith, append_assoc, append-nil, Option, Some, None}
 use Rattle.std.proofs.lemmas.List.{take-append-drop}
 use Rattle.std.proofs.lemmas.Str.{encode_ascii}
@@ -32,7 +32,7 @@ seen_ascii c w l h n = record { char = c; follows = w; ns = ascii_ns c l h; no_h
 pub seen_more : {w : List ℕ} (z : List ℕ) → IsSeen w → IsSeen (w ++ z)
 seen_more z a = record { char = a.char; follows = a.follows ++ z; ns = a.ns; no_hash = a.no_hash; is = ap (λ v. v ++ z) a.is ∙ append_assoc (encode_utf8 a.char) a.follows z }
 
--- what reads back as a node
+-- texts that read back as a node
 pub seen_back : {json colon : Bool} {c : Ctx} {w : List ℕ} {height : ℕ} {mean : ℕ → Meaning} → is_block c ≡ false → Back json colon c w height mean → IsSeen w
 seen_back {w = w} k a =
     let u : IsUtf8 w = line_utf8 a.line in

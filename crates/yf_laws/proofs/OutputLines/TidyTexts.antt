@@ -1,4 +1,4 @@
--- Texts that end with no white space: comments as they are printed; and lines of a text with such a text.
+-- Texts that don't end with white space: comments as they are printed; and lines of a text with such a text.
 use Rattle.std.proofs.Common.{◌≡◌, ◌≢◌, ℕ, zero, suc, ◌+◌, ◌-◌, ◌<◌, ◌⊎◌, inl, inr, ⊎_elim, Bool, true, false, true≢false, List, [], ◌∷◌, ◌++◌, length, get_or, get_or-drop, length-append, refl, sym, ap, ◌∙◌, arith}
 use Rattle.std.specs.Prelude.{◌&&◌, if◌then◌else◌, map, filter}
 use Rattle.std.specs.List.{list_all}
@@ -19,7 +19,7 @@ use Rattle.yf_print.specs.Layouts.Rows.{Row, Ending, anywhere}
 use Rattle.yf_laws.proofs.OutputLines.LaidLines.{LineIs}
 use Rattle.yf_print.specs.Layouts.KeptColumns.{Columns}
 
--- none, or one that ends with no white space
+-- no text, or one that doesn't end with white space
 abbrev pub IsTidy : List ℕ → Type 0
 IsTidy w = (w ≡ []) ⊎ (is_white (last_or 0 w) ≡ false)
 
@@ -125,7 +125,7 @@ line_tidy {t} {l} {x = c ∷ w} u a some n =
     absurd (true≢false (sym e ∙ (ap is_white (sym byte.1 ∙ line_last c w a) ∙ n))))
     (λ (e : is_white (code t (l.end - 1)) ≡ false). e) (cases_Bool (is_white (code t (l.end - 1))))
 
--- and the other way round
+-- and conversely
 pub tidy_line : {t : List ℕ} {l : Line} {x : List ℕ} → IsUtf8 t → LineIs t l x → x ≢ [] → is_white (code t (l.end - 1)) ≡ false → is_white (last_or 0 x) ≡ false
 tidy_line {x = []} u a some n = absurd (some refl)
 tidy_line {t} {l} {x = c ∷ w} u a some n =

@@ -67,7 +67,7 @@ leaves_are (l ∷ ls) m = leaves_are ls (leaf_marked m) ∙ ap (λ b. record m {
   all [] = refl
   all (k ∷ ks) = refl
 
--- those of a row
+-- for a row
 pub record RowMarks (t : List ℕ) (row : Row) (m : LineMarks) : Type 0 where
   pub starts : m.starts ≡ map (block_of t) row.starts
   pub leaf : m.has_leaf ≡ any_leaf row.leaves false
@@ -139,7 +139,7 @@ each_column r d first marks chain bodyless each_none = each_none
 each_column r {g} {row} {bs} {may} d first marks chain bodyless (each_more {d = c} w more) =
     each_more (above_same r row bs may d c first marks chain bodyless ∙ sym (w.is row.column)) (each_column r d first marks chain bodyless more)
 
--- of a comment after all rows
+-- for a comment after all rows
 pub last_column : (r : Remarks) {g : Columns} {bs : List OpenBlock} {may : Bool} {cs : List CommentValue} (d : Draft) → d.first ≡ None → d.marks ≡ no_marks → d.chain ≡ bs → d.is_bodyless ≡ may
     → Each (WalkFrom r.text r.style g bs may []) cs → Each (λ c. line_column r 0 d c ≡ g c 0) cs
 last_column r d first marks chain bodyless each_none = each_none

@@ -1,4 +1,4 @@
--- The pass of the printer over the events of a stream of normal forms adds the rows of the stream.
+-- The printer's pass over the events of a stream of normal forms adds the rows of the stream.
 use Rattle.std.proofs.Common.{◌≡◌, ℕ, zero, suc, ◌+◌, ◌≤◌, ◌<◌, Bool, true, false, List, [], ◌∷◌, ◌++◌, length, map, flat_map, drop, Some, refl, sym, ap, ◌∙◌, subst, arith, append_assoc, append-nil, add-one}
 use Rattle.std.specs.Prelude.{◌-◌, ◌^◌, ◌*◌, ◌==◌, slice_get, if◌then◌else◌, ◌&&◌}
 use Rattle.std.proofs.lemmas.Bool.{and_parts}
@@ -64,7 +64,7 @@ record DocumentsAt (k : Known) (i n : ℕ) (ds : List DocumentTree) : Type 0 whe
   forms : Part k.work.forms (flat_map (forms_in k) ds) i
   room : 8 * n + 8 ≤ 2 ^ 64 - 1
 
--- an event of a document that gets a look
+-- an event of a document that isn't skipped
 looked_at : (g : Work) (i : ℕ) (e : EventInText) (es : List EventInText) (w v : PrintState) → w.done < i → looked g i e w ≡ v → pass g i (e ∷ es) w ≡ pass g (i + 1) es v
 unfolding pass
 looked_at g i e es w v l h = ap (λ b. pass g (i + 1) es (if b then looked g i e w else w)) (below w.done i l) ∙ ap (pass g (i + 1) es) h
@@ -79,7 +79,7 @@ document_there (y ∷ xs) (suc j) x ys e = document_there xs j x ys e
 not_first : (j : ℕ) → (j + 1 == 0) ≡ false
 not_first j = grind (arith, nat_tests)
 
--- the `---` of the first document is left out, as it is found
+-- the `---` of the first document is left out, as the pass finds
 abbrev pub leaves_out : Known → Bool
 leaves_out k = is_found_bare k.work.reading k.work.style
 
@@ -139,7 +139,7 @@ documents_after k i n d ds a = record {
   room = a.room;
 }
 
--- what one document adds
+-- the rows of one document
 record Added (k : Known) (i j : ℕ) (d : DocumentTree) (w : PrintState) (e : Draft) : Type 0 where
   done : ℕ
   within : done < i + length (flat_document d)
@@ -229,7 +229,7 @@ bare_printed k n x xs t ds a m e o some =
     document_then k 1 n 0 0 t ds no_draft one (bare_rows (setting_in k) x t) (stream_rows (setting_in k) false xs ds) no_draft refl added
     (documents_printed k (1 + length (flat_document t)) n 1 added.done false xs ds one (documents_after k 1 n t ds a) added.within m there.1 refl refl)
 
--- the whole text is what its rows come to
+-- the whole text consists of its rows
 pub stream_printed : (k : Known) (n : ℕ) (ds : List DocumentTree) → k.work.reading.events ≡ flat_stream ds → length k.work.reading.documents ≡ length ds
     → documents_are_placed ds ≡ true → keys_begin_in_documents ds ≡ true → AreNormal (setting_in k) n ds → 8 * n + 8 ≤ 2 ^ 64 - 1
     → k.work.forms ≡ stream_forms [] (setting k.work.style []) (setting_in k) ds → FitsBare (leaves_out k) k.work.reading.documents ds → RootsLaid (setting_in k) (leaves_out k) ds

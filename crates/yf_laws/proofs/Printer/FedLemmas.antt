@@ -1,4 +1,4 @@
--- Rows that are added to a draft one after the other come out as the lines of the layout.
+-- Rows that are added to a draft in sequence are printed as the lines of the layout.
 use Rattle.std.proofs.Common.{◌≡◌, ℕ, zero, suc, ◌+◌, ◌-◌, ◌≤◌, Bool, true, false, ◌&&◌, List, [], ◌∷◌, ◌++◌, length, map, flat_map, get_or, take, drop, replicate, Option, Some, None, refl, sym, ap, ◌∙◌, subst, arith, append_assoc, append-nil}
 use Rattle.std.specs.Prelude.{filter, not, min, option_to_list, if◌then◌else◌, nat_lt}
 use Rattle.std.proofs.lemmas.List.{length-drop}
@@ -196,7 +196,7 @@ on_row text column line trails body blank follow met passed may first marks bs b
   is_bodyless = bodyless;
 }
 
--- the items that are met
+-- the items that are passed
 past_is : (cs : List CommentValue) (items : List ℕ) (d : Draft) → all_past cs items d ≡ record d { met = d.met + counted items (drop d.met cs); first = firsts items d.first }
 past_is cs [] d = let e : d.met ≡ d.met + 0 = omega arith in ap (λ w. record d { met = w }) e
 past_is cs (o ∷ os) d =
@@ -206,7 +206,7 @@ past_is cs (o ∷ os) d =
     past_is cs os (past cs o d)
     ∙ (ap (λ w. record d { met = d.met + n + counted os w; first = first }) (sym (drop_twice d.met n cs)) ∙ ap (λ w. record d { met = w; first = first }) e)
 
--- the line is printed, after the comments that were met
+-- the line is printed, after the comments that were passed
 closed_is : (r : Remarks) (text line trails body : List ℕ) (column : ℕ) (blank follow may : Bool) (met passed : ℕ) (first : Option ℕ) (marks : LineMarks) (bs : List OpenBlock) (bodyless : Bool)
     → (h : CommentValue → ℕ) → h ≡ line_column r column (on_row text column line trails body blank follow met passed may first marks bs bodyless)
     → closed r (on_row text column line trails body blank follow met passed may first marks bs bodyless)

@@ -1,5 +1,5 @@
--- Rows that are added to a draft one after the other come out as the lines of the layout: the comments before each row are those that an
--- item on it follows.
+-- Rows that are added to a draft in sequence are printed as the lines of the layout: the comments before each row are
+-- those followed by an item on it.
 use Rattle.std.proofs.Common.{◌≡◌, ℕ, zero, suc, ◌+◌, Bool, true, false, ◌&&◌, List, [], ◌∷◌, ◌++◌, length, get_or, take, drop, refl, sym, ap, ◌∙◌, arith}
 use Rattle.std.specs.Prelude.{filter, not, ◌||◌, nat_lt, nat_le, if◌then◌else◌}
 use Rattle.std.specs.List.{list_all, list_any}
@@ -39,7 +39,7 @@ left_append trailing k (x ∷ xs) ys =
       by true h = h
       by false h = ap (λ w. x ∷ w) h
 
--- all of them have an offset before this one, or from it on
+-- all of them have an offset before this one, or all at or after it
 abbrev before : ℕ → List CommentValue → Bool
 before o cs = list_all (λ c. nat_lt c.offset o) cs
 

@@ -61,7 +61,7 @@ joined_row head n row = record {
   lines = row.lines;
 }
 
--- what marks a line
+-- the marks of a line
 abbrev pub row_marks : Remarks → Row → LineMarks → LineMarks
 row_marks r row m = leaves_marked row.leaves (starts_marked r row.starts m)
 
@@ -139,7 +139,7 @@ joined_is r t head n row d h =
     ∙ (sym (past_edited cs row.items other both body follow then_marks after)
     ∙ (sym (past_twice cs row.items other both body follow then_marks d head.items (d.line ++ head.text ++ spaces) (d.trails ++ flat_map t head.leaves) first)
     ∙ ap (λ w. with_row r t row (with_text spaces w)) (sym (head_is r t head d h)))))))) where
-      -- an edit takes the place of an earlier one
+      -- an edit replaces an earlier one
       past_twice : (cs : List CommentValue) (xs : List ℕ) (line trails body : List ℕ) (follow : Bool) (marks : LineMarks) (d : Draft) (items : List ℕ) (line' trails' : List ℕ) (marks' : LineMarks)
           → all_past cs xs (edited line trails body follow marks (edited line' trails' d.body d.may_follow marks' (all_past cs items d)))
           ≡ all_past cs xs (edited line trails body follow marks (all_past cs items d))

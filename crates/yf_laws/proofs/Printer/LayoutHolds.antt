@@ -70,6 +70,6 @@ printout_writes t m s u p f =
 pub is_printed : (t : List ℕ) (m : Lists) (s : Style) (u : List ℕ) → Printout t m s u → IsPrinted t m s u
 is_printed t m s u p = record { printout = p; writes = printout_writes t m s u p }
 
--- so is the text that is printed by measures and forms of the reading
+-- and the text printed from the measures and forms of the reading
 pub planned : LayoutsArePrinted
 planned t m s ms fs u measured decided e = is_printed t m s u (record { measures = ms; forms = fs; measured = measured; decided = decided; is = e })

@@ -35,7 +35,7 @@ put_value k None true rows d = fed (remarks_of k.work) k.trail rows (without_bla
 put_value k None false rows d = fed_after (remarks_of k.work) k.trail 1 rows d
 put_value k (Some c) below rows d = fed (remarks_of k.work) k.trail rows (without_blank (with_key_trail k.work.reading.comments (Some c) d))
 
--- the rows of a node with its margins: after a key which comment trails it, and whether the node begins below
+-- the rows of a node with its margins: the comment that trails its key, if any, and whether the node begins below
 abbrev pub put : Known → Option ℕ → Bool → Printer.Role → List Row → Draft → Draft
 put k key below Printer.Role.Root rows d = fed (remarks_of k.work) k.trail rows d
 put k key below (Printer.Role.After column) rows d = fed_after (remarks_of k.work) k.trail (k.work.style.indent - 1) rows d

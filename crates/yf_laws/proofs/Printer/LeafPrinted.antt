@@ -71,7 +71,7 @@ leaf_within k i last x e tail d h a l f s t is ss n =
     ∙ (ap (λ w. met k w (spans_of_leaf o ++ []) d) (append-nil (map (λ s. s.start) (spans_of_leaf o)) ∙ sym is)
     ∙ ap (λ w. met k (items_in x) w d) (append-nil (spans_of_leaf o) ∙ sym ss))
 
--- of a collection with entries
+-- for a collection with entries
 filled_within : (k : Known) (i last : ℕ) (x : Node) (e end : EventInText) (ys : List EventInText) (d : Draft) → is_placed x ≡ true → Among k.work.reading.events (flat x) i
     → last + 1 ≡ i + length (flat x) → flat x ≡ e ∷ (ys ++ (end ∷ [])) → is_text x ≡ false → end.span ≡ None → end.entry ≡ None → EventsPrinted k (i + 1) ys (items_in x) (leaves x)
     → Printing.node_noted k.work i last e d ≡ met k (items_in x) (leaves x) d

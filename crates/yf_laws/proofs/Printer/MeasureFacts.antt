@@ -24,11 +24,11 @@ use Rattle.yf_print.specs.Passes.PrintWork.{Work}
 abbrev pub asked : Measure → Measure
 asked m = record { last = m.last; width = None; can_be_kept = false; first_leaf = m.first_leaf; last_leaf = None }
 
--- of the measure of a node
+-- for the measure of a node
 abbrev pub asked_of : ℕ → Node → Measure
 asked_of i x = record { last = i + length (flat x) - 1; width = None; can_be_kept = false; first_leaf = first_of (leaf_indices i x); last_leaf = None }
 
--- the list says so much of each node
+-- the list states this for each node
 pub record MeasuresTell (es : List EventInText) (ms : List Measure) : Type 0 where
   pub each : (i : ℕ) (x : Node) → NodeAt es i x → asked (get_or ms i no_measure) ≡ asked_of i x
 

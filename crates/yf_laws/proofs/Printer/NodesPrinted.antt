@@ -1,4 +1,5 @@
--- The pass of the printer over the events of any node of a normal form adds the rows of the node, and leaves the collections round it open.
+-- The printer's pass over the events of any node of a normal form adds the rows of the node, and leaves the collections
+-- around it open.
 use Rattle.std.proofs.Common.{◌≡◌, ℕ, zero, suc, ◌+◌, Bool, true, false, List, [], ◌∷◌, ◌++◌, length, codes, Option, None, refl, sym, ap, ◌∙◌, subst, true≢false}
 use Rattle.std.specs.Prelude.{◌-◌, is_some, if◌then◌else◌}
 use Rattle.yf_comments.specs.Comment.{CommentValue}
@@ -35,7 +36,7 @@ pair_filled c column x y xs ys = by (is_implicit c.style column x) where
   by true = filled_pair (key_row c.style column x) (key_comment c.comments x y) _ ys
   by false = filled_append (after_sign c.style (entry_row column (codes "?") x) xs) (after_sign c.style (colon_row column x) ys) (filled_joined (entry_row column (codes "?") x) (c.style.indent - 1) xs)
 
--- whether the next entry goes on the line that is being made
+-- whether the next entry goes on the current line
 abbrev after_items : Bool → Items → Bool
 after_items inline no_items = inline
 after_items inline (item x xs) = false

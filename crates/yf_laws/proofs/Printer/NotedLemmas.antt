@@ -1,4 +1,4 @@
--- The pass over the events of a node on one line goes past its items, and adds what trails its leaves.
+-- The pass over the events of a node on one line passes its items, and adds what trails its leaves.
 use Rattle.std.proofs.Common.{◌≡◌, ℕ, ◌+◌, ◌≤◌, Bool, true, false, ◌&&◌, List, [], ◌∷◌, ◌++◌, length, map, flat_map, get_or, Option, Some, None, refl, sym, ap, ◌∙◌, arith, append_assoc, append-nil}
 use Rattle.std.specs.Prelude.{is_some, if◌then◌else◌}
 use Rattle.std.proofs.lemmas.Bool.{and_parts}
@@ -148,7 +148,7 @@ first_event k j e x h n f t = noted_event k j e (entry_start x) [] (λ d.
     ap (λ b. leaf_noted_if b k.work j e.span (entry_met k.work e.entry d)) (leaf_there k j x h n ∙ t)
     ∙ (ap (λ w. entry_met k.work w d) f ∙ entry_is k (standing x).entry d))
 
--- a collection's events round those in it
+-- a collection's events around those in it
 around : (k : Known) (j : ℕ) (first last : EventInText) (ys : List EventInText) (is js : List ℕ) (ss : List Span) → EventsPrinted k j (first ∷ []) is [] → last.span ≡ None → last.entry ≡ None
     → EventsPrinted k (j + 1) ys js ss → EventsPrinted k j (first ∷ (ys ++ (last ∷ []))) (is ++ js) ss
 around k j first last ys is js ss h s n i =

@@ -54,7 +54,7 @@ no_block s column (mapping at flow props no_pairs) e = absurd (true≢false (sym
 no_block s column (mapping at true props (pair k v ps)) e = absurd (true≢false (sym e))
 no_block s column (mapping at false props (pair k v ps)) e = refl
 
--- the rows of an implicit key are one, or none
+-- an implicit key has one row, or none
 pub key_rows : (c : LayoutSetting) (margins : Normal.Margins) (column : ℕ) (x : Node) → House c x → is_implicit c.style column x ≡ true
     → rows c margins x ≡ one_line_row margins.column x (written c.style x)
 key_rows c margins column (scalar at props Plain text lines) h e = refl

@@ -1,4 +1,4 @@
--- The pass of the printer over the events of a node adds the rows of the node.
+-- The printer's pass over the events of a node adds the rows of the node.
 use Rattle.std.proofs.Common.{◌≡◌, ℕ, zero, suc, ◌+◌, ◌-◌, ◌≤◌, Bool, true, false, ◌&&◌, List, [], ◌∷◌, length, get_or, refl, sym, ap, ◌∙◌, subst, arith, true≢false}
 use Rattle.std.specs.Prelude.{◌^◌, ◌*◌, if◌then◌else◌}
 use Rattle.yf_events.specs.Tree.{Node, scalar, alias, sequence, mapping, Items, no_items, item, Pairs, no_pairs, pair, flat, is_block_collection, is_collection, is_filled_flow, props_of, standing}

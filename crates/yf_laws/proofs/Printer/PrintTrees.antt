@@ -1,4 +1,4 @@
--- The pass of the printer over the events of any node of a normal form adds the rows of the node.
+-- The printer's pass over the events of any node of a normal form adds the rows of the node.
 use Rattle.std.proofs.Common.{◌≡◌, ℕ, suc, ◌+◌, ◌-◌, ◌≤◌, Bool, true, false, not, ◌&&◌, List, [], ◌∷◌, ◌++◌, length, get_or, None, refl, sym, ap, ◌∙◌, subst, arith, true≢false}
 use Rattle.std.specs.Prelude.{◌^◌, ◌*◌}
 use Rattle.std.proofs.lemmas.Bool.{and_parts}
@@ -60,7 +60,7 @@ block_draft k i n site x levels xs d a b t f w r =
 cut : (n m : ℕ) → n + 8 * m + 8 ≤ 2 ^ 64 - 1 → up_to_greatest n ≡ n
 cut n m l = omega (arith, l)
 
--- round its entries are its beginning and its end
+-- its start and its end are around its entries
 pub open_reaches : (k : Known) (i docs n : ℕ) (site : Site) (x : Node) (levels : List PrintFrame) (first : FrameState) (e end : EventInText) (ys : List EventInText) (xs : List Row) (d : Draft)
     → At k i n site x levels → flat x ≡ e ∷ (ys ++ (end ∷ []))
     → ((f : Form) (p : ℕ) → Printing.is_whole i (measure k i x) f ≡ false → Printing.past_event k.work i (measure k i x) f e e.event (state d levels docs p)

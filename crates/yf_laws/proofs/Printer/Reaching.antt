@@ -12,7 +12,7 @@ use Rattle.yf_print.specs.Passes.PrintWork.{Work}
 use Rattle.yf_laws.proofs.Printer.SkipLemmas.{pass_append, pass_skips}
 use Rattle.yf_chars.proofs.Tests.{below}
 
--- the last event that needs no look is among those that were passed
+-- the last event that is skipped is among those that were passed
 pub record PrinterAt (g : Work) (i : ℕ) (ys : List EventInText) (docs : ℕ) (w : PrintState) (e : Draft) (follows : List PrintFrame) : Type 0 where
   pub done : ℕ
   pub within : done < i + length ys
@@ -46,7 +46,7 @@ reaches_same g i docs ys d e f levels follows q h = record {
   goes = λ p l. let one = h.goes p l in record { done = one.done; within = one.within; is = one.is ∙ ap (λ w. state w follows docs one.done) q };
 }
 
--- an event that gets a look
+-- an event that isn't skipped
 pub reaches_event : (g : Work) (i docs : ℕ) (x : EventInText) (d e : Draft) (levels follows : List PrintFrame)
     → ((p : ℕ) → looked g i x (state d levels docs p) ≡ state e follows docs p) → Reaches g i (x ∷ []) docs d e levels follows
 unfolding pass
@@ -58,7 +58,7 @@ reaches_event g i docs x d e levels follows h = record {
   };
 }
 
--- one after which no event of a node gets a look, up to an index
+-- an event after which all events of a node are skipped, up to an index
 pub reaches_whole : (g : Work) (i docs last : ℕ) (x : EventInText) (tail : List EventInText) (d e : Draft) (levels follows : List PrintFrame) → last + 1 ≡ i + suc (length tail)
     → ((p : ℕ) → looked g i x (state d levels docs p) ≡ state e follows docs last) → Reaches g i (x ∷ tail) docs d e levels follows
 unfolding pass
@@ -71,7 +71,7 @@ reaches_whole g i docs last x tail d e levels follows n h = record {
   };
 }
 
--- one that begins a collection, so that the next one gets a look
+-- an event that begins a collection, so that the next one isn't skipped
 pub reaches_begun : (g : Work) (i docs : ℕ) (x : EventInText) (d e : Draft) (levels follows : List PrintFrame)
     → ((p : ℕ) → looked g i x (state d levels docs p) ≡ state e follows docs i) → Reaches g i (x ∷ []) docs d e levels follows
 unfolding pass
@@ -83,7 +83,7 @@ reaches_begun g i docs x d e levels follows h = record {
   };
 }
 
--- Forms that are from an index on.
+-- Forms from an index on.
 
 pub record Part (all fs : List Form) (i : ℕ) : Type 0 where
   pub before : List Form

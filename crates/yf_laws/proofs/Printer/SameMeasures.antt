@@ -1,4 +1,4 @@
--- The pass that measures finds of the normal events what it found of the events before, as far as the printer asks.
+-- The measuring pass finds for the normal events what it found for the original events, in what the printer uses.
 use Rattle.std.proofs.Common.{◌≡◌, ℕ, zero, suc, Bool, true, false, ◌&&◌, List, [], ◌∷◌, ◌++◌, map, length, set, Option, Some, None, refl, sym, ap, ◌∙◌, subst}
 use Rattle.std.specs.Prelude.{if◌then◌else◌}
 use Rattle.std.proofs.lemmas.List.{length-map, map-append}

@@ -1,5 +1,5 @@
--- The pass goes past two lists one after the other, and gives no look to events within a node that is printed; at the beginning of a
--- document it adds the rows of the document's beginning.
+-- The pass handles two lists in sequence, and skips events within a node that is printed. At the start of a document it
+-- adds the rows of that start.
 use Rattle.std.proofs.Common.{◌≡◌, ℕ, suc, ◌+◌, ◌≤◌, Bool, true, false, ◌&&◌, List, [], ◌∷◌, ◌++◌, length, map, refl, sym, ap, ◌∙◌, arith, append-nil}
 use Rattle.std.proofs.Math.Bool.{and-false}
 use Rattle.std.specs.Prelude.{codes, if◌then◌else◌, nat_lt}
@@ -23,7 +23,7 @@ pass_append g i (x ∷ xs) ys w =
     let n : (i + 1) + length xs ≡ i + suc (length xs) = omega arith in
     pass_append g (i + 1) xs ys (next g i x w) ∙ ap (λ m. pass g m ys (pass g (i + 1) xs (next g i x w))) n
 
--- events that need no look
+-- events that are skipped
 pub pass_skips : (g : Work) (i : ℕ) (xs : List EventInText) (w : PrintState) → i + length xs ≤ w.done + 1 → pass g i xs w ≡ w
 unfolding pass
 pass_skips g i [] w l = refl

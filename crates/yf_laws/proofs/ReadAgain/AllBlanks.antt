@@ -1,4 +1,4 @@
--- The lines of a text that was laid out between its rows, with the comments that are found on them and the notes on blank lines.
+-- The lines of a laid-out text between its rows, with the comments that are found on them and the notes on blank lines.
 use Rattle.std.proofs.Common.{◌≡◌, ℕ, Bool, false, List, [], ◌∷◌, ◌++◌}
 use Rattle.yf_comments.specs.Comment.{CommentValue}
 use Rattle.yf_comments.specs.GapLines.{GapLine, remarks_of}
@@ -21,7 +21,8 @@ abbrev pub first_blank : List Row → Bool
 first_blank [] = false
 first_blank (row ∷ rows) = row.blank_before
 
--- of the comments cs of a reading with these rows, however they are split: those before the first row, and those after each
+-- for the comments cs of a reading with these rows, however they are split: those before the first row, and those after
+-- each
 pub record BlanksFound (t : List ℕ) (cs : List CommentValue) (gap : List GapLine) (ds : List Deco) (rows : List Row) (ps : List PlacedRow) (line end : ℕ) : Type 0 where
   pub first : (firsts rest : List CommentValue) → cs ≡ firsts ++ rest → texts firsts ≡ remarks_of gap → Blanks t false false gap firsts (first_blank rows)
   pub after : (firsts : List CommentValue) (owns : List (List CommentValue)) → cs ≡ firsts ++ all_of owns → texts firsts ≡ remarks_of gap → Owns ps ds line owns end → AllBlanks t rows ds owns

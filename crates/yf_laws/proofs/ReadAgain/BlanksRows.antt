@@ -90,7 +90,7 @@ same_body x y e = ap (λ s. s.body) e
 same_ending : (x y : Row) → shape_of x ≡ shape_of y → x.ending ≡ y.ending
 same_ending x y e = ap (λ s. s.ending) e
 
--- a block scalar on a row ends after its beginning
+-- a block scalar on a row ends after its start
 moved_after : {t : List ℕ} {x : Row} {i k g : ℕ} {p : PlacedRow} {d : Deco} {own : List CommentValue} (y : Row) → AtRow x i p → EndsRow t x.body d p own k → shape_of x ≡ shape_of y → (y.body ≡ [] → ⊥) → LastEnd p.leaves g → i ≤ g
 moved_after {t} {x} {i} {k} {g} {p} {d} {own} y at end e some last = by end.tail where
   by : OwnTail t x.body d p own k → i ≤ g

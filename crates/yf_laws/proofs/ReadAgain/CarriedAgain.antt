@@ -20,7 +20,7 @@ use Rattle.yf_chars.proofs.Tests.{below, not_below}
 use Rattle.yf_laws.proofs.OutputLines.ColumnsHold.{every}
 use Rattle.yf_laws.proofs.RowNodes.QuietPlaces.{under_more}
 
--- the comments after each row, the last list is of each row its own
+-- the comments after each row; the last list has those of each row separately
 pub data Owns : List PlacedRow → List Deco → ℕ → List (List CommentValue) → ℕ → Type 0 where
   last_owns : {p : PlacedRow} {d : Deco} {i j : ℕ} {own : List CommentValue} → p.from ≡ i → i ≤ p.upto → p.upto ≤ j → Upward p.upto own → Under j own → texts own ≡ carried_texts d → Owns (p ∷ []) (d ∷ []) i (own ∷ []) j
   row_owns : {p : PlacedRow} {ps : List PlacedRow} {d : Deco} {ds : List Deco} {i k l j : ℕ} {own : List CommentValue} {owns : List (List CommentValue)} → p.from ≡ i → i ≤ p.upto → p.upto ≤ k → Upward p.upto own → Under k own

@@ -1,4 +1,4 @@
--- The rows of the documents of a text that was laid out, as they were laid out, as they are found, and as they are in the text.
+-- The rows of the documents of a laid-out text, as they were laid out, as they are found, and as they are in the text.
 use Rattle.std.proofs.Common.{◌≡◌, ℕ, suc, ◌<◌, ◌≤◌, Bool, true, false, List, [], ◌∷◌, ◌++◌, length, map, None, refl, sym, ap, ◌∙◌, subst, arith, append_assoc, ⊎_elim}
 use Rattle.yf_comments.specs.Comment.{CommentValue}
 use Rattle.yf_comments.specs.GapLines.{remarks_of}
@@ -28,7 +28,7 @@ use Rattle.yf_laws.proofs.SecondRun.FixedRows.{begun_shaped}
 use Rattle.yf_print.specs.Layouts.KeptColumns.{Columns}
 use Rattle.yf_laws.proofs.RowNodes.QuietPlaces.{under_more}
 
--- a row without items was laid out without any
+-- a row that is found without items was laid out without any
 pub data Barely : List Row → List PlacedRow → Type 0 where
   none_barely : Barely [] []
   row_barely : {x : Row} {xs : List Row} {p : PlacedRow} {ps : List PlacedRow} → (p.items ≡ [] → x.items ≡ []) → Barely xs ps → Barely (x ∷ xs) (p ∷ ps)

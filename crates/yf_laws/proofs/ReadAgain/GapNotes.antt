@@ -90,7 +90,7 @@ last_noted {i = i} true false u gap_over line l none none_over k s (entry_head n
 last_noted false a u gap_over line l none none_over k s bare_head = gap_ends refl
 last_noted {i = i} false a u gap_over line l none none_over k s (entry_head n) = gap_ends (noted_false n (λ d. none (since_back k i u s d)))
 
--- A comment, after a blank line or none.
+-- A comment, after a blank line or directly.
 
 remark_noted : {t : List ℕ} {f i j : ℕ} {b : Bool} {text : List ℕ} {gs : List GapLine} {cs ns : List CommentValue} (column : ℕ) (may a : Bool) → IsUtf8 t → trimmed text ≡ text → GapIsAt t i (blank_if (may && a) ++ (remark column text ∷ gs)) cs j
     → Blank t i → f ≤ i → (BlankSince t f i → ⊥) → NotedOver t f cs ns
@@ -103,7 +103,7 @@ remark_noted {t} {f} {i} column true false u e (remark_is_at {k = k} w s o q m z
 remark_noted {t} {f} {i} column false a u e (remark_is_at {k = k} w s o q m z n rest) line l none (one_over {cs = es} {ns = ms} {b = note} d ds) more =
     gap_remark (ap trimmed q ∙ e) (noted_false (subst (λ p. NotedSince t f p note) o d) (λ y. none (since_back column i u s y))) (ap (own_column t) o ∙ (column_spaces is_white space_white s w ∙ ap Some (zero-add column))) (more k es ms rest z (omega (arith, l, m)) (λ v. n (since_before v)) ds)
 
--- of a gap that was laid out so, before a row that is k spaces after it
+-- for a gap that was laid out so, before a row that is k spaces after it
 pub gap_noted : (g : Columns) {t : List ℕ} {f i j : ℕ} {b : Bool} {cs ns : List CommentValue} (e : Ending) (column : ℕ) (hs : List CommentValue) (a : Bool) → IsUtf8 t → GapIsAt t i (gap_with g e column hs a) cs j → Blank t i → f ≤ i
     → (BlankSince t f i → ⊥) → NotedOver t f cs ns → (k : ℕ) → Spaces t j k → HeadNote t f (j + k) a b → Blanks t (may_be_blank_after e) false (gap_with g e column hs a) ns b
 gap_noted g e column [] a u is_there line l none notes k s n = last_noted (may_be_blank_after e) a u is_there line l none notes k s n

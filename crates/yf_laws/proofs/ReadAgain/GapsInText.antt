@@ -45,7 +45,7 @@ gap_order (remark_is_at w s e f l b n a) = let m = gap_order a in omega (arith, 
 
 -- After a comment.
 
--- no line begins from a place on up to another
+-- no line begins between two offsets
 none_since : {t : List ℕ} {p j : ℕ} → ((h : ℕ) → p < h → h ≤ j → LineStart t h → ⊥) → BlankSince t p j → ⊥
 none_since f (blank_line {j = j} l b k) = f j (let m = break_forward k in omega (arith, l, m)) (omega arith) (after_break k)
 none_since {t} f (past_gap {i = i} d e) = let m = next_later t i in none_since (λ h l n s. f h l (omega (arith, m, n)) s) d
@@ -71,7 +71,7 @@ none_after {t} {p} {k} {j} u e q l b d =
 
 -- Lines of a gap.
 
--- the one comment of a comment's text
+-- the only comment of a comment's text
 record OneNote (t : List ℕ) (i : ℕ) (cs : List CommentValue) : Type 0 where
   note : CommentValue
   are : cs ≡ note ∷ []

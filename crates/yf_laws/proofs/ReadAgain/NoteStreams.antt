@@ -21,7 +21,7 @@ use Rattle.yf_laws.proofs.ReadAgain.RowNotes.{AllNoted, RowNotes, no_row_notes, 
 use Rattle.yf_laws.proofs.ReadAgain.RowsWithNotes.{rows_renoted}
 use Rattle.yf_laws.proofs.RowNodes.FoundStreams.{begun_placed}
 
--- Rows that begin with no entry, and have no block scalar.
+-- Rows that don't begin with an entry, and have no block scalar.
 
 data PlainRows : ℕ → List Row → Type 0 where
   no_plain_row : PlainRows 0 []

@@ -1,4 +1,5 @@
--- The comments after each row of a text that was laid out, as they are read: row by row, with the notes on blank lines before them.
+-- The comments after each row of a laid-out text, as they are read: row by row, with the notes on blank lines before
+-- them.
 use Rattle.std.proofs.Common.{◌≡◌, ℕ, ◌≤◌, List, [], ◌∷◌, ◌++◌, refl, sym, ap, ◌∙◌, arith, append-nil}
 use Rattle.std.specs.Str.{IsUtf8}
 use Rattle.yf_lines.specs.Rest.{Rest}
@@ -22,7 +23,7 @@ use Rattle.yf_laws.proofs.Derived.RowsUtf8.{RowLines, row_more}
 use Rattle.yf_print.specs.Layouts.KeptColumns.{Columns}
 use Rattle.yf_laws.proofs.SameReading.SourceOffsets.{noted_upward}
 
--- as many rows as there is carried by rows
+-- there are as many rows as decorations
 pub data Beside : List Row → List Deco → Type 0 where
   none_beside : Beside [] []
   one_beside : {x : Row} {xs : List Row} {d : Deco} {ds : List Deco} → Beside xs ds → Beside (x ∷ xs) (d ∷ ds)

@@ -18,8 +18,8 @@ use Rattle.yf_print.specs.Layouts.KeptColumns.{Columns}
 use Rattle.yf_forms.specs.declared.style.Style.{Style}
 use Rattle.yf_laws.proofs.OutputLines.ColumnsHold.{WalkFrom, every as each_all}
 
--- The comments of q on lines of their own, as they are between its rows in the text t: those before the first row, and those after each. g are the
--- columns that were laid out.
+-- The comments of q on lines of their own between its rows in the text t: those before the first row, and those after
+-- each. g are the columns that were laid out.
 pub data OwnCarried (t : List ℕ) (g : Columns) (q : Lists) : List Row → List GapLine → List Deco → Type 0 where
   alone_carried : {gap : List GapLine} (firsts : List CommentValue) → own_line_comments (source_of q []) [] ≡ firsts → Blanks t false false gap firsts false → OwnCarried t g q [] gap []
   rows_carried : {row : Row} {rows : List Row} {gap : List GapLine} {ds : List Deco} (firsts others : List CommentValue) → own_line_comments (source_of q (row ∷ rows)) (row ∷ rows) ≡ firsts ++ others

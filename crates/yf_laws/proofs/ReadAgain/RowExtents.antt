@@ -190,7 +190,7 @@ module _ {t : List ℕ} (u : IsUtf8 t) {x : Row} {p : PlacedRow} {i : ℕ} {own 
         (record { none = λ h l m s. whole.none h (omega (arith, l, at.from)) (omega (arith, m, offset)) s })
     trailed_by o os f some ls s g (y ∷ v ∷ ys) h a = absurd a
 
-  -- One with the lines of a scalar.
+  -- A row with the lines of a scalar.
 
   near_under : {h start : ℕ} {near : List CommentValue} → LineRest t h start near → Under start near
   near_under {h} {start} {near} a = subst (λ v. Under start v) (append-nil near) (ascend_under (end_ascends (past_rest a done)))

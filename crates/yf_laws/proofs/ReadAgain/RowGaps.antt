@@ -44,7 +44,7 @@ module _ {A : Type 0} {S : ℕ → ℕ → List A → Type 0} where
   still f done l = refl
   still f (step s c) l = let m = f.forward s in let n = chain_forward f c in absurd (omega (arith, l, m, n))
 
-  -- two from one place to another
+  -- two chains between two offsets are equal
   pub one_chain : {i j : ℕ} {x y : List A} → Functional S → Chain S i j x → Chain S i j y → x ≡ y
   one_chain {j = j} {x = x} {y = y} f c d = by (chain_meet f c d) where
     by : Meets S j j x y → x ≡ y

@@ -115,7 +115,7 @@ entry_noted t f (alias at name) rest n = n.0
 entry_noted t f (sequence at flow props xs) rest n = n.0
 entry_noted t f (mapping at flow props ps) rest n = n.0
 
--- flow nodes move no floor
+-- flow nodes don't move the floor
 flow_style : (f : ℕ) (e : EventInText) (props : PropsValue) (text : List ℕ) (style : ScalarStyle) → is_block_style style ≡ false → floor_after_event f e (scalar_node props style text) ≡ f
 flow_style f e props text Plain n = refl
 flow_style f e props text Single n = refl
@@ -143,7 +143,7 @@ pub flow_at : (o f : ℕ) (es : List EventInText) → AllFlow es → floor_at o 
 flow_at o f [] a = refl
 flow_at o f (e ∷ es) a = ap (λ z. floor_at o z es) (ap (λ z. end_before o f z) (flow_kept f e e.event a.0) ∙ end_same o f) ∙ flow_at o f es a.1
 
--- literal and folded scalars do
+-- literal and folded scalars move it
 pub block_moved : (f : ℕ) (e : EventInText) (props : PropsValue) (text : List ℕ) (style : ScalarStyle) → is_block_style style ≡ true → floor_after_event f e (scalar_node props style text) ≡ end_or f e.span
 block_moved f e props text Plain n = absurd (true≢false (sym n))
 block_moved f e props text Single n = absurd (true≢false (sym n))

@@ -43,7 +43,7 @@ tie_leaves (head_tie a b c d e) = c ∙ sym d
 
 -- What each row carried.
 
--- rows that were laid out, and as they are found
+-- rows that were laid out, and the rows found for them
 pub data LaidRows (g : Columns) : List Row → List Row → List Deco → Type 0 where
   none_laid : LaidRows g [] [] []
   last_laid : {x row : Row} {d : Deco} (hs : List CommentValue) → LaidRow d row → d.gap ≡ gap_with g row.ending 0 hs false → LaidRows g (x ∷ []) (row ∷ []) (d ∷ [])

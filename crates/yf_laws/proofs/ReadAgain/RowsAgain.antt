@@ -109,7 +109,7 @@ deco_is d gap e f = ap (λ z. record { trails = z; gap = gap }) e ∙ ap (λ z. 
 abbrev pub StaysAt : Style → Bool → ℕ → Beginning → List OpenBlock → ℕ → Type 0
 StaysAt s may next begin bs k = columns_if (keeps_blocks s) (comment_column s.indent may next (Some k) begin bs) next ≡ k
 
--- so it is with each comment that was laid out, before the first of these rows and after each
+-- this holds for each comment that was laid out, before the first of these rows and after each
 pub data AllStay (t : List ℕ) (s : Style) : List OpenBlock → Bool → List Row → List GapLine → List Deco → Type 0 where
   stays_end : {bs : List OpenBlock} {may : Bool} {gap : List GapLine} → GapHolds (StaysAt s may 0 begins_document bs) gap → AllStay t s bs may [] gap []
   stays_row : {bs : List OpenBlock} {may : Bool} {row : Row} {rows : List Row} {gap : List GapLine} {d : Deco} {ds : List Deco} → GapHolds (StaysAt s may row.column (beginning t row.starts row.leaves) bs) gap
@@ -121,7 +121,7 @@ at_first t s bs may row d e f =
     ap (λ b. if b then comment_column s.indent may row.column (own_column t d.offset) (beginning t row.starts row.leaves) bs else row.column) e
     ∙ ap (λ o. comment_column s.indent may row.column o (beginning t row.starts row.leaves) bs) f
 
--- those before a row
+-- for the comments before a row
 pub stay_before : {t : List ℕ} {s : Style} {g : Columns} {bs : List OpenBlock} {may : Bool} {row : Row} {rows : List Row} {here left : List CommentValue} → Apart row here left → Each (WalkFrom t s g bs may (row ∷ rows)) (here ++ left)
     → Each (λ c. (k : ℕ) → own_column t c.offset ≡ Some k → StaysAt s may row.column (beginning t row.starts row.leaves) bs k → g c row.column ≡ k) here
 stay_before {t} {s} {g} {bs} {may} {row} {rows} {here} {left} a w =

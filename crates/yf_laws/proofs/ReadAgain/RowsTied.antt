@@ -46,7 +46,7 @@ pub extent_first : {t : List ℕ} {p : PlacedRow} {ps : List PlacedRow} {ds : Li
 extent_first (last_extent a) = a.items
 extent_first (row_extent a l more) = a.items
 
--- the leaves of rows are from the first row on
+-- the leaves of rows begin at or after the first row
 leaves_from : {t : List ℕ} {cs : List CommentValue} {xs rows : List Row} {ps : List PlacedRow} {ds : List Deco} {i j : ℕ} {owns : List (List CommentValue)} (n : ℕ) → n ≤ i → Ties cs xs rows ps → Owns ps ds i owns j → RowExtents t ps ds owns
     → AllFrom n (starts_of (leaves_on rows))
 leaves_from n l no_ties a b = none_later
@@ -60,11 +60,11 @@ leaves_from n l (a_tie {row = row} {rows = rows} tie ties) (row_owns f m k up u 
 
 module _ {t : List ℕ} (lines : List Line) (are_lines : AreLines t lines) (c : Source) (cs : List CommentValue) (remarks : c.remarks ≡ zip cs (leaf_lines lines c.leaves cs))
     (sign : (d : CommentValue) → In d cs → code t d.offset ≡ 35) (up : rising c.leaves ≡ true) (unsigned : Unsigned t (starts_of c.leaves)) where
-  -- what trails a row that a comment trails at its key
+  -- what trails a row with a comment that trails its key
   key_trails : (row : Row) (k : CommentValue) → row.key_comment ≡ Some k → trailing c row ≡ k ∷ flat_map (trail_of c) row.leaves
   key_trails row k e = ap (λ o. option_to_list o ++ flat_map (trail_of c) row.leaves) e
 
-  -- it is after an item on the row, and no other comment between
+  -- it is after an item on the row, with no other comment between
   key_is_at : {x row : Row} {rows : List Row} {p : PlacedRow} (P : ℕ → Type 0) (k : CommentValue) → row.key_comment ≡ Some k → Tie cs x row p → Inside p.from p.upto p.items → RowTrail c cs row rows
       → ((a : ℕ) → p.from ≤ a → a ≤ p.upto → a < k.offset → ((d : CommentValue) → In d cs → d.offset < k.offset → d.offset < a) → P k.offset) → P k.offset
   key_is_at P k e (start_tie s a b d none f g) inside trail go = absurd (none_some (sym none ∙ e))

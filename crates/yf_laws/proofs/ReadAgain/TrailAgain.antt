@@ -56,7 +56,7 @@ pub record LaidRow (d : Deco) (row : Row) : Type 0 where
 holds_both : (s n end o : ℕ) → s ≤ o → o < n → s < end → end ≤ n → (nat_le s o && nat_lt o n && nat_lt s end && nat_le end n) ≡ true
 holds_both s n end o a b c d = grind (arith, nat_tests)
 
--- a place after which no line begins up to an offset is on the offset's line
+-- two offsets are on one line if no line begins between them
 line_holds : {t : List ℕ} {h k : ℕ} {ls : List Line} → Chain (OneLine t) h k ls → k ≡ length t → (from end o : ℕ) → h ≤ from → from < end → end ≤ o → o < length t → Quiet t from o → list_any (is_on_line end o) ls ≡ true
 line_holds done e from end o a b c d q = absurd (omega (arith, e, a, b, c, d))
 line_holds {t} (step {y = others} (one_line {l = line} s) more) e from end o a b c d q =

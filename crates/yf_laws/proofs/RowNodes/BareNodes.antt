@@ -1,4 +1,4 @@
--- Notes on blank lines change nothing of a tree but the notes: bare trees have none.
+-- Notes on blank lines change only the notes of a tree; bare trees have none.
 use Rattle.std.proofs.Common.{◌≡◌, ℕ, false, ◌||◌, List, [], ◌∷◌, ◌++◌, map, Option, Some, None, refl, sym, ap, ◌∙◌}
 use Rattle.std.specs.Prelude.{if◌then◌else◌}
 use Rattle.std.proofs.lemmas.List.{map-append}

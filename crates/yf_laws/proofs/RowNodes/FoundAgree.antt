@@ -54,7 +54,7 @@ key_linked (key_joined {h = h} {p = p} e f g l m o) (linked_row q a) = linked_ro
 
 -- Flow collections.
 
--- between two places no comment is
+-- no comment is between two offsets
 abbrev pub NoneIn : List CommentValue → ℕ → ℕ → Type 0
 NoneIn cs i j = Each (λ d. (d.offset < i) ⊎ (j ≤ d.offset)) cs
 

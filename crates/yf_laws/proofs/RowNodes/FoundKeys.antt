@@ -85,7 +85,7 @@ key_agrees {c = c} {v = v} {w = w} k true e a on r rows quiet linked =
       none_left (x ∷ xs) z = absurd (omega (arith, z))
 key_agrees k false e a on r rows quiet linked = sym e ∙ sym (ap is_some (silent_key refl on r rows quiet))
 
--- A key that is written with a `?` is implicit in no column.
+-- A key that is written with a `?` is not implicit at any column.
 
 implicit_line : (s : Style) (column : ℕ) (k : Node) → is_implicit s column k ≡ true → is_block_collection k ≡ false
 implicit_line s column (scalar at props style text lines) e = refl

@@ -1,4 +1,4 @@
--- The rows of a node that is found have the items and leaves that are found on the rows of the text.
+-- The rows of a found node have the items and leaves that are found on the rows of the text.
 use Rattle.std.proofs.Common.{◌≡◌, ◌≢◌, ℕ, ◌+◌, ◌-◌, Bool, true, false, List, [], ◌∷◌, ◌++◌, map, codes, Option, Some, None, refl, sym, ap, ◌∙◌, true≢false}
 use Rattle.std.specs.Prelude.{is_some, if◌then◌else◌}
 use Rattle.std.proofs.lemmas.List.{map-append}

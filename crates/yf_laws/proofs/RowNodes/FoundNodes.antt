@@ -42,8 +42,8 @@ pub data SignRows (t : List ℕ) (items : List ℕ) : List PlacedRow → List Pl
   sign_joined : {h p : PlacedRow} {ps : List PlacedRow} → h.items ≡ items ++ p.items → h.leaves ≡ p.leaves → h.commented ≡ p.commented → h.from ≤ p.from → p.upto ≡ h.upto
       → (OnLine t h.column h.from → OnLine t p.column p.from) → IsHead items h.from → SignRows t items (p ∷ ps) (h ∷ ps)
 
--- a row that an implicit key begins, with these items and leaves, which a comment trails or not, and the rows of its value, which begins on a line
--- of its own or not
+-- a row that begins with an implicit key, with these items and leaves, and whether a comment trails it; and the rows of
+-- its value, which begins on a line of its own or not
 pub data KeyRows (t : List ℕ) (items : List ℕ) (leaves : List Span) : Bool → Bool → List PlacedRow → List PlacedRow → Type 0 where
   key_commented : {below : Bool} {h : PlacedRow} {ps : List PlacedRow} → h.items ≡ items → h.leaves ≡ leaves → h.commented ≡ true → KeyRows t items leaves true below ps (h ∷ ps)
   key_above : {h : PlacedRow} {ps : List PlacedRow} → h.items ≡ items → h.leaves ≡ leaves → h.commented ≡ false → KeyRows t items leaves false true ps (h ∷ ps)
@@ -55,7 +55,8 @@ pub data KeyRows (t : List ℕ) (items : List ℕ) (leaves : List Span) : Bool �
 pub data HeadAt (m q e : ℕ) : List PlacedRow → Type 0 where
   head_at : {h : PlacedRow} {hs : List PlacedRow} → h.column ≡ m → h.from ≡ q → e ≤ h.upto → HeadAt m q e (h ∷ hs)
 
--- a node on one line is as it is written from i on; a flow collection has this part of the text, and each quoted scalar is as it is written
+-- a node on one line is as it is written from i on; a flow collection has this span, and each quoted scalar is as it is
+-- written
 pub record NodeText (house : Style) (t : List ℕ) (i : ℕ) (y : Node) : Type 0 where
   pub line : IsLineText (written house y)
   pub follows : List ℕ
@@ -95,7 +96,7 @@ mutual
     item_rows : {m : ℕ} {x y : Node} {xs ys : Items} {ps hs qs : List PlacedRow} → NodeRows t s (inner_margins s.style m) x y ps → SignRows t (entry_start y) ps hs → ItemsRows t s m xs ys qs
         → ItemsRows t s m (item x xs) (item y ys) (hs ++ qs)
 
-  -- a key k with its value v that are found as l and w
+  -- a key k and its value v, found as l and w
   pub data PairRows (t : List ℕ) (s : LayoutSetting) : ℕ → Node → Node → Node → Node → List PlacedRow → Type 0 where
     explicit_rows : {m : ℕ} {k v l w : Node} {ps hs qs gs : List PlacedRow} → is_implicit s.style m l ≡ false → NodeRows t s (key_margins s.style m k) k l ps → SignRows t (entry_start l) ps hs
         → NodeRows t s (inner_margins s.style m) v w qs → SignRows t (colon_offset (standing l).entry) qs gs → PairRows t s m k v l w (hs ++ gs)

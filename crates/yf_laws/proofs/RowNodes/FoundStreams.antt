@@ -44,7 +44,7 @@ pub record FoundBare (t : List ℕ) (s : LayoutSetting) (x : DocumentTree) (m : 
   pub are : ps ≡ begun_placed m.start inner
   pub rows : NodeRows t s (root_margins s.style) x.root node inner
 
--- all documents; the flag says whether the first one is without a `---`
+-- all documents; the flag says whether the first one has no `---`
 pub data AllFound (t : List ℕ) (s : LayoutSetting) : Bool → List DocumentTree → List Document → List PlacedRow → Type 0 where
   all_marked : {xs : List DocumentTree} {ms : List Document} {ps : List PlacedRow} → FoundDocuments t s true xs ms ps → AllFound t s false xs ms ps
   bare_first : {x : DocumentTree} {xs : List DocumentTree} {m : Document} {ms : List Document} {ps qs : List PlacedRow} → FoundBare t s x m ps → FoundDocuments t s false xs ms qs

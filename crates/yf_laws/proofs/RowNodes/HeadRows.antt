@@ -14,7 +14,7 @@ bare_join {n = n} {ys = ys} k e (one_head_row {n = m} {h = h} {hs = hs} f a) b =
     let next : suc (m + n) ≡ k = omega (arith, e) in
     subst (λ z. BareRows z (h ∷ (hs ++ ys))) next (one_head_row f (bare_join (m + n) refl a b))
 
--- and the row of a `---` that begins at a place
+-- and the row of a `---` that begins at an offset
 pub data HeadRows (start : ℕ) : ℕ → List PlacedRow → Type 0 where
   mark_head : {h : PlacedRow} → h.leaves ≡ [] → h.from ≡ start → HeadRows start 0 (h ∷ [])
   more_heads : {n : ℕ} {h : PlacedRow} {hs : List PlacedRow} → h.leaves ≡ [] → HeadRows start n hs → HeadRows start (suc n) (h ∷ hs)
@@ -23,7 +23,7 @@ pub heads_join : {start n : ℕ} {xs : List PlacedRow} (h : PlacedRow) → BareR
 heads_join h no_head_row e f = mark_head e f
 heads_join h (one_head_row g a) e f = more_heads g (heads_join h a e f)
 
--- how many are before it: the directives, and before those a `...` in documents that are not the first
+-- the number of rows before it: the directives, and before those a `...` in documents that are not the first
 abbrev pub heads_before : Bool → List Directive → ℕ
 heads_before true ds = length ds
 heads_before false [] = 0

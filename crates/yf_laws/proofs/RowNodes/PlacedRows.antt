@@ -18,7 +18,7 @@ use Rattle.yf_print.specs.Layouts.Rows.{Row, joined}
 use Rattle.yf_laws.proofs.Derived.DecoratedLemmas.{lines_append}
 use Rattle.yf_laws.proofs.Derived.StepsInText.{starts_of, starts_append}
 
--- offsets between two places
+-- offsets between two offsets
 pub data Inside (i j : ℕ) : List ℕ → Type 0 where
   none_inside : Inside i j []
   one_inside : {x : ℕ} {xs : List ℕ} → i ≤ x → x ≤ j → Inside i j xs → Inside i j (x ∷ xs)
@@ -55,7 +55,7 @@ pub record AtRow (x : Row) (i : ℕ) (p : PlacedRow) : Type 0 where
 pub never_bare : {a : ℕ} {xs ys : List ℕ} → a ∷ xs ≡ [] → ys ≡ []
 never_bare e = absurd cc
 
--- leaves with characters, that end before a place
+-- leaves with characters, that end before an offset
 pub data LeavesTo (n : ℕ) : List Span → Type 0 where
   no_leaf_to : LeavesTo n []
   leaf_to : {s : Span} {ss : List Span} → s.start < s.end → s.end ≤ n → LeavesTo n ss → LeavesTo n (s ∷ ss)
@@ -77,14 +77,14 @@ pub last_end_after : {ys : List Span} {e : ℕ} (xs : List Span) → LastEnd ys 
 last_end_after [] a = a
 last_end_after (x ∷ xs) a = later_end (last_end_after xs a)
 
--- The comments after a row with these lines of a literal or folded scalar, or without: in the second case those on the line of the scalar's header are
--- before its end, and the others from its end on.
+-- The comments after a row with these lines of a literal or folded scalar, or without lines. With such lines, the
+-- comments on the line of the scalar's header are before its end, and the others from its end on.
 pub data OwnTail (t : List ℕ) (body : List (List ℕ)) (d : Deco) (p : PlacedRow) (own : List CommentValue) (place : ℕ) : Type 0 where
   after_line : body ≡ [] → LineEnd t p.upto place own → LeavesTo p.upto p.leaves → OwnTail t body d p own place
   after_scalar : {near far : List CommentValue} {h start e : ℕ} {z : List ℕ} (b : Bool) → (body ≡ [] → ⊥) → own ≡ near ++ first_noted b far → texts near ≡ d.trails → p.upto ≤ h → LineRest t h start near → start ≤ e
       → p.upto ≤ e → LeavesTo e p.leaves → LastEnd p.leaves e → Blank t e → Broken t e → Rest t e (gap_then d.gap z) → Rest t place z → Chain (CommentRow t) e place far → OwnTail t body d p own place
 
--- the comments after a row, up to the next line that is none
+-- the comments after a row, up to the next line that isn't a comment
 pub record EndsRow (t : List ℕ) (body : List (List ℕ)) (d : Deco) (p : PlacedRow) (own : List CommentValue) (place : ℕ) : Type 0 where
   pub ascend : Ascend t p.upto own place
   pub is : texts own ≡ carried_texts d
@@ -99,7 +99,7 @@ pub data RowsIn (t : List ℕ) : List Row → List PlacedRow → List Deco → �
       → EndsRow t x.body (first ds) p own k → Rest t k (lines_then (y ∷ xs) (after ds) r) → RowsIn t (y ∷ xs) ps (after ds) (k + y.column) cs j r
       → RowsIn t (x ∷ y ∷ xs) (p ∷ ps) ds i (own ++ cs) j r
 
--- One after the other.
+-- Rows in sequence.
 
 rows_in_before : {t : List ℕ} {rs : List Row} {ps qs : List PlacedRow} {y : Row} {ys : List Row} {ds : List Deco} {i k j : ℕ} {cs es : List CommentValue} {z r : List ℕ} → RowsIn t rs ps ds i cs k z
     → z ≡ lines_then (y ∷ ys) (past rs ds) r → RowsIn t (y ∷ ys) qs (past rs ds) (k + y.column) es j r → RowsIn t (rs ++ (y ∷ ys)) (ps ++ qs) ds i (cs ++ es) j r

@@ -1,4 +1,4 @@
--- Notes on blank lines change nothing of how quoted scalars are written.
+-- Notes on blank lines don't change how quoted scalars are written.
 use Rattle.std.proofs.Common.{ℕ, List, [], ◌∷◌, ◌++◌, subst}
 use Rattle.yf_events.specs.Event.{EventInText, scalar_node}
 use Rattle.yf_events.specs.Tree.{Items, Node, Pairs, flat, flat_items, flat_pairs}

@@ -30,7 +30,7 @@ pub in_before : {d : CommentValue} {cs : List CommentValue} (more : List Comment
 in_before more in_first = in_first
 in_before more (in_rest a) = in_rest (in_before more a)
 
--- of each comment of a list
+-- for each comment of a list
 pub data Each (P : CommentValue → Type 0) : List CommentValue → Type 0 where
   each_none : Each P []
   each_more : {d : CommentValue} {ds : List CommentValue} → P d → Each P ds → Each P (d ∷ ds)
@@ -57,7 +57,7 @@ Under h ds = Each (λ d. d.offset < h) ds
 abbrev pub Over : ℕ → List CommentValue → Type 0
 Over h ds = Each (λ d. h ≤ d.offset) ds
 
--- one after the other, from an offset on
+-- in order, from an offset on
 pub data Upward : ℕ → List CommentValue → Type 0 where
   upward_none : {i : ℕ} → Upward i []
   upward_more : {i : ℕ} {c : CommentValue} {cs : List CommentValue} → i ≤ c.offset → Upward (c.offset + 1) cs → Upward i (c ∷ cs)
@@ -196,7 +196,7 @@ around {e} i (in_rest {c = c} {cs = cs} j) (upward_more l a) =
     let far : c.offset + 1 ≤ e.offset = each_at (upward_over (c.offset + 1) (omega arith) a) j in
     record { ahead = c ∷ w.ahead; more = w.more; is = ap (λ v. c ∷ v) w.is; under = each_more (omega (arith, far)) w.under; upward = w.upward }
 
--- a comment that is none of those before an offset
+-- a comment that isn't among those before an offset
 in_left : {e : CommentValue} {hi : ℕ} {done left : List CommentValue} → Under hi done → hi ≤ e.offset → In e (done ++ left) → In e left
 in_left each_none l i = i
 in_left (each_more m a) l in_first = absurd (omega (arith, l, m))
@@ -205,7 +205,7 @@ in_left (each_more m a) l (in_rest i) = in_left a l i
 -- The comments cut by the rows.
 
 module _ (f : Row → List Step) (c : Source) (cs all : List CommentValue) where
-  -- a comment before those that later rows have, and after those that earlier ones have
+  -- a comment before those of later rows, and after those of earlier ones
   owned : (d : CommentValue) (gone trails rest : List CommentValue) → all ≡ gone ++ (trails ++ rest) → is_among gone d ≡ false → is_among trails d ≡ false → is_among rest d ≡ false
       → own_of all d ≡ true
   owned d gone trails rest e a b f =

@@ -47,7 +47,7 @@ use Rattle.yf_laws.proofs.SameReading.StartsBefore.{AllFrom, none_later, one_lat
 use Rattle.yf_laws.proofs.NormalForms.StyledTwice.{normal_house}
 use Rattle.yf_laws.proofs.Printer.DocumentsPrinted.{RootsLaid}
 
--- No line break ends between the end of a leaf and a comment that is on the line on which the leaf ends.
+-- No line break ends between the end of a leaf and a comment on the line on which the leaf ends.
 
 on_line_parts : (s n end o : ℕ) → (nat_le s o && nat_lt o n && nat_lt s end && nat_le end n) ≡ true → (s < end) × (o < n)
 on_line_parts s n end o e = (grind (arith, nat_tests), grind (arith, nat_tests))

@@ -1,4 +1,4 @@
--- Each comment of a formatted text is found, in each reading of it, after as many documents as it was printed after.
+-- Each comment of a formatted text is found, in each reading of it, after as many documents as when it was printed.
 use Rattle.std.proofs.Common.{◌≡◌, ℕ, ◌+◌, List, [], ◌∷◌, ◌++◌, length, map, refl, sym, ap, ◌∙◌, subst, cond, zero-add}
 use Rattle.std.specs.Prelude.{count_by, nat_lt}
 use Rattle.std.proofs.lemmas.List.Sums.{sum_by-cons}

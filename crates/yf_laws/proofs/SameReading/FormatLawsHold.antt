@@ -1,4 +1,4 @@
--- Formatting a text that has a reading gives one text, which has a reading.
+-- A text that has a reading has exactly one formatting, which has a reading.
 use Rattle.std.proofs.Common.{◌≡◌, List, map, refl, sym, ◌∙◌, subst}
 use Rattle.std.proofs.lemmas.List.{length-map}
 use Rattle.yf_events.specs.Tree.{DocumentTree, flat_stream}

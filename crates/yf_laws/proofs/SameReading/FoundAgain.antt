@@ -1,4 +1,4 @@
--- Each comment of a formatted text is found, in each reading of it, after as many leaves as it was printed after.
+-- Each comment of a formatted text is found, in each reading of it, after as many leaves as when it was printed.
 use Rattle.std.proofs.Common.{◌≡◌, ◌≢◌, ℕ, suc, ◌+◌, ◌≤◌, Bool, true, false, List, [], ◌∷◌, ◌++◌, length, map, Option, Some, None, refl, sym, ap, ◌∙◌, subst, arith, zero-add, add-zero, append-nil}
 use Rattle.std.specs.List.{All}
 use Rattle.std.specs.Str.{IsUtf8}
@@ -102,7 +102,7 @@ pub noted_told : {t : List ℕ} {es : List EventInText} {x y : List CommentValue
 noted_told n no_comment = refl
 noted_told n (one_comment {c = c} m a) = ap (λ z. (c.text, n c.offset) ∷ z) (noted_told n a)
 
--- the leaves of a reading begin with no sign of a comment
+-- no leaf of a reading begins with the sign of a comment
 starts_unsigned : {t : List ℕ} (es : List EventInText) → All (λ (e : EventInText). (s : Span) → e.span ≡ Some s → IsVisibleAt t s.start) es → Unsigned t (leaf_starts es)
 starts_unsigned [] a = no_start
 starts_unsigned {t} (e ∷ es) a = go (begins_leaf e.event es) e.span refl (starts_unsigned es (λ k d l. a (suc k) d (omega (arith, l)))) where

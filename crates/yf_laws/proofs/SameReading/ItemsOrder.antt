@@ -48,7 +48,7 @@ sub_twice a (sub_skip b) = sub_skip (sub_twice a b)
 sub_twice (sub_take a) (sub_take b) = sub_take (sub_twice a b)
 sub_twice (sub_skip a) (sub_take b) = sub_skip (sub_twice a b)
 
--- Places that rise, up to a further one.
+-- Offsets that rise, up to a further one.
 
 pub rises_upto : {i k j : ℕ} {ms : List ℕ} → Rises i ms k → k ≤ j → Rises i ms j
 rises_upto (no_place l) m = no_place (omega (arith, l, m))
@@ -141,7 +141,7 @@ mutual
   pairs_unsigned (pair_is_at {k = k} {v = v} {ps = ps} e q l a c b d) =
       unsigned_join (leaves k) (leaves v ++ leaves_of_pairs ps) (node_unsigned a) (unsigned_join (leaves v) (leaves_of_pairs ps) (node_unsigned b) (pairs_unsigned d))
 
--- In the style of the house.
+-- In the house style.
 
 mutual
   pub styled_items_in : (t : List ℕ) (c : LayoutSetting) (x : Node) → items_in (styled t c x) ≡ items_in x

@@ -92,7 +92,7 @@ told_begun n (s ∷ ss) rest =
     let same : (n + 1) + length ss ≡ n + suc (length ss) = omega arith in
     told_begun (n + 1) ss rest ∙ ap (λ m. comments_of m rest) same
 
--- each of these comments is before these places, or after them
+-- each of these comments is before these offsets, or each is after them
 pub data AllLater : List CommentValue → List ℕ → Type 0 where
   no_later : {ss : List ℕ} → AllLater [] ss
   more_later : {d : CommentValue} {ds : List CommentValue} {ss : List ℕ} → AllFrom d.offset ss → AllLater ds ss → AllLater (d ∷ ds) ss

@@ -157,7 +157,7 @@ pub props_fit : {cs : List CommentValue} (column : ℕ) (w : List ℕ) (xs : Lis
 props_fit column [] xs a = a
 props_fit column (b ∷ w) xs a = row_fits (none_fits []) (no_key refl) a
 
--- The first row of a value beside its key: it has the whole value, or nothing of it but properties.
+-- The first row of a value beside its key: it has the whole value, or only properties of it.
 pub data FirstOf (x : Node) : List Row → Type 0 where
   no_first : FirstOf x []
   bare_first : {row : Row} {rows : List Row} → is_text x || is_filled_flow x ≡ false → row.items ≡ [] → row.leaves ≡ [] → row.key_comment ≡ None → FirstOf x (row ∷ rows)

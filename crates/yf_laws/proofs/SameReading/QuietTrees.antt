@@ -1,4 +1,5 @@
--- The normal form of a tree that is in a text: its items rise, and no comment is among those of a node on one line, from its first leaf on.
+-- The normal form of a tree that is in a text: its items rise, and no comment is among those of a node on one line,
+-- from its first leaf on.
 use Rattle.std.proofs.Common.{◌≡◌, ◌≢◌, ℕ, ◌≤◌, Bool, true, false, true≢false, not, ◌&&◌, List, [], ◌∷◌, ◌++◌, Option, Some, None, refl, sym, ap, ◌∙◌, subst, arith}
 use Rattle.std.specs.Prelude.{nat_le, nat_lt, if◌then◌else◌}
 use Rattle.std.specs.List.{list_any}
@@ -41,7 +42,7 @@ pub record LeafSits (cs : List CommentValue) (i j : ℕ) (at : NodeOffsets) : Ty
   pub to : span.start ≤ j
   pub free : Free cs span.start
 
--- a flow collection on one line: no comment is from its content's beginning to its end
+-- a flow collection on one line: no comment is between the start of its content and its end
 pub record LineSits (cs : List CommentValue) (k b : ℕ) (x : Node) : Type 0 where
   pub rises : Rises k (items_in x) b
   pub among : Sub (starts_of (leaves x)) (items_in x)
@@ -52,7 +53,7 @@ pub record LineSits (cs : List CommentValue) (k b : ℕ) (x : Node) : Type 0 whe
   pub some : leaves x ≡ first ∷ others
 
 mutual
-  -- between two places
+  -- between two offsets
   pub data NodeSits (cs : List CommentValue) : ℕ → ℕ → Node → Type 0 where
     nothing_sits : {i j : ℕ} {at : NodeOffsets} {props : PropsValue} {style : ScalarStyle} {text : List ℕ} {lines : List (List ℕ)} → i ≤ j → at.span ≡ None → NodeSits cs i j (scalar at props style text lines)
     scalar_sits : {i j : ℕ} {at : NodeOffsets} {props : PropsValue} {style : ScalarStyle} {text : List ℕ} {lines : List (List ℕ)} → LeafSits cs i j at → NodeSits cs i j (scalar at props style text lines)
@@ -111,7 +112,7 @@ kept_leaf {t} cs (mapping_is_at {at = at} {flow = flow} {props = props} e g (pai
     let w = kept_leaf cs a (third_of_five flow (has_comment t cs at.span props) (may_be_kept t cs x) (may_be_kept t cs v) (pairs_may_be_kept t cs ps) k) in
     record { first = w.first; others = w.others ++ (leaves v ++ leaves_of_pairs ps); is = ap (λ z. z ++ (leaves v ++ leaves_of_pairs ps)) w.is }
 
--- No comment is in it.
+-- It has no comment in it.
 
 not_there : (k b n : ℕ) → (nat_le k n && nat_lt n b) ≡ false → k ≤ n → b ≤ n
 not_there k b n e l = grind (arith, nat_tests)
@@ -128,7 +129,7 @@ module _ {t : List ℕ} (u : IsUtf8 t) (cs : List CommentValue) (sign : (d : Com
   unfolding from_to
   leaf_sits a b e l m v = record { span = record { start = a; end = b }; is = e; from = l; to = m; free = free_at v.no_hash }
 
-  -- x is the collection in the style of the house, y as it was read
+  -- x is the collection in the house style, y as it was read
   line_sits : {flow : Bool} {props : PropsValue} {i a k b : ℕ} {o : Option Span} (x y : Node) → o ≡ from_to a b → Opens t flow props i a k b → flow ≡ true → has_comment t cs o props ≡ false
       → Rises k (items_in y) b → Unsigned t (starts_of (leaves y)) → HasLeaf y → items_in x ≡ items_in y → leaves x ≡ leaves y → LineSits cs k b x
   unfolding from_to

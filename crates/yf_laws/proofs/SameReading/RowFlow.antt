@@ -131,7 +131,7 @@ module _ (c : Source) (cs : List CommentValue) where
   same_among : (ds : List CommentValue) (d e : CommentValue) → d.offset ≡ e.offset → is_among ds d ≡ is_among ds e
   same_among ds d e q = ap (λ o. list_any (λ (x : CommentValue). x.offset == o) ds) q
 
-  -- a comment before which no item of further rows is that another comment could be the first after; or one before all those items
+  -- e trails no key, and each comment before it is before the offset `it`; or e is before `it`
   abbrev Ahead : CommentValue → ℕ → Type 0
   Ahead e it = ((is_among c.key_comments e ≡ false) × ((d : CommentValue) → In d cs → d.offset < e.offset → d.offset < it)) ⊎ (e.offset < it)
 

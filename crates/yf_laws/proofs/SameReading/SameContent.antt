@@ -119,7 +119,7 @@ formats_meant {t} {u} {s} utf8 f b =
     let derived : b.derived ≡ well.documents = well.reads.shapes.only shapes.height b.derived shapes.derived shapes.within in
     subst (λ (w : Documents). DocumentsMeant (is_bare f.normal s) f.normal.documents f.writes.trees w.documents) (sym derived) well.meant
 
--- and its reading the events of the normal form, but for markers
+-- and its reading the events of the normal form, except for markers
 pub formats_values : {t u : List ℕ} {s : Style} {q : Lists} → IsUtf8 t → (f : IsFormatting t s u) → ReadingOf u q → bare q.events ≡ bare f.normal.events
 formats_values utf8 f b =
     ap unmarked (sym (noting_values b.noted)) ∙ (ap (λ w. stream_starts ∷ w)

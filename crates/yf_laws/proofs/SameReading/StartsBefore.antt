@@ -1,11 +1,11 @@
--- How many of some places are before another one.
+-- The number of offsets in a list that are before another one.
 use Rattle.std.proofs.Common.{◌≡◌, ℕ, ◌+◌, ◌<◌, ◌≤◌, true, false, List, [], ◌∷◌, ◌++◌, length, refl, sym, ap, ◌∙◌, arith, cond, zero-add, Bool, subst}
 use Rattle.std.specs.Prelude.{count_by, nat_lt}
 use Rattle.std.proofs.lemmas.Bool.Decides.{nat_tests}
 use Rattle.std.proofs.lemmas.List.Sums.{sum_by-cons}
 use Rattle.yf_chars.proofs.Tests.{below, not_below}
 
--- from an offset on, and all before it
+-- all at or after an offset, and all before it
 pub data AllFrom : ℕ → List ℕ → Type 0 where
   none_later : {o : ℕ} → AllFrom o []
   one_later : {o s : ℕ} {ss : List ℕ} → o ≤ s → AllFrom o ss → AllFrom o (s ∷ ss)

@@ -25,7 +25,7 @@ without_zero : (ss : List ℕ) (cs : List CommentValue) → trimmed_by (λ o. 0 
 without_zero ss [] = refl
 without_zero ss (c ∷ cs) = λ n. trimmed_by (λ o. zero-add (starts_before ss o) n) (c ∷ cs)
 
--- of a reading with these rows, by what begins on them
+-- the steps of a reading with these rows, from what begins on them
 pub counts_told : (g : Columns) (f : Row → List Step) (m : Lists) (rows : List Row) (starts : List ℕ) → length m.on_leaf_line ≡ length m.comments → Upward 0 m.comments → Flowing f (source_of m rows) m.comments 0 rows starts
     → comments_of 0 (comment_steps (remarks_of (first_gap g m rows)) ++ steps_with f rows (row_decos g m rows)) ≡ trimmed_by (starts_before starts) m.comments
 counts_told g f m rows starts notes up flow =

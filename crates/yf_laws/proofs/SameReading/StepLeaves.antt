@@ -1,5 +1,5 @@
--- Each comment of a formatted text has, in each reading of it, as many leaves before it as in the reading that was formatted, and its text but for the
--- white space that ended it.
+-- Each comment of a formatted text has, in each reading of it, as many leaves before it as in the reading that was
+-- formatted, and its text without the white space that ended it.
 use Rattle.std.proofs.Common.{◌≡◌, ℕ, List, map, ap, ◌∙◌}
 use Rattle.std.specs.Str.{IsUtf8}
 use Rattle.yf_events.proofs.TreeLemmas.{trees_unique}

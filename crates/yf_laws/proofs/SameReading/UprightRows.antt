@@ -73,7 +73,7 @@ pub last_is : (pre : List Span) (s : Span) (post : List Span) (o : ℕ) → s.st
 last_is [] s post o l a found = ap (λ b. last_leaf (if b then Some s else found) o post) (below s.start o l) ∙ stays s o post a
 last_is (p ∷ pre) s post o l a found = last_is pre s post o l a (if nat_lt p.start o then Some p else found)
 
--- no comment that is named is in between
+-- no offset d before e is after a
 not_between : (a e d : ℕ) (s : ℕ) → e < s → d < e → ((nat_lt a d && nat_lt d s) ≡ true → e ≤ d) → d ≤ a
 not_between a e d s l m f =
     ⊎_elim (λ (w : a < d). let z : e ≤ d = f (and_from _ _ (below a d w) (below d s (omega (arith, l, m)))) in absurd (omega (arith, m, z))) (λ (w : d ≤ a). w) (cases_lt a d)
@@ -92,7 +92,7 @@ module _ (c : Source) (cs : List CommentValue) (bs : List Bool) (remarks : c.rem
     there [] = front ls s
     there (p ∷ pre) = sub_skip (there pre)
 
-  -- a row is before no comment after one of its leaves
+  -- a row is not before a comment after one of its leaves
   beyond : (row : Row) (e : CommentValue) (a : ℕ) → LineFits cs row.items (starts_of row.leaves) → In e cs → Sub (a ∷ []) (starts_of row.leaves) → a < e.offset → greatest row.items ≤ e.offset
   beyond row e a f i s l =
       ⊎_elim (λ (w : e.offset < greatest row.items). let z : e.offset ≤ a = sub_one_from s (f.still e i w) in absurd (omega (arith, z, l))) (λ (w : greatest row.items ≤ e.offset). w) (cases_lt e.offset (greatest row.items))

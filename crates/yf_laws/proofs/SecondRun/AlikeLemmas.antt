@@ -39,14 +39,14 @@ same_colon (alike_aliases e) = refl
 same_colon (alike_sequences e a) = refl
 same_colon (alike_mappings e a) = refl
 
--- the text of a node within a collection, with its properties, and r after it
+-- the text of a node within a collection, with its properties, followed by r
 in_collection : (house : Style) {K : Node → Node → Node → Node → Type 0} {x y : Node} (r s : List ℕ) → Alike K x y → bare house x ≡ bare house y → r ≡ s
     → spaced (props_text (props_of x)) (bare house x) ++ r ≡ spaced (props_text (props_of y)) (bare house y) ++ s
 in_collection house {x = x} {y = y} r s a e p =
     ap (λ z. spaced (props_text z) (bare house x) ++ r) (same_props a)
     ∙ (ap (λ z. spaced (props_text (props_of y)) z ++ r) e ∙ ap (λ z. spaced (props_text (props_of y)) (bare house y) ++ z) p)
 
--- of a key with its value
+-- the text of a key with its value
 in_mapping : (house : Style) {K : Node → Node → Node → Node → Type 0} {k l v w : Node} (r s : List ℕ) → Alike K k l → Alike K v w → bare house k ≡ bare house l → bare house v ≡ bare house w → r ≡ s
     → spaced (props_text (props_of k)) (bare house k) ++ (colon_after k ++ (codes " " ++ (spaced (props_text (props_of v)) (bare house v) ++ r)))
     ≡ spaced (props_text (props_of l)) (bare house l) ++ (colon_after l ++ (codes " " ++ (spaced (props_text (props_of w)) (bare house w) ++ s)))
@@ -107,7 +107,7 @@ same_implicit {x = x} {y = y} s column a =
     ap (λ z. z && nat_le (width (written s x)) 1023) (same_one_line_key s column a)
     ∙ ap (λ z. is_one_line_key s column y && nat_le (width z) 1023) (same_written s a)
 
--- Kinds of nodes, and how many leaves they have.
+-- Kinds of nodes, and their numbers of leaves.
 
 pub same_sequence : {K : Node → Node → Node → Node → Type 0} {x y : Node} → Alike K x y → is_sequence x ≡ is_sequence y
 same_sequence (alike_scalars e) = refl

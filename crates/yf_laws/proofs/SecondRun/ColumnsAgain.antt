@@ -1,4 +1,4 @@
--- A comment that is printed at its column, among collections that are at theirs, has that column again.
+-- A comment that is printed at its column, among collections at theirs, has that column again.
 use Rattle.std.proofs.Common.{◌≡◌, ℕ, zero, suc, ◌+◌, ◌<◌, Bool, true, false, List, [], ◌∷◌, map, Option, Some, None, refl, sym, ap, ◌∙◌, subst, true≢false, arith}
 use Rattle.std.specs.Prelude.{◌==◌, ◌&&◌, not, nat_lt, if◌then◌else◌}
 use Rattle.std.proofs.lemmas.Bool.{and_parts, eqb-true}
@@ -25,7 +25,7 @@ pub data HasColumn (c : ℕ) : List OpenBlock → Type 0 where
   column_here : {b : OpenBlock} {bs : List OpenBlock} → b.printed ≡ c → HasColumn c (b ∷ bs)
   column_there : {b : OpenBlock} {bs : List OpenBlock} → HasColumn c bs → HasColumn c (b ∷ bs)
 
--- from the innermost on each is at the column of the next one, or one indentation further in
+-- from the innermost on, each is at the column of the next one or one indentation further in
 pub data InSteps (indent : ℕ) : List OpenBlock → Type 0 where
   no_step : InSteps indent []
   last_step : {b : OpenBlock} → InSteps indent (b ∷ [])
@@ -163,7 +163,7 @@ among_stays indent may next k inner all s front n = go (column_at k all) refl wh
   go None e = second k all refl
   go (Some c) e = stays_at (found_in k all e)
 
--- Those from one inward.
+-- The collections from one inward.
 
 steps_inward : {indent : ℕ} (y : OpenBlock) {bs : List OpenBlock} → InSteps indent bs → InSteps indent (inward_from y bs)
 steps_inward y no_step = no_step

@@ -165,7 +165,7 @@ again_same q utf8 f a w blanks =
     let carried = again_carried q utf8 f a w blanks in
     record { of_reading = a.of_reading; alike = w.alike; bare = w.bare; gap = carried.gap_is; decos = carried.decos_are }
 
--- The law: they are right.
+-- The law: the notes are right.
 pub formats_fixed : FormatsAreFixed
 formats_fixed t u s utf8 f =
     let accepted = formats_accepted t u s utf8 f in

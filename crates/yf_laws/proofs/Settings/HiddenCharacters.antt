@@ -35,7 +35,7 @@ record InQuotes (w : List ℕ) : Type 0 where
   low : quote < 128
   shown : AllShown inner
 
--- single quotes are for texts without hidden characters
+-- single quotes are only for texts without hidden characters
 none_hidden : (cs : List ℕ) (q : Quotes) (b : Bool) → style_in (if b then Quotes.Double else quotes_for cs q) ≡ Single → b ≡ false
 none_hidden cs q true e = absurd (apart e) where
   apart : Double ≡ Single → ⊥

@@ -57,12 +57,12 @@ shown_bytes : decorated next_columns small_lists small_rows ≡ codes "# top\n--
 unfolding is_white is_between chars begins code lib.Utf8.encode
 shown_bytes = refl
 
--- each comment with how many documents and leaves begin before it
+-- each comment with the numbers of documents and leaves that begin before it
 shown_kept : kept small_lists ≡ (codes "# top", (0, 0)) ∷ (codes "# c", (1, 2)) ∷ (codes "# d", (1, 2)) ∷ []
 unfolding is_white is_between chars begins code lib.Utf8.encode
 shown_kept = refl
 
--- one comment at most trails each row
+-- at most one comment trails each row
 shown_trails : IsRemark (codes "# c") → TrailsFit (source_of small_lists small_rows) small_rows
 unfolding is_white is_between chars begins code lib.Utf8.encode
 shown_trails a = (tt, (a, (tt, tt)))

@@ -1,4 +1,4 @@
--- What the definitions of the layout say of single nodes.
+-- The definitions of the layout, evaluated on single nodes.
 use Rattle.std.proofs.Common.{◌≡◌, true, false, [], ◌∷◌, Some, None, codes, refl, replicate}
 use Rattle.yf_props.specs.Props.{no_props}
 use Rattle.yf_forms.specs.Nodes.SingleAnswers.{kept_text_of, block_keys}

@@ -44,7 +44,7 @@ small_fits = fit_mapping refl no_fit_props
 abbrev small_decos : List Deco
 small_decos = no_deco ∷ record { trails = codes "# c" ∷ []; gap = [] } ∷ record { trails = []; gap = blank ∷ [] } ∷ no_deco ∷ no_deco ∷ []
 
--- any text that is these bytes is derived again, with its two comments
+-- any text with these bytes is derived again, with its two comments
 shown_derived : (t : List ℕ) → IsUtf8 t → IsRemark (codes "# top") → IsRemark (codes "# c") → t ≡ codes "# top\n---\n'a':  # c\n  - 'x'\n\n  -\n  - ['y']\n"
     → StreamMade t false (one_document 0) (root small_tree) (codes "# top" ∷ codes "# c" ∷ [])
 unfolding chars is_nb_char is_printable is_between is_break_char encode begins code

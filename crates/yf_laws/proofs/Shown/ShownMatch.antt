@@ -8,7 +8,7 @@ use Rattle.yf_events.specs.declared.event.ScalarStyle.TheVariants.{Plain}
 use Rattle.yf_forms.specs.declared.style.Style.{Style}
 use Rattle.yf_laws.specs.Preservation.ReadingKey.{HasPair, first_pair, later_pair, PairedOffsets, SameSide, SameSpan, one_each, none_each, colons_match, in_neither, in_both, NodesMatch, matched_scalars, matched_mappings, no_matched_pairs}
 
--- of each pair in turn
+-- for each pair in turn
 abbrev Sides : ℕ → ℕ → List (ℕ × ℕ) → Type 0
 Sides a b [] = Unit {0}
 Sides a b (p ∷ ps) = (nat_lt a p.0 ≡ nat_lt b p.1) × ((nat_lt p.0 a ≡ nat_lt p.1 b) × Sides a b ps)

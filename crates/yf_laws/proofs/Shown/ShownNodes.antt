@@ -24,7 +24,7 @@ a_text_without_documents :
 unfolding formatted
 a_text_without_documents = refl
 
--- a key that may be implicit is written so
+-- a key that may be implicit is written as one
 an_explicit_entry_becomes_implicit :
     formatted house (codes "? k\n: v\n") [] (one_document 0)
     (root (block_pairs (at 0 7 None) no_props (
@@ -82,7 +82,7 @@ a_marker_as_text :
 unfolding formatted
 a_marker_as_text = refl
 
--- directives are before `---`, a tag is spelled as it was
+-- directives are before `---`, and a tag keeps its spelling
 a_directive_and_a_tag :
     formatted house (codes "%TAG !e! tag:e.com,2000:\n---\n!e!t%21 v\n")
     []
@@ -92,7 +92,7 @@ a_directive_and_a_tag :
 unfolding formatted
 a_directive_and_a_tag = refl
 
--- after a sign are as many spaces as make up the indentation
+-- a sign is followed by the spaces that fill the indentation
 entries_four_columns_to_the_right :
     formatted four_columns (codes "a: [1, {b: }]\nc:\n- - x\n  - y\n") [] (one_document 0)
     (root (block_pairs (at 0 28 None) no_props ((
@@ -249,7 +249,7 @@ a_sequence_with_properties_at_its_key :
 unfolding formatted
 a_sequence_with_properties_at_its_key = refl
 
--- sequences in sequences are to the right of their entry by both settings
+-- sequences in sequences are right of their entry under both settings
 sequences_in_sequences_stay :
     formatted sequences_at_keys (codes "- - x\n") [] (one_document 0)
     (root (block_items (at 0 5 None) no_props (

@@ -1,4 +1,5 @@
--- As many lines of a tidy text end with white space as lines of its block scalars. So none does elsewhere, not even one that equals a scalar's line.
+-- A tidy text has as many lines that end with white space as its block scalars have. So no other line does, not even
+-- one that equals a scalar's line.
 use Rattle.std.proofs.Common.{◌≡◌, ◌≢◌, ℕ, suc, ◌*◌, Bool, false, List, [], ◌∷◌, ◌++◌, map, flat_map, replicate, refl, ap, ◌∙◌, arith, length, length-append}
 use Rattle.std.specs.Prelude.{codes, encode_utf8, if◌then◌else◌}
 use Rattle.std.proofs.lemmas.Str.{len_utf8_bounds, length-encode}

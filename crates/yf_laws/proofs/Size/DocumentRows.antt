@@ -1,4 +1,4 @@
--- The rows of documents have no more bytes than these are counted with.
+-- The rows of documents have at most as many bytes as these are counted with.
 use Rattle.std.proofs.Common.{◌≡◌, ℕ, suc, ◌+◌, ◌*◌, ◌≤◌, Bool, true, false, List, [], ◌∷◌, ◌++◌, length, map, max, refl, arith, length-append}
 use Rattle.std.proofs.Math.Nat.{le-max_left, le-max_right, mul-le-mul_right}
 use Rattle.yf_events.specs.Tree.{DocumentTree}
@@ -14,7 +14,7 @@ use Rattle.yf_laws.proofs.Size.RowBytes.{laid_size, node_laid, price, price_add,
 use Rattle.yf_laws.proofs.Size.StreamBytes.{directives_weight, words_weight}
 use Rattle.yf_laws.proofs.Size.Weights.{remark_low}
 
--- a byte for each document, beside its directives
+-- a byte for each document, in addition to its directives
 abbrev pub documents_weight : List Doc → ℕ
 documents_weight [] = 0
 documents_weight (d ∷ ds) = suc (directives_weight d.directives) + documents_weight ds

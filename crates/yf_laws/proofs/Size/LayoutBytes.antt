@@ -1,4 +1,4 @@
--- A layout has no more bytes than its rows and the comments that they carry.
+-- A layout has at most as many bytes as its rows and the comments that they carry.
 use Rattle.std.proofs.Common.{◌≡◌, ℕ, suc, ◌+◌, ◌≤◌, Bool, true, false, List, [], ◌∷◌, ◌++◌, length, map, replicate, refl, ap, arith, length-append, append-nil}
 use Rattle.std.specs.Prelude.{◌&&◌, filter, if◌then◌else◌}
 use Rattle.std.specs.List.{list_all}
@@ -22,7 +22,7 @@ pub data LowRows (w : ℕ) : List Row → Type 0 where
   no_rows_low : LowRows w []
   one_row_low : {x : Row} {xs : List Row} → x.column ≤ w → LowRows w xs → LowRows w (x ∷ xs)
 
--- and no comment, before a line that is not
+-- and no comment, if the next line isn't
 abbrev pub LowColumns : ℕ → Columns → Type 0
 LowColumns w g = (c : CommentValue) (next : ℕ) → next ≤ w → g c next ≤ w
 

@@ -33,7 +33,8 @@ use Rattle.yf_laws.proofs.Size.TextBytes.{bytes_append, bytes_more}
 use Rattle.yf_laws.proofs.Size.Weights.{half_low, props_weight, text_weight}
 use Rattle.yf_forms.proofs.Texts.WidthLemmas.{letter_low}
 
--- A text on one line: nothing, or one with room for the end of its line and a blank line before it, at eight bytes for each of n.
+-- A text on one line: nothing, or one with room for the end of its line and a blank line before it, at eight bytes for
+-- each of n.
 pub data Short (n : ℕ) : List ℕ → Type 0 where
   nothing_short : Short n []
   some_short : {w : List ℕ} → 1 ≤ n → length w + 2 ≤ 8 * n → Short n w
@@ -94,7 +95,7 @@ spelled_most c = by (short_name c) refl where
       (cases_Bool (is_by_four c)))
       (cases_Bool (is_by_two c))
 
--- a hidden character by its number: six bytes, and it has two at least, or ten, and it has four
+-- a hidden character as a number: six bytes, for at least two in UTF-8; or ten, for at least four
 beyond_ascii : (c : ℕ) → 160 < c → 2 ≤ len_utf8 c
 beyond_ascii c l = grind (arith, nat_tests)
 
@@ -188,7 +189,7 @@ one_at : (w column : ℕ) (x : List ℕ) → column ≤ w → length (line_at co
 one_at w column [] l = omega arith
 one_at w column (b ∷ x) l = let m = suc-mul (length x) w in omega (arith, l, m, length-append (replicate column 32) (b ∷ x), length-replicate {A = ℕ} column 32)
 
--- lines at a column of w at most: w for each character, and each with its end
+-- lines at a column of at most w: w for each character, and the end of each line
 lines_at : (w column : ℕ) (ls : List (List ℕ)) → column ≤ w → body_size (map (line_at column) ls) ≤ chars_in ls * w + length (literal_after ls)
 lines_at w column [] l = omega arith
 lines_at w column (x ∷ ls) l =
@@ -288,7 +289,7 @@ lines_cost indent props style text ls tail n w column l a b d =
     let eight : p * (w + 8) ≡ p * w + p * 8 = mul-add p w 8 in
     omega (arith, body, head, props_two, header, all, next, wide, eight)
 
--- Scalars in the style of the house.
+-- Scalars in the house style.
 
 quoted_off : (q : Quotes) → is_block_style (style_in q) ≡ false
 quoted_off Quotes.Single = refl

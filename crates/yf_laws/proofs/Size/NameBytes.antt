@@ -1,4 +1,4 @@
--- Properties and aliases are written with no more bytes than they have in a text.
+-- Properties and aliases are written with at most as many bytes as they have in a text.
 use Rattle.std.proofs.Common.{ℕ, ℤ, suc, ◌+◌, ◌≤◌, List, [], ◌∷◌, length, Some, arith, length-append}
 use Rattle.std.specs.Prelude.{slice_range}
 use Rattle.yf_chars.specs.declared.context.Ctx.{Ctx}

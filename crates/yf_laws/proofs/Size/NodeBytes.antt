@@ -69,7 +69,7 @@ nothing_enclosed sequence flow span = record {
       omega (arith, first, last);
 }
 
--- the first event with properties, and as the beginning of an entry
+-- the first event with properties, and as the start of an entry
 
 with_closing : (props : PropsValue) (e : EventValue) (after : Bool) → closing (event_with props e) after ≡ closing e after
 with_closing props stream_starts after = refl

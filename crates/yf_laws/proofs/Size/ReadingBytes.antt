@@ -1,4 +1,5 @@
--- The trees of a reading, its documents and its comments have no more bytes than the text and one; and what its normal form costs by these.
+-- The trees of a reading, its documents and its comments have at most one byte more than the text; and the cost of its
+-- normal form from these.
 use Rattle.std.proofs.Common.{◌≡◌, ℕ, suc, ◌+◌, ◌≤◌, Bool, false, List, [], ◌∷◌, ◌++◌, length, map, Option, refl, ap, ◌∙◌, subst, arith, append_assoc, flat_map}
 use Rattle.std.proofs.Math.Nat.{max-le}
 use Rattle.std.proofs.lemmas.Str.{IsUtf8-nil}
@@ -28,7 +29,7 @@ use Rattle.yf_laws.proofs.Size.Weights.{closing, entry_weight, opens, remark_wei
 use Rattle.yf_laws.proofs.Writable.ReadTrees.{ReadNode, read_nothing, read_props, read_scalar, read_alias, read_sequence, read_mapping, ReadItems, read_no_items, read_item, ReadPairs, read_no_pairs, read_pair}
 use Rattle.yf_laws.proofs.Writable.TreesRead.{document_read, read_alike, same_node}
 
--- Notes on blank lines count for nothing.
+-- Notes on blank lines don't count.
 
 noted_weight : {t : List ℕ} {floor : ℕ} {xs ys : List EventInText} → Noting t floor xs ys → (after : Bool) → weigh after xs ≡ weigh after ys
 noted_weight no_event after = refl
@@ -43,7 +44,7 @@ noted_remarks (one_comment {c = c} b more) = ap (λ k. remark_weight c.text + k)
 
 -- Documents.
 
--- what the events of documents weigh
+-- the weight of the events of documents
 documents_weigh : {t : List ℕ} {ds : List Document} {x : List EventInText} {tags : List (Option (List ℕ))} {n : ℕ} → DocumentEvents t ds x tags → DocumentsWeigh n ds
     → (rest : List EventInText) → weigh false (x ++ rest) + documents_weight (map doc_of ds) ≤ n + weigh false rest
 documents_weigh no_document none_weigh rest = omega arith
@@ -106,7 +107,7 @@ module _ (t : List ℕ) (c : LayoutSetting) where
     pairs_costs read_no_pairs = no_more_pairs
     pairs_costs (read_pair a b more) = more_pairs_cost (styled_costs a) (styled_costs b) (pairs_costs more)
 
-  -- and no more collections are open in it than within the limit
+  -- and at most as many collections are open in it as the limit allows
   pub record DocumentsCost (h : ℕ) (trees : List DocumentTree) : Type 0 where
     pub costs : TreesCost c.style (trees_bulk trees) (map (normal_document t c) trees)
     pub low : tall_documents trees ≤ h

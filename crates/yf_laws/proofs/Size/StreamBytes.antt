@@ -1,4 +1,5 @@
--- The documents of a stream have no more bytes than its text and one: their events, one for each document, and their directives, beside all comments.
+-- The documents of a stream have at most one byte more than its text: their events, one for each document, and their
+-- directives, in addition to all comments.
 use Rattle.std.proofs.Common.{◌≡◌, ℕ, suc, ◌+◌, ◌-◌, ◌<◌, ◌≤◌, true, List, [], ◌∷◌, ◌++◌, length, arith}
 use Rattle.std.specs.Prelude.{slice_range}
 use Rattle.yf_chars.specs.Chain.{Chain}
@@ -28,7 +29,7 @@ use Rattle.yf_laws.proofs.Size.CommentBytes.{end_remarks, line_remarks, slice_sh
 use Rattle.yf_laws.proofs.Size.NodeBytes.{Fills, fills, fills_nothing, fills_noting}
 use Rattle.yf_laws.proofs.Size.Weights.{Weighs, remark_high, remark_weight, remarks_append, remarks_weight}
 
--- Directives: their words, each with a byte at least, and the sign.
+-- Directives: their words, each with at least one byte, and the sign.
 
 abbrev pub words_weight : List (List ℕ) → ℕ
 words_weight [] = 0

@@ -119,7 +119,7 @@ module _ {t : List ℕ} where
   plain_within (as_key k l) = line_within l
   plain_within (as_lines {x = x} {y = y} k l d) = let m = line_within l in let n = chain_within next_within d in omega (arith, m, n, bytes_append x y)
 
--- Quoted scalars: a text of no more than twice the bytes.
+-- Quoted scalars: a text of at most twice the bytes.
 
 record Adds {A : Type 0} (put : List ℕ → List A) (size : List A → ℕ) : Type 0 where
   none : size [] ≡ 0

@@ -1,4 +1,4 @@
--- The events of trees that are in a text have as many bytes as the trees are counted by.
+-- The events of trees that are in a text have as many bytes as the trees are counted with.
 use Rattle.std.proofs.Common.{◌≡◌, ℕ, suc, ◌+◌, ◌≤◌, Bool, true, false, List, [], ◌∷◌, ◌++◌, length, Option, Some, ap, arith, append_assoc}
 use Rattle.yf_events.specs.Event.{EventInText, mapping_ends, sequence_ends}
 use Rattle.yf_events.specs.Tree.{Node, scalar, alias, sequence, mapping, Items, no_items, item, Pairs, no_pairs, pair, flat, flat_items, flat_pairs, standing, unplaced}

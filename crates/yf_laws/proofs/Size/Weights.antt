@@ -1,4 +1,4 @@
--- How many bytes of a text the events and the comments of a reading have at least, as a number for each of them.
+-- A lower bound of the bytes of a text for the events and the comments of a reading: a number for each of them.
 use Rattle.std.proofs.Common.{◌≡◌, ℕ, zero, suc, ◌+◌, ◌≤◌, Bool, true, false, List, [], ◌∷◌, ◌++◌, length, Option, Some, None, refl, sym, subst, arith, append_assoc}
 use Rattle.std.specs.Prelude.{max}
 use Rattle.yf_comments.specs.Comment.{CommentValue}
@@ -28,7 +28,8 @@ half_high (suc zero) (suc m) l = omega arith
 half_high (suc (suc n)) zero l = absurd (omega (arith, l))
 half_high (suc (suc n)) (suc m) l = let k : half n ≤ m = half_high n m (omega (arith, l)) in omega (arith, k)
 
--- a scalar without its properties: in double quotes two bytes of the text may be three of the content (`\L`), so half of its length is asked for
+-- a scalar without its properties: in double quotes two bytes of the text may be three of the content (`\L`), so only
+-- half of its length is required
 abbrev pub text_weight : ScalarStyle → List ℕ → List (List ℕ) → ℕ
 text_weight Plain text lines = length text
 text_weight Single text lines = half (length text) + 2
@@ -86,7 +87,7 @@ closing mapping_ends empty = one_if empty
 closing (scalar_node props style text) empty = 0
 closing (alias_node name) empty = 0
 
--- of events after one that begins a collection, or after another one
+-- for events after one that begins a collection, or after another one
 abbrev pub weigh : Bool → List EventInText → ℕ
 weigh after [] = 0
 weigh after (e ∷ es) = (value_weight e.event e.folded + entry_weight e.entry) + (closing e.event after + weigh (opens e.event) es)
@@ -107,7 +108,7 @@ pub weigh_least : (after : Bool) (es : List EventInText) → weigh false es ≤ 
 weigh_least after [] = omega arith
 weigh_least after (e ∷ es) = let none = closing_none e.event in omega (arith, none)
 
--- these events add no more than n to those after them, whatever is before them
+-- these events add at most n to those after them, whatever is before them
 pub record Weighs (n : ℕ) (es : List EventInText) : Type 0 where
   pub adds : (after : Bool) (rest : List EventInText) → weigh after (es ++ rest) ≤ n + weigh false rest
 

@@ -69,7 +69,7 @@ module _ (Token : List ℕ → Type 0) where
   others_tabs (tag_words e a b) = one_word (handle_tabs Token a) (one_word (prefix_tabs b) no_words)
   others_tabs (other_words e f a) = parameters_tabs a
 
-  -- a directive reads back, so its words are a directive's
+  -- a directive reads back, so its words are words of a directive
   directive_tabs : {ws : List (List ℕ)} → FitDirective ws → AreTabless Token ws
   directive_tabs {ws} f =
       let u : IsUtf8 (37 ∷ (joined_words ws ++ [])) = line_utf8 (visible_line 37 (omega arith) (omega arith) (line_append f.line line_nothing)) in

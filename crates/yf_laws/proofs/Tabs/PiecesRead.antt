@@ -1,4 +1,4 @@
--- The pieces of a tree that is read have no tab but in its plain and single-quoted scalars.
+-- The pieces of a tree that is read have tabs only in its plain and single-quoted scalars.
 use Rattle.std.proofs.Common.{◌≡◌, ℕ, ◌⊎◌, inl, inr, ⊎_elim, Bool, List, [], ◌∷◌, ◌++◌, refl, sym, subst}
 use Rattle.std.specs.Prelude.{chars}
 use Rattle.std.proofs.lemmas.Grind.{flat_map-append}

@@ -18,7 +18,7 @@ use Rattle.yf_forms.specs.Nodes.OneLine.{bare, colon_after, colon_after_props, m
 use Rattle.yf_print.specs.Layouts.Rows.{Row, begins_below, beginning_at, after_key, colon_row, directive_row, end_rows, entry_row, explicit_pair, implicit_pair, joined, joined_words, key_row, one_line_row, pair_rows, props_row, rows, rows_of_items, rows_of_pairs, stream_rows, all_rows, begun_at}
 use Rattle.yf_laws.specs.Preservation.Tokens.{HasText, first_text, later_text, TabsWithin, at_end, no_tab, a_token}
 
--- The pieces that are written of an event: properties, a scalar in its style, the name of an alias.
+-- The written pieces of an event: properties, a scalar in its style, the name of an alias.
 
 abbrev pub pieces_of_event : Style → EventValue → List (List ℕ)
 pieces_of_event house (scalar_node props style text) = props_text props ∷ scalar_text house style text ∷ []
@@ -53,7 +53,7 @@ module _ (Token : List ℕ → Type 0) where
   abbrev pub Tabs : List ℕ → Type 0
   Tabs x = TabsWithin Token x
 
-  -- in none of these texts a tab is elsewhere
+  -- these texts have no tab elsewhere
   abbrev pub AreTabless : List (List ℕ) → Type 0
   AreTabless ws = (w : List ℕ) → HasText w ws → Tabs w
 
@@ -117,7 +117,7 @@ module _ (Token : List ℕ → Type 0) where
   colon_tabs (sequence at flow props xs) = sign 58 (omega arith) at_end
   colon_tabs (mapping at flow props ps) = sign 58 (omega arith) at_end
 
-  -- a key and its value, and what comes after them
+  -- a key and its value, and what follows them
   pair_tabs : (house : Style) (k v : Node) {x : List ℕ} → Tabs (written house k) → Tabs (written house v) → Tabs x → Tabs (written house k ++ (colon_after k ++ (32 ∷ (written house v ++ x))))
   pair_tabs house k v a b d = tabs_append a (tabs_append (colon_tabs k) (sign 32 (omega arith) (tabs_append b d)))
 

@@ -1,4 +1,4 @@
--- The pieces of a reading have no tab but in its plain and single-quoted scalars.
+-- The pieces of a reading have tabs only in its plain and single-quoted scalars.
 use Rattle.std.proofs.Common.{◌≡◌, ℕ, false, List, [], ◌∷◌, flat_map, refl, sym, subst}
 use Rattle.std.specs.Str.{IsUtf8}
 use Rattle.yf_events.specs.Event.{EventInText, document_ends, stream_ends}

@@ -28,7 +28,7 @@ feed_utf8 {z} u =
     let same : encode 10 ≡ 10 ∷ [] = encode_ascii 10 (omega arith) in
     subst (λ w. IsUtf8 (w ++ z)) same (IsUtf8-append (encode 10) z (IsUtf8-encode 10 feed_scalar) u)
 
--- The bytes between two places.
+-- The bytes between two offsets.
 
 pub space_chars : chars (32 ∷ []) ≡ 32 ∷ []
 unfolding chars

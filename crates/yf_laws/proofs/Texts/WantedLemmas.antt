@@ -1,4 +1,4 @@
--- A scalar in the style of the house keeps it, and its lines.
+-- A scalar in the house style keeps its style and its lines.
 use Rattle.std.proofs.Common.{◌≡◌, ℕ, Bool, true, false, List, chars, refl, ap}
 use Rattle.std.specs.Prelude.{if◌then◌else◌}
 use Rattle.yf_lines.specs.Steady.{is_steady}

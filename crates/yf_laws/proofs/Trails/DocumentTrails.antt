@@ -51,7 +51,7 @@ begins_blank is_first d =
 abbrev pub leaves_of : List DocumentTree → List Span
 leaves_of ds = flat_map (λ d. leaves d.root) ds
 
--- roots in the style of the house
+-- roots in the house style
 abbrev pub InHouse : LayoutSetting → List DocumentTree → Type 0
 InHouse c [] = Unit {0}
 InHouse c (d ∷ ds) = House c d.root × InHouse c ds

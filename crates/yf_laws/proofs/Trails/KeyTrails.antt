@@ -1,4 +1,4 @@
--- The comments that the forms of a normal form give its keys are those that trail keys in its layout.
+-- The comments that the forms of a normal form give to its keys are those that trail keys in its layout.
 use Rattle.std.proofs.Common.{◌≡◌, ℕ, zero, suc, ◌-◌, Bool, true, false, ◌&&◌, List, [], ◌∷◌, ◌++◌, codes, length, flat_map, replicate, Option, Some, None, refl, sym, ap, ◌∙◌, append_assoc, append-nil, true≢false}
 use Rattle.std.specs.Prelude.{◌||◌, find, option_map, option_to_list, slice_get, nat_lt, if◌then◌else◌}
 use Rattle.std.proofs.lemmas.Grind.{flat_map-append}
@@ -45,7 +45,7 @@ comment_at cs k v = by (is_text v || is_filled_flow v) (leaves v) where
   by true (s ∷ ss) = found_at (λ c. nat_lt (Normal.key_start k) c.offset && nat_lt c.offset s.start) cs
   by false ss = refl
 
--- Of forms, and of rows.
+-- For forms, and for rows.
 
 abbrev pub indices_of : List Form → List ℕ
 indices_of fs = flat_map (λ f. option_to_list f.key_comment) fs
@@ -102,9 +102,9 @@ keys_after head (Some c) below xs e = refl
 keys_after head None true xs e = ap (λ o. option_to_list o ++ keys_on xs) e
 keys_after head None false xs e = keys_joined head 1 xs e
 
--- Of a normal form: settled, and in the style of the house.
+-- For a normal form: settled, and in the house style.
 
--- of a node on one line
+-- for a node on one line
 whole_given : (c : LayoutSetting) (site : Site) (f : Form) (column : ℕ) (x : Node) (w : List ℕ) (fs : List Form) → f.key_comment ≡ site.key_comment → given c fs ≡ []
     → given c (f ∷ (fs ++ (no_form ∷ []))) ≡ at_some c.comments site.key_comment ++ keys_on (one_line_row column x w)
 whole_given c site f column x w fs e g =
@@ -119,7 +119,7 @@ leaf_given c site f xs e g =
 line_given : (c : LayoutSetting) (site : Site) (x : Node) → given c (form_of c.style site x ∷ []) ≡ at_some c.comments site.key_comment ++ keys_on (one_line_row site.margins.column x (written c.style x))
 line_given c site x = leaf_given c site (form_of c.style site x) (one_line_row site.margins.column x (written c.style x)) refl (keys_line site.margins.column x (written c.style x))
 
--- of a block collection
+-- for a block collection
 block_given : (c : LayoutSetting) (site : Site) (f : Form) (p : List ℕ) (fs : List Form) (xs : List Row) → f.key_comment ≡ site.key_comment → given c fs ≡ keys_on xs
     → given c (f ∷ (fs ++ (no_form ∷ []))) ≡ at_some c.comments site.key_comment ++ keys_on (props_row site.margins.column p ++ xs)
 block_given c site f p fs xs e g =

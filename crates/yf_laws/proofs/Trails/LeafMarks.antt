@@ -12,7 +12,7 @@ use Rattle.yf_forms.specs.Passes.Searches.{count_to}
 use Rattle.yf_print.specs.Passes.TrailPass.{TrailState, first_of, is_leaf, leaf_if, pass, with_leaf}
 use Rattle.yf_chars.proofs.Tests.{below}
 
--- a leaf with characters: the index of the event that begins it, and its part of the text
+-- a leaf with characters: the index of the event that begins it, and its span
 pub record Mark : Type 0 where
   pub event : ℕ
   pub span : Span
@@ -26,7 +26,7 @@ mark_if true i None = []
 mark_if true i (Some span) = mark i span ∷ []
 mark_if false i o = []
 
--- of events that are from an index on
+-- the marks of events from an index on
 abbrev pub event_marks : List Measure → ℕ → List EventInText → List Mark
 event_marks ms i [] = []
 event_marks ms i (e ∷ es) = mark_if (is_leaf ms i) i e.span ++ event_marks ms (i + 1) es
@@ -63,7 +63,7 @@ one_marked r true i None w = refl
 one_marked r true i (Some span) w = refl
 one_marked r false i o w = refl
 
--- the pass over events goes past their leaves
+-- the pass over events passes their leaves
 pub pass_marks : (r : Lists) (ms : List Measure) (i : ℕ) (es : List EventInText) (w : TrailState) → pass r ms i es w ≡ past_marks r (event_marks ms i es) w
 unfolding pass
 pass_marks r ms i [] w = refl
@@ -72,7 +72,7 @@ pass_marks r ms i (e ∷ es) w =
     ∙ (pass_marks r ms (i + 1) es (past_marks r (mark_if (is_leaf ms i) i e.span) w)
     ∙ sym (past_more r (mark_if (is_leaf ms i) i e.span) (event_marks ms (i + 1) es) w))
 
--- The events of the marks come one after the other.
+-- The events of the marks rise.
 
 abbrev pub not_at : ℕ → List Mark → Bool
 not_at j ls = list_all (λ l. nat_lt j l.event) ls

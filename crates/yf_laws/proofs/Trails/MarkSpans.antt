@@ -1,4 +1,4 @@
--- The leaves that the pass over the events of trees meets are the leaves of the trees, and each has its mark.
+-- The leaves that the pass over the events of trees finds are the leaves of the trees, and each has its mark.
 use Rattle.std.proofs.Common.{◌≡◌, ℕ, ◌+◌, ◌<◌, Bool, true, false, ◌&&◌, List, [], ◌∷◌, ◌++◌, length, flat_map, Option, Some, None, refl, sym, ap, ◌∙◌, arith, append-nil}
 use Rattle.std.specs.Prelude.{is_some, if◌then◌else◌}
 use Rattle.std.proofs.lemmas.Bool.{and_parts}
@@ -18,7 +18,7 @@ use Rattle.yf_laws.proofs.Trails.LeafMarks.{Mark, event_marks, mark, mark_if, ma
 use Rattle.yf_laws.proofs.Printer.MeasureFacts.{MeasuresTell}
 use Rattle.yf_laws.proofs.Trails.TrailRuns.{spans}
 
--- events that were measured
+-- events that are measured
 pub record Seen : Type 0 where
   pub events : List EventInText
   pub measures : List Measure
@@ -114,7 +114,7 @@ documents_spans g i (d ∷ ds) h a =
     (node_spans g (i + 1) d.root hs.0 (front (flat d.root) (end ∷ []) (after_first (unplaced (document_starts d.marked)) (flat d.root ++ (end ∷ [])) here))))
     (documents_spans g (i + length (flat_document d)) ds hs.1 (back (flat_document d) (flat_map flat_document ds) a))
 
--- of a whole stream
+-- for a whole stream
 pub stream_spans : (g : Seen) (ds : List DocumentTree) → g.events ≡ flat_stream ds → documents_are_placed ds ≡ true
     → spans (event_marks g.measures 0 g.events) ≡ flat_map (λ d. leaves d.root) ds
 stream_spans g ds e h =

@@ -25,7 +25,7 @@ use Rattle.yf_laws.proofs.NormalForms.NormalSame.{root_same, styled_same}
 use Rattle.yf_laws.proofs.OfTexts.PlacedTrees.{node_placed}
 use Rattle.yf_laws.proofs.NormalForms.StyledTwice.{normal_house}
 
--- Leaves between two places between which no comment is.
+-- Leaves between two offsets with no comment between them.
 
 none_there : (k a b n o : ℕ) → k ≤ a → o ≤ b → (nat_le k n && nat_lt n b) ≡ false → (nat_lt a n && nat_lt n o) ≡ false
 none_there k a b n o l m e = grind (arith, nat_tests)
@@ -121,7 +121,7 @@ module _ {t : List ℕ} (u : IsUtf8 t) (c : LayoutSetting) where
     pairs_still column (pair_is_at {k = k} {v = v} f q l a d g r) =
         (node_still (key_margins c.style column (styled t c k)) a, (node_still (value_margins c column (styled t c k) (styled t c v)) g, pairs_still column r))
 
-  -- of the documents of a stream
+  -- for the documents of a stream
   pub trees_kept : {i : ℕ} {ds : List Doc} {trees : List DocumentTree} → TreesStand t i ds trees → TreesKept c (map (normal_document t c) trees)
   trees_kept (no_trees_stand l) = tt
   trees_kept (tree_is_at {tree = tree} d a b z) =

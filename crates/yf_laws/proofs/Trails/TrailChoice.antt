@@ -11,7 +11,7 @@ use Rattle.yf_forms.specs.Passes.Searches.{count_to}
 use Rattle.yf_laws.specs.Layouts.Layout.{Remark, Source, first_comment, is_before, next_leaf}
 use Rattle.yf_laws.proofs.Printer.FeedLemmas.{ascend}
 
--- how many comments are before the next leaf
+-- the number of comments before the next leaf
 abbrev pub until : Option ℕ → List CommentValue → ℕ
 until None cs = length cs
 until (Some end) cs = count_to end cs
@@ -42,7 +42,7 @@ one_further n u = grind (arith, nat_tests)
 positive : (n : ℕ) → nat_lt 0 (suc n) ≡ true
 positive n = grind (arith, nat_tests)
 
--- none is picked of those from the next leaf on
+-- none of those from the next leaf on is chosen
 none_found : (start n end : ℕ) (cs : List CommentValue) (bs : List Bool) → list_all (λ d. nat_le n d.offset) cs ≡ true → nat_lt n end ≡ false
     → find (λ (r : Remark). nat_lt start r.0.offset && is_before r.0.offset (Some end)) (zip cs bs) ≡ None
 none_found start n end [] bs a e = refl
@@ -106,7 +106,7 @@ first_picked start next (c ∷ cs) (b ∷ bs) a n l = by (nat_lt c.offset start)
       ∙ (h ∙ sym (pick_later start next c b cs bs l e))
   by false e h = ap (λ w. if w && is_before c.offset next then Some (c, b) else rest next) (after start c.offset e apart.0) ∙ here next
 
--- Leaves that begin one after the other.
+-- Leaves whose starts rise.
 
 abbrev pub rising : List Span → Bool
 rising [] = true

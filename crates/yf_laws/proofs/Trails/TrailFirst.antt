@@ -46,7 +46,7 @@ noted_first p (c ∷ cs) (b ∷ bs) r h = go (p c) (noted_first p cs bs r) h whe
   go true f k = ap (λ (o : Remark). Some o.0) (same_Some (c, b) r k)
   go false f k = f k
 
--- A comment after the beginning of a leaf and before further leaves, and none between.
+-- A comment after the start of a leaf and before further leaves, with none between.
 pub record FirstAfter (cs : List CommentValue) (from : ℕ) (post : List Span) (e : CommentValue) : Type 0 where
   pub among : In e cs
   pub after : from < e.offset

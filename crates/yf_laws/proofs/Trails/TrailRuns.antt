@@ -16,7 +16,7 @@ use Rattle.yf_laws.proofs.Trails.TrailChoice.{rising, start_of_first, until}
 use Rattle.yf_chars.proofs.Tests.{below, is_less}
 use Rattle.yf_laws.proofs.Printer.FedLemmas.{count_within}
 
--- Counting on from one offset to a later one counts all before the later one.
+-- Counting from one offset on to a later one counts all before the later one.
 
 pub counted_on : (o p : ℕ) (cs : List CommentValue) → o < p → count_to o cs + count_to p (drop (count_to o cs) cs) ≡ count_to p cs
 counted_on o p [] l = refl
@@ -31,7 +31,7 @@ counted_on o p (c ∷ cs) l = by (nat_lt c.offset o) refl (counted_on o p cs l) 
     none : (n : ℕ) → 0 + n ≡ n
     none n = omega arith
 
--- Leaves one after the other.
+-- Leaves in sequence.
 
 abbrev pub leaf_in : Lists → Mark → Leaf
 leaf_in r l = record { event = l.event; end = l.span.end; first = count_to l.span.start r.comments }
@@ -64,7 +64,7 @@ run_is r (l ∷ ls) f u =
 
 -- The result for one leaf.
 
--- the comments from an index on are marked alike
+-- the marks of comments from an index on are equal
 pub record Agree (n : ℕ) (one other : List Bool) : Type 0 where
   pub agree : (k : ℕ) → n ≤ k → get_or one k false ≡ get_or other k false
 
@@ -123,7 +123,7 @@ counted_to_end r l (m ∷ ls) u =
 abbrev pub found_of : Lists → List Bool → Mark → List Mark → Option ℕ
 found_of r keys l ls = if trails_leaf r keys (leaf_in r l) (end_of r ls) then Some (count_to l.span.start r.comments) else None
 
--- from the first leaf on the comments are marked as by the keys
+-- from the first leaf on, the marks of comments are those of the keys
 abbrev pub AgreeFrom : Lists → List Mark → List Bool → List Bool → Type 0
 AgreeFrom r [] one other = Unit {0}
 AgreeFrom r (l ∷ ls) one other = Agree (count_to l.span.start r.comments) one other

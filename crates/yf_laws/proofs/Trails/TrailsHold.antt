@@ -91,7 +91,7 @@ alike : (r : Lists) (ls : List Mark) (ts : List Bool) → AgreeFrom r ls ts ts
 alike r [] ts = tt
 alike r (l ∷ ls) ts = record { agree = λ k h. refl }
 
--- a stream that was measured and decided
+-- a stream that is measured and decided
 record Passed (m : Lists) (s : Style) (n : ℕ) (ds : List DocumentTree) (ms : List Measure) (fs : List Form) : Type 0 where
   placing : Placing m s n ds
   measured : MeasuresTell m.events ms
@@ -119,7 +119,7 @@ closed_is : {m : Lists} {s : Style} {n : ℕ} {ds : List DocumentTree} {ms : Lis
     → all_found m ms fs ≡ closed_all m (marks_of m ms) (start m fs).found
 closed_is {m} {s} {n} {ds} {ms} {fs} p = ap (ended m) (pass_marks m ms 0 m.events (start m fs)) ∙ run_is m (marks_of m ms) (start m fs).found (spans_rise p)
 
--- the comment that is found of a leaf
+-- the comment that is found for a leaf
 leaf_found : {m : Lists} {s : Style} {n : ℕ} {ds : List DocumentTree} {ms : List Measure} {fs : List Form} → Passed m s n ds ms fs
     → (j : ℕ) (x : Node) (leaf : Span) → NodeAt m.events j x → is_text x ≡ true → (standing x).span ≡ Some leaf
     → at_index m.comments (get_or (all_found m ms fs).of_leaf j None) ≡ trailing_leaf (source m s ds) leaf (first_comment (source m s ds) leaf)
@@ -139,7 +139,7 @@ leaf_found {m} {s} {n} {ds} {ms} {fs} p j x leaf at t q =
     ∙ sym (chosen_of m (source m s ds) keys a.earlier (mark j leaf) a.later refl p.placing.noted (rows_leaves p ∙ (sym (tree_spans p) ∙ all)) p.placing.ascend
     (ap rising (sym all) ∙ spans_rise p) (none_at_one m.comments (spans a.earlier) leaf (spans a.later) apart) (key_marks m s n ds fs p.placing p.decided)))
 
--- whether a comment trails anything
+-- whether a comment trails a row
 comment_found : {m : Lists} {s : Style} {n : ℕ} {ds : List DocumentTree} {ms : List Measure} {fs : List Form} → Passed m s n ds ms fs
     → (k : ℕ) (d : CommentValue) → slice_get m.comments k ≡ Some d → get_or (all_found m ms fs).trailing k false ≡ is_among (flat_map (trailing (source m s ds)) (rows_of m s ds)) d
 comment_found {m} {s} {n} {ds} {ms} {fs} p k d q =

@@ -57,7 +57,7 @@ are_lines : (ls : List (List ℕ)) → AreLineTexts ls → AreLines ls
 are_lines [] a = tt
 are_lines (x ∷ ls) a = (no_feed a.0, are_lines ls a.1)
 
--- Texts that end with no line feed.
+-- Texts that don't end with a line feed.
 
 abbrev EndsSolid : List ℕ → Type 0
 EndsSolid [] = ⊥

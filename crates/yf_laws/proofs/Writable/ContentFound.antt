@@ -71,7 +71,7 @@ signs_begin : (begins_properties 38 ≡ true) × (begins_properties 33 ≡ true)
 unfolding begins_properties
 signs_begin = (refl, refl)
 
--- How many bytes a property has.
+-- The number of bytes of a property.
 
 slice_long : (t : List ℕ) (i j : ℕ) → j ≤ length t → length (slice_range t i j) ≡ j - i
 slice_long t i j l = omega (arith, length-take (j - i) (drop i t), length-drop i t, l)

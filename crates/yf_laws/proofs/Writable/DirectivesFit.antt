@@ -40,7 +40,7 @@ use Rattle.yf_chars.proofs.CharFacts.{space_nb}
 
 -- The parts of words.
 
--- a first character that begins no comment
+-- a first character that doesn't begin a comment
 abbrev NoHash : List ℕ → Type 0
 NoHash [] = Unit {0}
 NoHash (c ∷ cs) = c ≢ 35

@@ -31,7 +31,7 @@ use Rattle.yf_laws.proofs.OutputLines.HeldLemmas.{entering_silent}
 use Rattle.yf_laws.proofs.Writable.WrittenQuotes.{collection_quotes, collection_with_quotes, entering_quotes, meanings_quotes, past_two}
 use Rattle.yf_grammar.proofs.FlowReader.FlowStarts.{in_flow_not_block}
 
--- Comments: there are none.
+-- Comments: none.
 
 silent_both : (x y : Meaning) → x.comments ≡ [] → y.comments ≡ [] → (x ⊕ y).comments ≡ []
 unfolding ◌⊕◌

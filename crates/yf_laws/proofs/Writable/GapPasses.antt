@@ -1,4 +1,5 @@
--- White space, line breaks and comments that separate are passed as they are counted by bytes, up to a place that is within no comment.
+-- White space, line breaks and comments of a separation are passed as they are counted by bytes, up to an offset that
+-- isn't within a comment.
 use Rattle.std.proofs.Common.{◌≡◌, ◌≢◌, ℕ, ℤ, zero, suc, ◌+◌, ◌-◌, ◌<◌, ◌≤◌, Bool, true, false, List, ◌∷◌, length, take, drop, get_or, min, refl, sym, ◌∙◌, subst, ⊎_elim, arith}
 use Rattle.std.proofs.lemmas.Bool.{cases_eq, cases_lt}
 use Rattle.std.proofs.lemmas.Bool.Decides.{nat_tests}

@@ -110,7 +110,7 @@ plain_utf8 (as_lines {x = x} {y = y} k l d) = fine_both x y (line_fine l) (chain
 
 -- Quoted scalars.
 
--- what holds of what the parts mean
+-- a property of the meanings of the parts
 record Sums {A : Type 0} (put : List ℕ → List A) (P : List A → Type 0) : Type 0 where
   none : P []
   both : (x y : List A) → P x → P y → P (x ++ y)

@@ -9,7 +9,7 @@ use Rattle.yf_props.specs.Props.{PropsValue, no_props}
 use Rattle.yf_props.proofs.NamesMade.{props_made}
 use Rattle.yf_laws.specs.Layouts.ReadableTrees.{FitProps, some_fit_props}
 
--- they are not none
+-- the properties are not empty
 tagged : (p : PropsValue) → is_some p.tag ≡ true → p ≢ no_props
 tagged p t e = true≢false (sym t ∙ ap (λ (w : PropsValue). is_some w.tag) e)
 

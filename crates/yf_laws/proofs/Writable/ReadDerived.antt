@@ -1,5 +1,5 @@
--- Each node that is derived is a tree that is read: its plain scalars were ones in their contexts, and its literal and folded ones have
--- the lines of their texts.
+-- Each derived node is a tree that is read: its plain scalars were plain in their contexts, and its literal and folded
+-- ones have the lines of their texts.
 use Rattle.std.proofs.Common.{◌≡◌, ℕ, ◌+◌, ℤ, Bool, true, false, List, [], ◌++◌, Some, None, refl, arith, encode_utf8_all}
 use Rattle.std.specs.Prelude.{◌||◌}
 use Rattle.std.specs.Str.{IsUtf8}
@@ -31,7 +31,7 @@ use Rattle.yf_laws.proofs.Writable.PropsFits.{props_some}
 use Rattle.yf_laws.proofs.Writable.ReadParts.{NodeRead, PairRead, EntryRead, an_item, a_pair, EntriesRead, spanned, some_span, node_next, node_noting, pair_after, entry_noting, entries_after, node_entering, nothing_read, pair_of, last_of, more_of, none_of, collection_read, node_with}
 use Rattle.yf_laws.proofs.Writable.ReadFits.{outside}
 
--- in a flow collection a node is known to be so; elsewhere nothing is asked
+-- in a flow collection a node is known to be in one; elsewhere there is no condition
 abbrev pub ReadClaim : ℕ → Production → Meaning → Type 0
 ReadClaim h (FlowNode n c) x = is_block c ≡ false → (b : Bool) → (b ≡ true → is_inside c ≡ true) → NodeRead h b x
 ReadClaim h (NodeOf json n c) x = is_block c ≡ false → (b : Bool) → (b ≡ true → is_inside c ≡ true) → NodeRead h b x

@@ -1,5 +1,5 @@
--- Of a tree that is read, the normal form can be laid out and is read again: each node on one line reads back, and each literal or folded
--- scalar has the lines of its text.
+-- The normal form of a tree that is read can be laid out and is read again: each node on one line reads back, and each
+-- literal or folded scalar has the lines of its text.
 use Rattle.std.proofs.Common.{◌≡◌, ◌≢◌, ℕ, Bool, true, false, true≢false, not, ◌&&◌, List, [], ◌∷◌, chars, refl, sym, ap, ◌∙◌, subst}
 use Rattle.std.specs.Prelude.{is_some, if◌then◌else◌}
 use Rattle.std.specs.Str.{IsUtf8}

@@ -1,4 +1,4 @@
--- Leaves that are written on one line, between which no comment is.
+-- Leaves that are written on one line, with no comment between them.
 use Rattle.std.specs.Prelude.{◌≡◌, ℕ, Bool, true, false, ◌&&◌, nat_lt, find, List, [], ◌∷◌, None}
 use Rattle.yf_comments.specs.Comment.{CommentValue}
 use Rattle.yf_events.specs.declared.event.Span.{Span}
@@ -13,7 +13,7 @@ pub data Still (cs : List CommentValue) : List Span → Type 0 where
   one_still : {s : Span} → Still cs (s ∷ [])
   more_still : {s r : Span} {ss : List Span} → find (between s.start r.start) cs ≡ None → Still cs (r ∷ ss) → Still cs (s ∷ r ∷ ss)
 
--- so it is of each flow collection that is written on one line
+-- this holds for each flow collection that is written on one line
 abbrev mutual
   pub KeptStill : List CommentValue → Node → Type 0
   KeptStill cs (scalar at props style text lines) = Unit {0}

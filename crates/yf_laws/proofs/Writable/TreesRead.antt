@@ -60,7 +60,7 @@ pub record DocumentRead (h : ℕ) (d : Document) : Type 0 where
   pub events : d.events ≡ flat node
   pub read : ReadNode false node
   pub directives : FitDirectives d.directives
-  -- without a `---` it has no directives, and its node has characters
+  -- without a `---` a document has no directives, and its node has characters
   pub bare : d.marked ≡ false → (d.directives ≡ []) × (is_some (standing node).span ≡ true)
 
 -- events are those of at most one tree

@@ -25,7 +25,7 @@ use Rattle.yf_laws.proofs.Writable.ContentFound.{content_found, content_starts_a
 
 -- Contents.
 
--- what begins with a sign, without properties and after some
+-- a text that begins with a sign, without properties and after some
 pub content_first : {t : List ℕ} {q : ℕ} (c : ℕ) (w r : List ℕ) → IsUtf8 t → Rest t q ((c ∷ w) ++ r)
     → slice_range t (content_start t (record { start = q; end = q + length (c ∷ w) }) no_props) (q + length (c ∷ w)) ≡ c ∷ w
 content_first {t} {q} c w r u s =

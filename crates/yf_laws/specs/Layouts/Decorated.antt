@@ -1,5 +1,6 @@
--- A layout as rows, and in parallel what each row carries after it: the comments that trail it, and the lines before the next row.
--- As bytes with anything that follows. It equals `layout` (`proofs/Derived/DecoratedLemmas.antt`), and the proofs about a layout rest on it.
+-- A layout as rows, with what each row carries after it in parallel: the comments that trail it, and the lines before
+-- the next row. The functions return bytes, followed by any others. The layout equals `layout`
+-- (`proofs/Derived/DecoratedLemmas.antt`), and the proofs about a layout use it.
 use Rattle.std.specs.Prelude.{ℕ, Bool, true, false, not, ◌&&◌, List, [], ◌∷◌, ◌++◌, map, filter, replicate}
 use Rattle.yf_comments.specs.Comment.{CommentValue}
 pub use Rattle.yf_comments.specs.GapLines.{GapLine, blank, remark, gap_then}
@@ -20,7 +21,7 @@ pub record Deco : Type 0 where
 abbrev pub no_deco : Deco
 no_deco = record { trails = []; gap = [] }
 
--- of a list that is too short the missing ones carry nothing
+-- in a list that is too short the missing elements carry nothing
 abbrev pub first : List Deco → Deco
 first [] = no_deco
 first (d ∷ ds) = d
@@ -34,7 +35,7 @@ abbrev pub past : List Row → List Deco → List Deco
 past [] ds = ds
 past (x ∷ xs) ds = past xs (after ds)
 
--- Bytes, and r after them.
+-- Bytes, followed by r.
 
 abbrev pub trails_then : List (List ℕ) → List ℕ → List ℕ
 trails_then [] r = r
@@ -45,7 +46,7 @@ abbrev pub body_then : List (List ℕ) → List ℕ → List ℕ
 body_then [] r = r
 body_then (x ∷ xs) r = x ++ (10 ∷ body_then xs r)
 
--- after the text of a row with this body
+-- the bytes after the text of a row with this body
 abbrev pub end_then : Deco → List (List ℕ) → List ℕ → List ℕ
 end_then d body r = trails_then d.trails (10 ∷ body_then body (gap_then d.gap r))
 
@@ -91,7 +92,7 @@ decos_of columns c comments (row ∷ rows) =
     record { trails = map (λ d. trimmed d.text) (trailing c row); gap = gap_of columns row.ending (comments_left row comments) rows }
     ∷ decos_of columns c (comments_left row comments) rows
 
--- of a normal reading with these rows, with the columns of comments
+-- for a normal reading with these rows, and with the columns of comments
 abbrev pub first_gap : Columns → Lists → List Row → List GapLine
 first_gap columns m rows = gap_of columns at_text_start (own_line_comments (source_of m rows) rows) rows
 

@@ -20,7 +20,7 @@ use Rattle.yf_print.specs.Layouts.Rows.{joined_words}
 abbrev pub is_apart : ℕ → Bool
 is_apart c = (c == 32) || (c == 10)
 
--- a directive as it is in a text from q on, up to l
+-- a directive in a text, from q up to l
 pub record DirectiveAt (t : List ℕ) (q l : ℕ) (words : List (List ℕ)) : Type 0 where
   pub middle : ℕ
   pub others : List (List ℕ)
@@ -44,12 +44,13 @@ pub data FitDocuments (s : Style) : List Doc → List DocumentTree → Type 0 wh
   fit_document : {d : Doc} {ds : List Doc} {x : DocumentTree} {xs : List DocumentTree} → FitDirectives d.directives → Fit s x.root → FitDocuments s ds xs
       → FitDocuments s (d ∷ ds) (x ∷ xs)
 
--- a `---` may be left out before the first document, if the flag says so: it has no directives, and its root has characters
+-- the `---` may be left out before the first document, if the flag says so: the document has no directives, and its
+-- root has characters
 pub data FitsBare : Bool → List Doc → List DocumentTree → Type 0 where
   fits_marked : {ds : List Doc} {xs : List DocumentTree} → FitsBare false ds xs
   fits_bare : {d : Doc} {ds : List Doc} {x : DocumentTree} {xs : List DocumentTree} → d.directives ≡ [] → is_some (standing x.root).span ≡ true → FitsBare true (d ∷ ds) (x ∷ xs)
 
--- A document with a `---` or without, as the flag says, with those directives, that means the tree.
+-- A document with those directives that means the tree, with a `---` if the flag says so.
 pub record DocumentMeant (mark : Bool) (d : Doc) (x : DocumentTree) (m : Document) : Type 0 where
   pub marked : m.marked ≡ mark
   pub words : map (λ (e : Directive). e.words) m.directives ≡ map (λ (e : Directive). e.words) d.directives
@@ -64,7 +65,7 @@ pub data DocumentsMeant : Bool → List Doc → List DocumentTree → List Docum
   document_meant : {bare : Bool} {d : Doc} {ds : List Doc} {x : DocumentTree} {xs : List DocumentTree} {m : Document} {ms : List Document} → DocumentMeant (not bare) d x m → DocumentsMeant false ds xs ms
       → DocumentsMeant bare (d ∷ ds) (x ∷ xs) (m ∷ ms)
 
--- how many collections are open at once in these documents
+-- the number of collections that are open at once in these documents
 abbrev pub tall_documents : List DocumentTree → ℕ
 tall_documents [] = 0
 tall_documents (x ∷ xs) = max (tall x.root) (tall_documents xs)

@@ -12,7 +12,7 @@ use Rattle.yf_print.specs.Layouts.Rows.{Row, Ending, at_text_start, at_document_
 use Rattle.yf_events.specs.Tree.{DocumentTree, TreesOf}
 use Rattle.yf_forms.specs.Nodes.Lines.{ended, trimmed, after_two_spaces}
 
--- a comment, and whether it is on the line on which the last leaf ends that begins before it
+-- a comment, and whether it is on the line on which the last leaf before it ends
 abbrev pub Remark : Type 0
 Remark = CommentValue × Bool
 
@@ -35,7 +35,7 @@ abbrev pub is_before : ℕ → Option ℕ → Bool
 is_before offset None = true
 is_before offset (Some end) = nat_lt offset end
 
--- the first comment after the beginning of a leaf and before the next leaf
+-- the first comment after the start of a leaf and before the next leaf
 abbrev pub first_comment : Source → Span → Option Remark
 first_comment c leaf =
     find (λ r. nat_lt leaf.start r.0.offset && is_before r.0.offset (next_leaf c.leaves leaf.start)) c.remarks
@@ -55,7 +55,7 @@ trailing c row = option_to_list row.key_comment ++ flat_map (λ leaf. trailing_l
 abbrev pub own_line_comments : Source → List Row → List CommentValue
 own_line_comments c rows = filter (λ d. not (is_among (flat_map (trailing c) rows) d)) (map (λ r. r.0) c.remarks)
 
--- Lines as they are printed.
+-- Lines, as they are printed.
 
 pub record Line : Type 0 where
   pub column : ℕ

@@ -67,7 +67,7 @@ is_block_style Double = false
 is_block_style Literal = true
 is_block_style Folded = true
 
--- the properties of a block collection or scalar: none, or some that are spelled as properties are
+-- the properties of a block collection or scalar: none, or some with a valid spelling
 pub data FitProps : PropsValue → Type 0 where
   no_fit_props : FitProps no_props
   some_fit_props : {p : PropsValue} → IsProps p → p ≢ no_props → FitProps p

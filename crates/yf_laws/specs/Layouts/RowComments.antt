@@ -1,4 +1,4 @@
--- What the rows of a layout may carry after them, and which comments they carry.
+-- What the rows of a layout may carry after them, and the comments that they carry.
 use Rattle.std.specs.Prelude.{◌≡◌, ℕ, false, List, [], ◌∷◌, ◌++◌, map}
 use Rattle.yf_comments.specs.Comment.{CommentValue}
 use Rattle.yf_comments.specs.GapLines.{IsRemark, AreGapLines, AllLeft, remarks_of}
@@ -9,7 +9,7 @@ use Rattle.yf_laws.specs.Layouts.Layout.{Source, may_be_blank_after, trailing}
 use Rattle.yf_forms.specs.Nodes.Lines.{trimmed}
 use Rattle.yf_print.specs.Layouts.Rows.{Row, Ending}
 
--- one comment at most trails a row
+-- at most one comment trails a row
 abbrev pub AreTrails : List (List ℕ) → Type 0
 AreTrails [] = Unit {0}
 AreTrails (x ∷ []) = IsRemark x
@@ -37,7 +37,7 @@ abbrev pub CalmBody : List (List ℕ) → ℕ → Ending → List GapLine → Li
 CalmBody [] column ending gap r = Unit {0}
 CalmBody (l ∷ ls) column ending gap r = AllLeft column gap × (Below column r × (may_be_blank_after ending ≡ false → KeptGap Keep gap))
 
--- so it is after each of these rows
+-- this holds after each of these rows
 abbrev pub Calm : List Row → List Deco → List ℕ → Type 0
 Calm [] ds r = Unit {0}
 Calm (x ∷ xs) ds r = CalmBody x.body x.lines x.ending (first ds).gap (lines_then xs (after ds) r) × Calm xs (after ds) r

@@ -6,7 +6,7 @@ use Rattle.yf_forms.specs.declared.style.Style.{Style}
 use Rattle.yf_forms.specs.NormalForms.Normal.{is_implicit, key_comment}
 use Rattle.yf_print.specs.Layouts.Rows.{Row, Ending, Start, before_node}
 
--- a row: how many leaves with characters are on it, and whether a comment trails its key
+-- a row, with the number of leaves with characters on it, and whether a comment trails its key
 pub record RowShape : Type 0 where
   pub column : ℕ
   pub text : List ℕ
@@ -44,7 +44,8 @@ joined_shapes head spaces (r ∷ rs) = record {
   lines = r.lines;
 } ∷ rs
 
--- of a value after an implicit key: whether a comment trails the key, and whether the value begins on a line of its own
+-- the rows of a value after an implicit key; the flags say whether a comment trails the key, and whether the value
+-- begins on a line of its own
 abbrev pub shapes_after_key : RowShape → Bool → Bool → List RowShape → List RowShape
 shapes_after_key head true below rows = record head { is_commented = true; ending = before_node } ∷ rows
 shapes_after_key head false true rows = record head { ending = before_node } ∷ rows

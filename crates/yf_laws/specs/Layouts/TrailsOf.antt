@@ -1,4 +1,4 @@
--- Which comments trail which leaves in the layout of a reading, and which trail anything.
+-- Which comments trail which leaves in the layout of a reading, and which trail a row.
 use Rattle.std.specs.Prelude.{◌≡◌, ℕ, true, false, List, [], flat_map, get_or, option_to_list, slice_get, Option, Some, None}
 use Rattle.yf_comments.specs.Comment.{CommentValue}
 use Rattle.yf_events.specs.Tree.{DocumentTree, Node, TreesOf, is_text, standing}
@@ -21,8 +21,8 @@ abbrev pub at_index : List CommentValue → Option ℕ → List CommentValue
 at_index cs None = []
 at_index cs (Some n) = option_to_list (slice_get cs n)
 
--- those found are the ones of the layout: of each leaf with characters the comment that trails it, or none, and of each comment whether it
--- trails a row
+-- what was found agrees with the layout: for each leaf with characters the comment that trails it, or none, and for
+-- each comment whether it trails a row
 pub record LayoutTrails (m : Lists) (s : Style) (ds : List DocumentTree) (f : TrailsSoFar) : Type 0 where
   pub of_leaf : (j : ℕ) (x : Node) (leaf : Span) → NodeAt m.events j x → is_text x ≡ true → (standing x).span ≡ Some leaf
       → at_index m.comments (get_or f.of_leaf j None) ≡ trailing_leaf (source_of m (rows_of m s ds)) leaf (first_comment (source_of m (rows_of m s ds)) leaf)

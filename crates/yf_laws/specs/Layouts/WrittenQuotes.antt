@@ -13,7 +13,7 @@ abbrev pub IsQuoteWritten : Style → List ℕ → EventValue → Option Span �
 IsQuoteWritten s t (scalar_node props style text) (Some span) = is_quoted style ≡ true → IsUtf8 text × (slice_range t (content_start t span props) span.end ≡ scalar_text s style text)
 IsQuoteWritten s t event span = Unit {0}
 
--- so it is with each of these events
+-- this holds for each of these events
 pub data QuotesWritten (s : Style) (t : List ℕ) : List EventInText → Type 0 where
   no_quotes : QuotesWritten s t []
   one_quote : (e : EventInText) {es : List EventInText} → IsQuoteWritten s t e.event e.span → QuotesWritten s t es → QuotesWritten s t (e ∷ es)

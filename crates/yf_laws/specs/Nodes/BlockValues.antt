@@ -13,7 +13,7 @@ abbrev pub is_folded : ScalarStyle → Bool
 is_folded Folded = true
 is_folded style = false
 
--- by how many line feeds end the text
+-- from the number of line feeds at the end of the text
 abbrev pub chomp_of : ℕ → Chomp
 chomp_of zero = Strip
 chomp_of (suc zero) = Clip

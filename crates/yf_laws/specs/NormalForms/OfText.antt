@@ -1,5 +1,5 @@
--- Part of what holds of the readings of texts, beside what their normal forms depend on: the order of places, and that the styles of scalars
--- can spell their texts.
+-- Some of the facts about the readings of texts, besides those on which their normal forms depend: the order of
+-- offsets, and that the styles of scalars can spell their texts.
 use Rattle.std.specs.Prelude.{◌≡◌, ◌<◌, ◌≤◌, ℕ, List, [], ◌∷◌, ◌++◌, length, map, true, Option, Some, None}
 use Rattle.std.specs.List.{All}
 use Rattle.std.specs.List.Sorted.{IsNonDecreasingBy}
@@ -42,7 +42,8 @@ marks_in_documents (d ∷ ds) [] = []
 marks_in_documents (d ∷ ds) (tree ∷ trees) =
     map (λ w. w.offset) d.directives ++ (d.start ∷ (marks_in tree.root ++ marks_in_documents ds trees))
 
--- what the proofs ask of a reading r of the text t; readings of texts have more, as strict order and spellings within flow collections
+-- the conditions of the proofs on a reading r of the text t; readings of texts satisfy more, for example strict order
+-- and spellings within flow collections
 pub record OfText (t : List ℕ) (r : Lists) : Type 0 where
   pub textual : IsTextual r
   pub order : IsNonDecreasingBy (λ (n : ℕ). n) (marks_in_documents r.documents textual.trees)

@@ -1,4 +1,5 @@
--- The text that one pass over its events prints of a reading, by the measures and forms of its nodes, and by the comments that trail.
+-- The text that one pass over the events of a reading prints, from the measures and forms of its nodes and from the
+-- comments that trail.
 use Rattle.std.specs.Prelude.{◌≡◌, ℕ, List, []}
 use Rattle.yf_events.specs.declared.lists.Lists.{Lists}
 use Rattle.yf_forms.specs.declared.form.decide.Form.{Form}

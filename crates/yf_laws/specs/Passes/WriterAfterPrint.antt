@@ -24,7 +24,7 @@ pub record BrokeMade (t : List ℕ) (m : Lists) (s : Style) (old new : Option (L
   pub utf8 : IsUtf8 text
   pub broke : Broke old new after text
 
--- why nothing is printed, or not all
+-- why nothing is printed, or not everything
 abbrev pub RefusedPrint : List ℕ → Lists → Style → Option (List ℕ) → Option (List ℕ) → Bool → Bool → Fault → Type 0
 RefusedPrint t m s old new before after Memory = (new ≡ old) × (after ≡ before)
 RefusedPrint t m s old new before after WriteFailed = BrokeMade t m s old new after

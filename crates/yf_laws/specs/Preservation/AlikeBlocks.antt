@@ -9,7 +9,7 @@ use Rattle.yf_grammar.specs.Productions.TreesOfMeaning.{Anywhere}
 use Rattle.yf_forms.specs.declared.style.Style.{Style}
 use Rattle.yf_laws.specs.Layouts.RowShapes.{KeysAgree}
 
--- cs are the comments beside the one tree, and ds those beside the other
+-- cs are the comments of the first tree, and ds those of the second
 mutual
   pub data AlikeBlocks (s : Style) (cs ds : List CommentValue) : Node → Node → Type 0 where
     alike_lines : {x y : Node} → Alike Anywhere x y → is_block_collection x ≡ false → AlikeBlocks s cs ds x y

@@ -21,7 +21,8 @@ abbrev pub at_leaf : Span → Option Remark → List CommentValue
 at_leaf leaf None = []
 at_leaf leaf (Some r) = if nat_lt r.0.offset leaf.end || r.1 then r.0 ∷ [] else []
 
--- it is the first one between an implicit key and a value that is a leaf or is kept on one line, or so at a leaf
+-- whether the comment is the first one between an implicit key and a value that is a leaf or is kept on one line, or
+-- the first one at a leaf
 abbrev pub ends_line : Source → CommentValue → Bool
 ends_line c d = is_among c.key_comments d || list_any (λ leaf. is_among (at_leaf leaf (first_comment c leaf)) d) c.leaves
 
@@ -40,18 +41,19 @@ pub record CommentsPlaced (t : List ℕ) (s : Style) (u : List ℕ) : Type 0 whe
   pub leaves : (f : IsFormatting t s u) → (source_in f).leaves ≡ flat_map (λ d. leaves d.root) f.is_normal.trees
   -- and the comments that trail keys are those of the entries of block mappings, in its order
   pub keys : (f : IsFormatting t s u) → (source_in f).key_comments ≡ keyed_in_documents (setting_of f.normal s) f.writes.trees
-  -- those comments end a line of u, and no others
+  -- only those comments end a line of u, and all of them do
   pub exact : (f : IsFormatting t s u) (d : CommentValue) → is_among (flat_map (trailing (source_in f)) (rows_in f)) d ≡ ends_line (source_in f) d
-  -- so the first comment since a leaf began does that is within it or on the line on which it ends
+  -- so the first comment after the start of a leaf ends a line if it is within the leaf or on the line on which the
+  -- leaf ends
   pub stays_at_end : (f : IsFormatting t s u) (i : ℕ) (leaf : Span) (d : CommentValue) (on_line : Bool) → slice_get (source_in f).leaves i ≡ Some leaf
       → first_comment (source_in f) leaf ≡ Some (d, on_line) → (nat_lt d.offset leaf.end || on_line) ≡ true → is_among (flat_map (trailing (source_in f)) (rows_in f)) d ≡ true
-  -- and one does not that is so at no leaf and is between no key and such a value
+  -- and a comment that isn't such a first one at any leaf, nor between a key and such a value, doesn't
   pub stays_alone : (f : IsFormatting t s u) (d : CommentValue) → is_among (source_in f).key_comments d ≡ false
       → ((i : ℕ) (leaf : Span) → slice_get (source_in f).leaves i ≡ Some leaf → is_among (at_leaf leaf (first_comment (source_in f) leaf)) d ≡ false)
       → is_among (flat_map (trailing (source_in f)) (rows_in f)) d ≡ false
-  -- one at most ends each line, and its text is the comment's without the white space at its end
+  -- at most one ends each line, and its text is the comment's without the white space at its end
   pub once : (f : IsFormatting t s u) → TrailsFitIn f
-  -- u are its rows, each with the comment that ends it and those on lines of their own after it
+  -- u consists of its rows, each with the comment that ends it and those on lines of their own after it
   pub printed : (f : IsFormatting t s u) → u ≡ decorated (columns_in f) f.normal (rows_in f)
   -- and its own reading finds them there: the lines between rows, and what ends each row, are equal
   pub before : (f : IsFormatting t s u) (q : Lists) (b : ReadingOf u q) → first_gap (columns_of u s (rows_of q s b.trees)) q (rows_of q s b.trees) ≡ first_gap (columns_in f) f.normal (rows_in f)

@@ -48,7 +48,8 @@ pub data SameRows (b c : Source) : List Row → List Row → Type 0 where
 -- two texts have the same key: their normal forms differ only in offsets, and comments and blank lines are at the same
 -- lines
 pub record SameKey {t u v w : List ℕ} {s : Style} (f : IsFormatting t s u) (g : IsFormatting v s w) : Type 0 where
-  -- the `---` of the first document is left out in both or in neither: the style keeps it so, and it is missing
+  -- the `---` of the first document is left out in both or in neither: the style keeps a missing `---`, and it is
+  -- missing
   pub bare : is_bare f.normal s ≡ is_bare g.normal s
   pub documents : SameDocuments s f.normal.comments g.normal.comments f.normal.documents f.writes.trees g.normal.documents g.writes.trees
   pub places : SamePlaces (columns_in f) (columns_in g) (rows_in f) (rows_in g) f.normal.comments g.normal.comments

@@ -23,7 +23,7 @@ use Rattle.yf_forms.specs.Nodes.OneLine.{width, written}
 use Rattle.yf_laws.specs.Preservation.CommentsPlaced.{columns_in}
 use Rattle.yf_forms.specs.NormalForms.Normal.{setting_of, styled}
 
--- as many, one by one
+-- lists of equal length, related element by element
 pub data Each {A : Type 0} (R : A → A → Type 0) : List A → List A → Type 0 where
   none_each : Each R [] []
   one_each : {x y : A} {xs ys : List A} → R x y → Each R xs ys → Each R (x ∷ xs) (y ∷ ys)
@@ -32,7 +32,7 @@ pub data Either {A : Type 0} (R : A → A → Type 0) : Option A → Option A �
   in_neither : Either R None None
   in_both : {x y : A} → R x y → Either R (Some x) (Some y)
 
--- Offsets of the one text and of the other, in pairs: those of comments, and the beginnings of leaves.
+-- Offsets of the two texts, in pairs: those of comments, and the starts of leaves.
 pub record PairedOffsets : Type 0 where
   pub comments : List (ℕ × ℕ)
   pub leaves : List (ℕ × ℕ)
@@ -110,7 +110,7 @@ pub record SameComment (ps : PairedOffsets) (c d : CommentValue) : Type 0 where
   pub text : trimmed c.text ≡ trimmed d.text
   pub blank : c.blank_before ≡ d.blank_before
 
--- and it is on the line of the last leaf before it in both or in neither
+-- and both are on the line of the last leaf before them, or neither is
 pub record SameRemark (ps : PairedOffsets) (c d : Remark) : Type 0 where
   pub comment : SameComment ps c.0 d.0
   pub on_line : c.1 ≡ d.1
@@ -130,7 +130,8 @@ pub record SameColumn (p q : Columns) (c d : CommentValue) : Type 0 where
 -- The starts of leaves are pairs too, and each is on the same side of the others.
 pub record SameReadings {t u v w : List ℕ} {s : Style} (f : IsFormatting t s u) (g : IsFormatting v s w) : Type 0 where
   pub pairs : PairedOffsets
-  -- the `---` of the first document is left out in both or in neither: the style keeps it so, and it is missing
+  -- the `---` of the first document is left out in both or in neither: the style keeps a missing `---`, and it is
+  -- missing
   pub bare : is_bare f.normal s ≡ is_bare g.normal s
   pub documents : DocumentsMatch pairs s t f.reading v g.reading f.reading.documents f.is_normal.trees g.reading.documents g.is_normal.trees
   pub remarks : Each (SameRemark pairs) (zip f.reading.comments f.reading.on_leaf_line) (zip g.reading.comments g.reading.on_leaf_line)

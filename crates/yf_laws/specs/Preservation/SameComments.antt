@@ -1,5 +1,5 @@
--- The comments of a reading as formatting keeps them: each one's text without the white space that ends it, and its place, which is how many
--- documents, and how many leaves with characters, begin before it.
+-- The comments of a reading as formatting keeps them: the text of each without the white space that ends it, and its
+-- place: the numbers of documents, and of leaves with characters, that begin before it.
 use Rattle.std.specs.Prelude.{ℕ, List, map}
 use Rattle.yf_events.specs.Reading.{documents_before, leaves_before}
 use Rattle.yf_events.specs.declared.lists.Lists.{Lists}

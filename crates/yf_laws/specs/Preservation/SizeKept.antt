@@ -1,4 +1,4 @@
--- How long a formatted text may be.
+-- The length of a formatted text.
 use Rattle.std.specs.Prelude.{ℕ, suc, ◌+◌, ◌*◌, ◌≤◌, List, length}
 use Rattle.yf_events.specs.declared.lists.Lists.{Lists}
 use Rattle.yf_events.specs.declared.reading.TheConstants.{DEPTH}
@@ -8,7 +8,7 @@ use Rattle.yf_laws.specs.Layouts.FitDocuments.{tall_documents}
 
 -- u has at most as many bytes as t, plus one, times the greatest column at which a line of u may begin, plus eight
 pub record SizeKept (t : List ℕ) (s : Style) (u : List ℕ) : Type 0 where
-  -- by the most collections that are open at once in t
+  -- with the greatest number of collections that are open at once in t
   pub by_depth : (r : Lists) (a : ReadingOf t r) → length u ≤ suc (length t) * (s.indent * suc (tall_documents a.trees) + 8)
-  -- of any text, since no more are open than the limit
+  -- for any text, since the limit bounds the open collections
   pub at_most : length u ≤ suc (length t) * (s.indent * suc DEPTH + 8)

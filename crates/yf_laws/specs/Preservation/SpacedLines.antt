@@ -1,4 +1,4 @@
--- Blank lines of a formatted text, and those of the text.
+-- The blank lines of a formatted text, and those of its source.
 use Rattle.std.specs.Prelude.{◌≡◌, ℕ, Bool, ◌&&◌, List, [], ◌∷◌, map}
 use Rattle.yf_events.specs.Reading.{entries_of}
 use Rattle.yf_events.specs.Tree.{DocumentTree}

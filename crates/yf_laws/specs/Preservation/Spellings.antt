@@ -22,7 +22,7 @@ unstyled (mapping_starts flow props) = mapping_starts false props
 unstyled (scalar_node props style text) = scalar_node props Plain text
 unstyled e = e
 
--- the style of a scalar; `Plain` of any other event
+-- the style of a scalar; `Plain` for any other event
 abbrev pub style_of_event : EventValue → ScalarStyle
 style_of_event (scalar_node props style text) = style
 style_of_event e = Plain

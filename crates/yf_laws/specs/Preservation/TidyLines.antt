@@ -24,11 +24,11 @@ abbrev pub block_scalar_of : EventValue → List (List ℕ) → List BlockScalar
 block_scalar_of (scalar_node props style text) lines = if is_block_style style then record { style = style; text = text; lines = lines } ∷ [] else []
 block_scalar_of e lines = []
 
--- those among events, in their order
+-- the block scalars among events, in order
 abbrev pub block_scalars : List EventInText → List BlockScalar
 block_scalars es = flat_map (λ (e : EventInText). block_scalar_of e.event e.folded) es
 
--- a text that begins with a visible character, and ends with no space or tab
+-- a text that begins with a visible character and doesn't end with a space or tab
 pub record IsStripped (x : List ℕ) : Type 0 where
   pub char : ℕ
   pub follows : List ℕ
@@ -71,5 +71,5 @@ pub record IsTidyText (s : Style) (u : List ℕ) : Type 0 where
   -- a line feed ends each, and they have no other break
   pub is : u ≡ body_then lines []
   pub texts : LineTexts lines
-  -- none is indented more than the most collections that are open at once, and one more, times the style's indentation
+  -- no line is indented further than the number of collections open at once, plus one, times the style's indentation
   pub tidy : (q : Lists) (b : ReadingOf u q) → TidyLines s.indent (suc (tall_documents b.trees)) (IsToken q) (block_scalars q.events) lines

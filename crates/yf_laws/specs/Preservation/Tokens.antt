@@ -6,12 +6,12 @@ use Rattle.yf_events.specs.declared.event.ScalarStyle.TheVariants.{Plain, Single
 use Rattle.yf_events.specs.declared.lists.Lists.{Lists}
 use Rattle.yf_forms.specs.Nodes.Lines.{trimmed}
 
--- a text is among these
+-- the text is one of these
 pub data HasText (w : List ℕ) : List (List ℕ) → Type 0 where
   first_text : {v : List ℕ} {ws : List (List ℕ)} → w ≡ v → HasText w (v ∷ ws)
   later_text : {v : List ℕ} {ws : List (List ℕ)} → HasText w ws → HasText w (v ∷ ws)
 
--- a plain or single-quoted scalar, as it is written
+-- the written text of a plain or single-quoted scalar
 abbrev pub tokens_of_event : EventValue → List (List ℕ)
 tokens_of_event (scalar_node props Plain text) = text ∷ []
 tokens_of_event (scalar_node props Single text) = single_bytes (chars text) ∷ []

@@ -35,7 +35,7 @@ goes_by_open k begins_node bs = false
 goes_by_open k begins_document bs = true
 goes_by_open k (begins_entry y) bs = goes_on y (not_ended y bs) || not (is_source k y.source)
 
--- the collections that are open on one row of the text and of its formatting, the innermost first
+-- the collections that are open on one row of the text and of its formatting, innermost first
 pub record OpenIn : Type 0 where
   pub text : List OpenBlock
   pub formatting : List OpenBlock

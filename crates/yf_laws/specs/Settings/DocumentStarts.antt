@@ -16,8 +16,9 @@ abbrev pub kept_markers : Bool → Bool → List Bool → List Bool
 kept_markers keeps leads [] = []
 kept_markers keeps leads (marked ∷ others) = (not keeps || (marked || leads)) ∷ map (λ (other : Bool). true) others
 
--- A formatting has as many documents as the text, and all of them begin with a `---`, but under `document_start = "keep"` a first one that has none in
--- the text, unless a comment is after its beginning and before its first leaf with characters.
+-- A formatting has as many documents as the text, and all of them begin with a `---`. Under `document_start = "keep"` a
+-- first document is excepted if it has none in the text, unless a comment is between its start and its first leaf with
+-- characters.
 abbrev pub StartsAreKept : Type 0
 StartsAreKept = (t u : List ℕ) (s : Style) (r q : Lists) → IsUtf8 t → IsFormatting t s u → ReadingOf t r → ReadingOf u q
     → markers_in (events_of q) ≡ kept_markers (keeps_starts s) (has_lead r) (markers_in (events_of r))

@@ -23,12 +23,13 @@ abbrev pub QuotesAreSpelled : Type 0
 QuotesAreSpelled = (t u : List ℕ) (s : Style) (q : Lists) → IsUtf8 t → IsFormatting t s u → ReadingOf u q → (i : ℕ) (props : PropsValue) (style : ScalarStyle) (text : List ℕ) (span : Span)
     → IsScalar q i props style text span → is_quoted style ≡ true → slice_range u (content_start u span props) span.end ≡ scalar_text s style text
 
--- Under `invisible = "escaped"` no quoted scalar of a formatting holds a hidden character as itself: no character from quote to quote is one.
+-- Under `invisible = "escaped"` no quoted scalar of a formatting holds a hidden character unescaped: no character from
+-- quote to quote is hidden.
 abbrev pub HiddenAreEscaped : Type 0
 HiddenAreEscaped = (t u : List ℕ) (s : Style) (q : Lists) → IsUtf8 t → IsFormatting t s u → ReadingOf u q → s.invisible ≡ Escaped → (i k : ℕ) (part : Span)
     → QuotedPart u q i part → IsWithin part k → code u k < no_char → is_hidden (code u k) ≡ false
 
--- So each hidden character that a formatting has, but for byte order marks, is one that the rule hidden-character finds.
+-- So the rule hidden-character finds each hidden character of a formatting, except for byte order marks.
 abbrev pub HiddenAreFound : Type 0
 HiddenAreFound = (t u : List ℕ) (s : Style) (q : Lists) → IsUtf8 t → IsFormatting t s u → ReadingOf u q → s.invisible ≡ Escaped → (k : ℕ) → code u k < no_char → is_hidden (code u k) ≡ true
     → code u k ≢ BYTE_ORDER_MARK → HiddenCharacter u q s k k
