@@ -5,5 +5,5 @@ pub mod Ends
 pub mod LineSteps
 -- `read_block_node`: the stack and the recursive reader agree (`BlockTied`)
 pub mod Stack
--- a run of the reader from step to step: how many collections are open, what is left, and what it gives in the end
+-- a run of the reader from step to step: the number of open collections, the work left, and the results
 pub mod Runs

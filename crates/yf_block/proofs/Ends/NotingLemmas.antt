@@ -10,7 +10,7 @@ pub floor_more : (floor : ℕ) (x z : List EventInText) → floor_after floor (x
 floor_more floor [] z = refl
 floor_more floor (e ∷ x) z = floor_more (floor_after_event floor e e.event) x z
 
--- an event that is no block scalar's, and is none when it is changed
+-- a change of an event that is not a block scalar, before and after it
 abbrev pub Keeps : (EventInText → EventInText) → EventInText → Type 0
 Keeps f e = (floor : ℕ) → floor_after_event floor (f e) (f e).event ≡ floor_after_event floor e e.event
 

@@ -1,4 +1,5 @@
--- The line after the properties of a node: it ends, and the node is on a later one, or it goes on; or it should end and does not.
+-- The line after the properties of a node: it ends and the node is on a later line, or it goes on, or it should end
+-- and does not.
 use Rattle.std.proofs.Common.{◌≡◌, ℕ, ℤ, pos, ◌+ℤ◌, ◌<◌, ◌≤◌, Bool, true, false, List, ◌++◌, Option, Some, None, MatchOption, refl, sym, ap, ◌∙◌, subst, arith, ⊎_elim}
 use Rattle.std.proofs.lemmas.Bool.{cases_lt}
 use Rattle.std.specs.Str.{IsUtf8}
@@ -94,7 +95,7 @@ joined_held e f = cc
 joined_no_sign : {z : Ahead} {h : HeldValue} {i : ℕ} → z ≡ Props h → z ≡ Indicator i → ⊥
 joined_no_sign e f = cc
 
--- what is ahead, as the properties of a line are joined with it
+-- the state ahead, as the properties of a line are joined with it
 pub ahead_held : {a : Ahead} {outer : Option PlacedProperties} → AheadTied a outer → PropertiesAhead a outer
 ahead_held nothing_held = λ h e. no_props_nothing e
 ahead_held none_held = λ h e. no_props_sign e
