@@ -1,5 +1,5 @@
--- The lemmas, a folder for each theorem or for what several rest on.
--- what all functions rest on: ends of lines, properties, looks ahead
+-- The lemmas: a folder for each theorem, and one for lemmas that several use.
+-- lemmas that all functions use: ends of lines, properties, looks ahead
 pub mod Ends
 -- the steps of the reader on a line: leaves, keys and block scalars
 pub mod LineSteps

@@ -18,7 +18,7 @@ pub data KeyTextAt (t : List ℕ) (start : ℕ) : Option PlacedProperties → Ke
   text_nowhere : {held : PlacedProperties} {p : ℕ} → Stuck (LineEnd t held.end) → NoPlaceAfter t held.end → KeyTextAt t start (Some held) (Nowhere p)
   text_ended : {held : PlacedProperties} {p k : ℕ} {ds : List CommentValue} → LineEnd t held.end k ds → KeyTextAt t start (Some held) (Nowhere p)
 
--- it lies between characters
+-- the offset is a boundary
 abbrev pub KeyTextPlace : List ℕ → ℕ → Option PlacedProperties → KeyText → Type 0
 KeyTextPlace t start inner (At p) = IsCharBoundary t p × PropertiesBefore t p inner × (start + 1 ≤ earliest_end p inner)
 KeyTextPlace t start inner (Nowhere p) = IsCharBoundary t p

@@ -165,7 +165,7 @@ with_entry_is (suc i) (v ∷ vs) entry = ap (λ w. v ∷ w) (with_entry_is i vs 
 
 -- the row of an event that is added
 
--- a row, by what it takes from the table
+-- a row, by its parts in the table
 abbrev row_from : PackedEvent → PropsValue → List ℕ → Option ℕ → List (List ℕ) → EventInText
 row_from r props text tag_offset folded =
     record { event = shape_value r.shape props text; span = span_at r.placed r.start r.end; tag_offset = tag_offset; entry = entry_at r.begins r.entry r.colon; folded = folded }
@@ -261,7 +261,7 @@ pub folded_seen : (more lent : List More) (rows : List PackedEvent) (vs : List E
 folded_seen more lent rows vs i r m lines l is seen same at folded =
     seen_at (λ w. w.folded) more rows vs i r l is seen ∙ ap Some (sym (folded ∙ ap folded_in (at ∙ ap (λ w. more_at w r.more) same)))
 
--- a `:`, an end and an entry in a row
+-- a `:`, an end and an entry of a row
 
 pub keyed_is : (b : Begins) (start colon k : ℕ) → entry_at (keyed b) start k ≡ with_colon k (entry_at b start colon)
 keyed_is Nothing start colon k = refl

@@ -1,5 +1,5 @@
--- The lemmas, a folder for each theorem or for what several rest on.
--- what all functions rest on: ends, looks ahead, open collections and notes
+-- The lemmas: a folder for each theorem, and one for lemmas that several use.
+-- lemmas that all functions use: ends, looks ahead, open collections and notes
 pub mod Ends
 -- `read_content`: the beginning of an awaited node
 pub mod Content

@@ -134,7 +134,7 @@ pub(crate) fn is_pair_key(scene: FlowContext, start: usize, colon: usize, json: 
     false
 }
 
-/// Returns whether a blank line is before the start of an entry.
+/// Returns whether a blank line is before an entry that begins at the offset. No entry begins with a line feed.
 #[tactic(auto, using(crate::proofs::Ends::NotedLemmas::note_of))]
 pub(crate) fn is_blank_before_entry(text: &str, at: usize) -> bool
     ensures { code text.now at ≢ 10 → NotedSince text.now 0 at result }

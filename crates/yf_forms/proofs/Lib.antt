@@ -1,4 +1,4 @@
--- lists: facts that several of these rest on
+-- lists: facts that several of these use
 pub mod ListLemmas
 -- texts on one line and their widths: `width`, `written`, `kept_text`; lines of block scalars
 pub mod Texts

@@ -1,4 +1,5 @@
-//! The normal form of a reading, made in place: each scalar in the style, and each collection in the form, that the house style gives it.
+//! The normal form of a reading, made in place: each scalar in the style, and each collection in the form, of the
+//! house style.
 ghost use Rattle.std.specs.Prelude.{◌≡◌, get_or, IfOk};
 ghost use Rattle.yf_events.specs.Content.{content_of};
 ghost use Rattle.yf_events.specs.Event.{event_value};

@@ -40,7 +40,7 @@ short_between {t} {i} {j} u a b l =
 pub short_line : {t : List ℕ} {i j : ℕ} → IsUtf8 t → IsCharBoundary t i → i ≤ j → j - i ≤ 1024 → OnOneLine t i j → IsCharBoundary t j → KeyLine t i j
 short_line u a l s o b = record { line = o; short = let m = short_between u a b l in omega arith }
 
--- from the sign and the line
+-- a key ends there, by its sign and its line
 pub key_there : {t : List ℕ} {i j : ℕ} → SignAt t 58 j → KeyLine t i j → KeyEnds t i j
 key_there c l = record { colon = c; line = l }
 

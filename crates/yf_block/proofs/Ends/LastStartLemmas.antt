@@ -105,7 +105,7 @@ module _ (t : List ℕ) (from end at : ℕ) where
     last = λ i q k d b m. ⊎_elim (λ (e : i < at). s.last i q k e b m) (λ (e : at ≤ i). absurd (no_break_from u r n e d b)) (cases_lt i at);
   }
 
-  -- all have been walked over
+  -- the walk has passed all breaks
   all_walked : (o : Option ℕ) → SoFar t from end at o → ((i q : ℕ) → Break t i q → q < end → i < at) → LastStartIs t from end o
   all_walked None s a = λ i q k b m. s i q k (a i q b m) b m
   all_walked (Some p) s a = record { begins = s.begins; later = s.later; ended = s.ended; earlier = s.earlier; last = λ i q k b m. s.last i q k (a i q b m) b m }

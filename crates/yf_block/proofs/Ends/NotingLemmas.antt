@@ -1,4 +1,5 @@
--- Events with the notes of their entries filled in: more of them, and a change of one that begins a collection or an entry.
+-- Events with the notes of their entries filled in: more of them, and a change of one that begins a collection or an
+-- entry.
 use Rattle.std.proofs.Common.{◌≡◌, ℕ, suc, ◌+◌, List, [], ◌∷◌, ◌++◌, length, Some, refl, ap, ◌∙◌, subst, sym, arith}
 use Rattle.yf_events.specs.Event.{EventInText}
 use Rattle.yf_events.specs.Edit.{edited, ended, coloned, with_colon}

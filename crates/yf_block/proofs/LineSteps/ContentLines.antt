@@ -148,7 +148,7 @@ module _ {t : List ℕ} {d : ℕ} {root : BlockTask} {before part : Part} {frame
         leaf_of a s (ended_key q) l.chosen q e.run e.no_white
         (λ z h. leaf_lost (other_no_scalar u.1.1 no.1.0 no.1.1) (λ m. plain_missed (ap begins_plain u.1.1 ∙ dull_plain u.1.0) (stuck (a.indentation +ℤ pos 1))))
 
-    -- the properties do not go together with those of lines before
+    -- the properties don't go together with those of earlier lines
     pub apart_ended : {k : ℕ} {ds : List CommentValue} → Apart a.ahead l.value → Chosen (LineEnd t held.end) k ds → AtFailed t d root progress
     apart_ended x c = missing a s (properties_apart_below s l.chosen c x) (halts_properties_apart_below s l.chosen c x)
 

@@ -90,7 +90,7 @@ pub no_key_here : {t : List ℕ} {e p : ℕ} {n : ℤ} {held : Option PlacedProp
 no_key_here (text_alone s) k = no_key_bare s k
 no_key_here (text_held l s b) k = no_key_held l s k
 
--- properties of a line and those of lines before go together, or they do not
+-- properties of a line go together with those of earlier lines, or they don't
 pub data Whose (a : Ahead) (q : PropertiesValue) (p g : ℕ) : Type 0 where
   of_one : {z : Ahead} → Joins a q p g z → Whose a q p g
   of_two : Apart a q → Whose a q p g

@@ -128,7 +128,7 @@ module _ {t : List ℕ} {d : ℕ} {root : BlockTask} {before old : Part} {frames
   sign_no_feed : SignAt t 63 p ⊎ SignAt t 58 p → code t p ≡ 10 → ⊥
   sign_no_feed g q = ⊎_elim (λ (s : SignAt t 63 p). let w = s.sign_is_at in omega (arith, w, q)) (λ (s : SignAt t 58 p). let w = s.sign_is_at in omega (arith, w, q)) g
 
-  -- how many collections may be opened
+  -- the number of collections that may be opened
   pub room_there : length frames + a.room ≡ d
   room_there = let n = frames_count a.stack.frames_tied in let r = room_left a.node.around in omega (arith, n, r)
 

@@ -1,4 +1,5 @@
--- An item that is the key of a single pair: its event notes the `:`, and the event that begins the pair is put before it.
+-- An item that is the key of a single pair: its event notes the `:`, and the event that begins the pair is put before
+-- it.
 use Rattle.std.proofs.Common.{◌≡◌, ◌≢◌, ℕ, suc, zero, max, ◌+◌, ◌<◌, ◌≤◌, ℤ, Bool, true, List, [], ◌∷◌, ◌++◌, length, take, drop, Some, None, refl, sym, ap, ◌∙◌, subst, arith, append-nil}
 use Rattle.yf_chars.specs.declared.context.Ctx.{Ctx}
 use Rattle.yf_chars.specs.Text.{code}

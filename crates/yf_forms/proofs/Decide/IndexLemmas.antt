@@ -1,4 +1,4 @@
--- The first comment of a kind, as an index, as the comment itself, and as halving finds it.
+-- The first comment of a kind: as an index, as the comment itself, and by halving.
 use Rattle.std.proofs.Common.{◌≡◌, ℕ, zero, suc, ◌<◌, ◌≤◌, Bool, true, false, ◌&&◌, List, [], ◌∷◌, length, map, Option, Some, None, refl, sym, ◌∙◌, arith}
 use Rattle.std.specs.Prelude.{◌^◌, ◌-◌, ◌+◌, min, nat_lt, nat_le, find, if◌then◌else◌, is_some, option_map, MatchOption, IfSome}
 use Rattle.std.specs.List.{AllWithin, HoldsAt}

@@ -33,8 +33,8 @@ pass_restyles q ms i u fs (e ∷ es) =
     let v = kept_until u (get_or ms i no_measure) (get_or fs 0 no_form) in
     one_more (is_flow_at i v (get_or ms i no_measure)) (pass_restyles q ms (i + 1) v (drop 1 fs) es)
 
--- the pass makes the events ys of the events xs, which have these forms and are from the index i on; before them the last kept
--- collection ends at the index u, and after them at v
+-- the pass makes the events ys of the events xs, which have these forms and begin at the index i; before them the
+-- last kept collection ends at the index u, and after them at v
 pub record Becomes (q : Style) (ms : List Measure) (i u v : ℕ) (gs : List Form) (xs ys : List EventInText) : Type 0 where
   pub is : (fs : List Form) (es : List EventInText)
       → normal_from q ms i u (gs ++ fs) (xs ++ es) ≡ ys ++ normal_from q ms (i + length xs) v fs es

@@ -127,8 +127,8 @@ key_margins s column k = record (inner_margins s column) { column = key_column s
 abbrev pub value_margins : LayoutSetting → ℕ → Node → Node → Margins
 value_margins c column k v = if is_implicit c.style column k then value_of_implicit c column k v else inner_margins c.style column
 
--- The kept flow collections: those that may be kept, and that end in time at their column. Outer ones are decided
--- before inner ones, and each other one becomes a block collection.
+-- The kept flow collections: those that may be kept, and that fit at their column. Outer ones are decided before
+-- inner ones, and each other one becomes a block collection.
 abbrev mutual
   pub settled : LayoutSetting → Margins → Node → Node
   settled c margins (scalar at props style text lines) = scalar at props style text lines

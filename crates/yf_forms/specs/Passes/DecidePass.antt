@@ -32,7 +32,7 @@ further column n = up_to_greatest (column + n)
 abbrev pub place_at : ℕ → LayoutContext
 place_at column = record { column = column; entries = column; is_implicit = false; key_comment = None }
 
--- a node of that width ends in time
+-- a node of that width fits at the column
 abbrev pub has_room : Style → ℕ → Option ℕ → Bool
 has_room s column None = false
 has_room s column (Some width) = nat_le (further column width) s.max_line

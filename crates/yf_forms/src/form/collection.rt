@@ -54,7 +54,7 @@ fn has_comment(text: &str, comments: &[Comment], span: Option<Span>, props: &Pro
     }
 }
 
-/// Returns the width of an empty text, if a collection may be kept.
+/// Returns the width of an empty text, 0, or `None` if the collection can't be kept.
 fn first_sum(
     text: &str,
     comments: &[Comment],

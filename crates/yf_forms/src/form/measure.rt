@@ -162,7 +162,7 @@ pub(crate) fn pass(
     }
 }
 
-/// Passes the event at an index. Most nodes have no properties, and this is known before any are read.
+/// Passes the event at an index. Tries `bare_event` first, since most nodes have no properties.
 #[inline(always)]
 fn pass_at(
     list: &mut Measures,
