@@ -1,4 +1,4 @@
--- `check`: what rules find, as findings at positions
+-- `check`: the findings of rules at positions
 pub mod CheckLemmas
 pub mod FoundLemmas
 pub mod FindingLemmas

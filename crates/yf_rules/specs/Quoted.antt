@@ -1,7 +1,8 @@
 -- The name of a file as Git writes it in a diff: one with a control character, a quote or a backslash is in double quotes, with escapes.
 use Rattle.std.specs.Prelude.{ℕ, ◌+◌, ◌/◌, ◌%◌, nat_eq, nat_lt, Bool, true, false, List, [], ◌∷◌, ◌++◌, if◌then◌else◌}
 
--- a byte after another one is a control character, a quote or a backslash; 194 comes before the control characters of two bytes
+-- whether a byte after another one is a control character, a quote or a backslash; 194 comes before the control
+-- characters of two bytes
 abbrev pub is_special : ℕ → ℕ → Bool
 is_special before b =
     if nat_lt b 32 then true
@@ -31,7 +32,7 @@ letter b =
     else if nat_eq b 12 then 102
     else 114
 
--- a byte by its number, in three octal digits
+-- a byte as a backslash and three octal digits
 abbrev pub by_number : ℕ → List ℕ
 by_number b = 92 ∷ octal (b / 64) ∷ octal (b / 8) ∷ octal b ∷ []
 

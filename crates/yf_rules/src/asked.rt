@@ -5,7 +5,7 @@ ghost use Rattle.yf_rules.specs.Asked.{is_among};
 
 use yf_lines::text::OwnedText;
 
-/// The names of all rules, in the order of their numbers. A new rule is a new line.
+/// The names of all rules, in the order of their numbers. For a new rule, add a line.
 pub const RULE_NAMES: [&str; 14] = [
     "trailing-blanks",
     "indentation",

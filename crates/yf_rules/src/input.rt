@@ -1,4 +1,4 @@
-//! Reading a whole input, and its bytes as a text.
+//! Reads a whole input, and takes its bytes as a text.
 ghost use Rattle.std.specs.Prelude.{◌≡◌, ◌≤◌, vec_len, IfSome, IfOk, IfErr, OnOk};
 ghost use Rattle.std.specs.Io.KnownBytes.{IsAtEnd};
 ghost use Rattle.std.specs.Str.{IsUtf8};

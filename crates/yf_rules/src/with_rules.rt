@@ -8,7 +8,7 @@ use std::alloc::{AllocError, Global};
 
 /// Work that needs all rules of style.
 pub trait WithRules {
-    /// What the work returns.
+    /// The result of the work.
     type Value: Drop;
 
     /// The relation of the work before, the work after, and the returned value.

@@ -1,4 +1,5 @@
--- Small texts by hand: one that is accepted, and one that the standard derives and that breaches something, so that it is not.
+-- Small example texts: one that is accepted, and one that the standard derives but that breaks another rule, so it
+-- isn't accepted.
 use Rattle.std.proofs.Common.{◌≡◌, ◌≤◌, ℕ, pos, ◌-ℤ◌, Bool, true, false, List, [], ◌∷◌, codes, refl, sym, ap, ◌∙◌, arith, true≢false}
 use Rattle.std.specs.Str.{IsUtf8, chars}
 use lib.Utf8.{encode}
@@ -28,7 +29,7 @@ use Rattle.yf_standard.specs.Acceptance.{IsStandardText}
 use Rattle.yf_standard.specs.Laws.{IsStandardStream}
 use Rattle.yf_standard.proofs.LawsHold.{streams_are_standard}
 
--- a stream that breaches nothing
+-- a stream that breaks no rule
 is_text : {t : List ℕ} {h : ℕ} {x : Documents} → IsUtf8 t → Stream t h x → h ≤ DEPTH → breaches x.documents ≡ [] → IsStandardText t
 is_text {t} {h} {x} u d l none = record {
   utf8 = u;

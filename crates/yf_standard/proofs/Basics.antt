@@ -56,7 +56,7 @@ pub many_forward : {t : List ℕ} {p : ℕ → Bool} {i j : ℕ} {x : List ℕ} 
 many_forward done = omega arith
 many_forward {t} (step (one {i = i} e) c) = let a = next_later t i in let b = many_forward c in omega arith
 
--- one character or more of a class
+-- one or more characters of a class
 pub chars_some : {t : List ℕ} {s p : ℕ → Bool} {i j k : ℕ} → ((c : ℕ) → s c ≡ p c) → CharOf t s i k → Star (CharOf t s) k j
     → ((x : List ℕ) × (Many t p i j x × (i < j)))
 chars_some {t} {s} {p} {i} {j} {k} e c r =

@@ -1,4 +1,5 @@
--- What the relations of `Basic` and `Comments` derive, the standard's productions of chapters 5 and 6 derive with the reading rules.
+-- The standard's productions of chapters 5 and 6 derive, with the reading rules, what the relations of `Basic` and
+-- `Comments` derive.
 use Rattle.std.proofs.Common.{◌≡◌, ℕ, zero, suc, ◌+◌, ◌<◌, ℤ, pos, negsuc, Bool, true≢false, List, refl, sym, ap, ◌∙◌, subst, arith}
 use Rattle.std.proofs.lemmas.Bool.{eq-eqb}
 use Rattle.std.proofs.lemmas.Int.{ints}

@@ -32,7 +32,7 @@ Quiet R = Puts [] R
 pub data Spells (S : ℕ → ℕ → List ℕ → Type 0) (i j : ℕ) : List Mark → Type 0 where
   spelled : {x : List ℕ} → S i j x → Spells S i j (marks x)
 
--- a character with a property of its place
+-- a character with a property of its offset
 pub data CharAt (t : List ℕ) (P : ℕ → Type 0) : ℕ → ℕ → List Mark → Type 0 where
   at : {i : ℕ} → P i → CharAt t P i (next t i) (char (code t i) ∷ [])
 

@@ -47,7 +47,7 @@ lines_join {t} {k} {i} {j = j} {ms = ms} (last_line {a = a} {j = h} {w = w} e s 
 lines_join {t} {k} {i} {j = j} {ms = ms} (more_lines {a = a} {h = h} {w = w} {ls = ls} e s m l c q) b r =
     subst (λ z. TextLines t k i j z) (sym (append_assoc (blank_lines w) (slice_range t (a + k) h ∷ ls) ms)) (more_lines e s m l c (lines_join q b r))
 
--- there is one at least
+-- at least one line
 pub data Some {A : Type 0} : List A → Type 0 where
   some : (x : A) (xs : List A) → Some (x ∷ xs)
 
@@ -70,7 +70,7 @@ pub lines_order : {t : List ℕ} {k i j : ℕ} {ls : List (List ℕ)} → TextLi
 lines_order (last_line e s m l) = let a = empties_forward e in omega (arith, a, l)
 lines_order (more_lines e s m l b r) = let a = empties_forward e in let c = break_forward b in let d = lines_order r in omega (arith, a, l, c, d)
 
--- the lines but the last one, and the last one
+-- the lines except the last one, and the last one
 data Front (t : List ℕ) (k i j : ℕ) (o : Bool) : List (List ℕ) → Type 0 where
   front : {h : ℕ} {ls : List (List ℕ)} {x : List ℕ} → Chain (Line t k) i h ls → LineContent t k h j x o → Front t k i j o (ls ++ x ∷ [])
 

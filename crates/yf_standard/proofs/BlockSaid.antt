@@ -1,4 +1,4 @@
--- Block nodes (8.2): their tokens say what the relation `Derives` of `Grammar` means.
+-- Block nodes (8.2): their tokens state what the relation `Derives` of `Grammar` means.
 use Rattle.std.proofs.Common.{◌≡◌, ℕ, ◌+◌, ◌<◌, ℤ, pos, ◌+ℤ◌, ◌-ℤ◌, ◌≤ℤ◌, Bool, true, false, List, [], ◌∷◌, ◌++◌, Some, None, refl, sym, ap, ◌∙◌, subst, append_assoc, append-nil, arith}
 use Rattle.std.proofs.lemmas.Int.{ints}
 use Rattle.yf_chars.specs.declared.context.Ctx.{Ctx}
@@ -61,7 +61,7 @@ entries_from {t} {e} {s} {n} {i} {k} {j} {u} m q f (step {y = z} (both {y = w} (
       let v : SomeSaid t e (BlockEntries s m) (k + m) j (w ++ z) = subst (λ l. SomeSaid t e (BlockEntries s m) (k + l) j (w ++ z)) same rest in
       let b = g.fits in let c = v.fits in said_is (an_entry_before g.node a v.node) (omega (arith, b, c)) (said_join g.says v.says)
 
--- [186] and [195]: a collection, of what needs less room
+-- [186] and [195]: a collection with less room for open collections
 pub data CompactIs (t : List ℕ) (e : ℕ) (s : Bool) (n : ℤ) (i j : ℕ) : List Token → Type 0 where
   compact_is : {r : ℕ} {y : List Token} → r < e → ((m : ℕ) → n ≡ pos m → SomeSaid t r (BlockEntries s m) i j y) → CompactIs t e s n i j (starts s false ∷ (y ++ ends s ∷ []))
 

@@ -1,4 +1,4 @@
--- All of a block scalar's content (8.1.2 and 8.1.3): its lines, as they are taken, and what they mean.
+-- All of a block scalar's content (8.1.2 and 8.1.3): its lines, as they are taken, and their meaning.
 use Rattle.std.proofs.Common.{◌≡◌, ℕ, zero, suc, ◌+◌, ◌<◌, ◌≤◌, ℤ, pos, Bool, true, false, true≢false, if◌then◌else◌, List, [], ◌∷◌, ◌++◌, length, None, refl, sym, ap, ◌∙◌, append_assoc, ⊎_elim, arith, add-one}
 use Rattle.std.proofs.lemmas.Str.{encodes-append}
 use lib.Utf8.{encodes}

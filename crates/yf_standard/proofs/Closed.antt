@@ -311,7 +311,7 @@ closed_by t true z e (ns-l-compact-sequence n) q i j a b d = no_opening q
 closed_by t true z e (ns-l-compact-mapping n) q i j a b d = no_opening q
 closed_by t s z e f q i j a b d = tt
 
--- a collection, of what needs less room
+-- a collection with less room for open collections
 opened_by : (t : List ℕ) (s : Bool) (z : Zone t s) (d e : ℕ) (f : Form) (i j : ℕ) → kind f ≡ COLLECTION → d < e → FormRead t (read t) (StandsFor t z.low s) d (rule f) i j → StandsFor t z.low s e f i j
 unfolding StandsFor rule read kind is_collection
 opened_by t true z d e (c-flow-sequence n c) i j q w r = λ b. brackets_read t e d true n c i j w b (sequence_read t d n c i j r)

@@ -1,4 +1,4 @@
--- The laws of `ContentLaws`: what scalars mean.
+-- The laws of `ContentLaws` on the meanings of scalars.
 use Rattle.std.proofs.Common.{◌≡◌, ℕ, pos, false, true≢false, List, refl, sym, arith}
 use Rattle.std.specs.Str.{IsUtf8}
 use Rattle.yf_lines.specs.Basic.{Clear}

@@ -92,7 +92,7 @@ tag_name t a k u r e =
     other : (x y : ℕ) → (x ≤ y) ⊎ (y < x)
     other x y = ⊎_elim (λ b. inr b) (λ b. inl b) (cases_lt y x)
 
--- back: characters of the text are the bytes of the slice
+-- conversely, characters of the text are the bytes of the slice
 byte_at : (t : List ℕ) (i c : ℕ) → IsUtf8 t → code t i ≡ c → c < 128 → drop i t ≡ c ∷ drop (i + 1) t
 byte_at t i c u e l =
     let b = byte_from_code t i u (omega (arith, e, l)) in

@@ -32,7 +32,7 @@ use Rattle.yf_grammar.proofs.Ends.BlankRuns.{ContentBefore, after_byte, no_start
 use Rattle.yf_stream.proofs.Uniqueness.OneDirective.{run_after, digit_ns}
 use Rattle.yf_grammar.proofs.BlockOutcomes.BlockKeys.{end_not_ns}
 
--- one character or more of a class
+-- one or more characters of a class
 abbrev pub SomeChars : List ℕ → (ℕ → Bool) → ℕ → ℕ → Type 0
 SomeChars t p i j = (w : List ℕ) × (Many t p i j w × (i < j))
 

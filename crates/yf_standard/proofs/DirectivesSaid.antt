@@ -1,4 +1,4 @@
--- Directives (6.8): their tokens say their words and the comments after them.
+-- Directives (6.8): their tokens state their words and the comments after them.
 use Rattle.std.proofs.Common.{◌≡◌, ◌≢◌, ℕ, ◌+◌, false, List, [], ◌∷◌, ◌++◌, codes, slice_range, refl, sym, ap, ◌∙◌, subst, append_assoc, append-nil, arith}
 use Rattle.yf_chars.specs.Text.{code}
 use Rattle.yf_chars.specs.Class.{is_ns_char}

@@ -91,7 +91,7 @@ module _ {t : List ℕ} where
       put_item (escape v h (h + 6) ∷ []) (piece_of v h ∷ []) m w c r (ap (λ a. pieces (escape v h (h + 6) ∷ a)) (append_assoc x z y) ∙ e ∙ ap (λ a. piece_of v h ∷ pieces a) (sym (append_assoc x z y)))
   put_four {h = h} {v = v} {x = x} {z = z} {y = y} m w (as_pair {p = p} c e) r s = put_item (escape v h (h + 6) ∷ x) (p ∷ []) m w c s e
 
-  -- what the items after the first one mean
+  -- the meaning of the items after the first one
   Others : {i j : ℕ} {x : List Mark} (y : List Mark) → MarkedItems t i j x → Type 0
   Others y no_items = Unit {0}
   Others {j = j} y (an_item {k = k} {y = z} m w c s) = Pieced t k j z y
@@ -215,7 +215,7 @@ rest_means {t} {n} l (right w) = go l (many_spells {t = t} {s = s-white} {p = is
   go l (spelled done) = record { low = l; fresh = tt; rest = blanks done }
   go l (spelled (step (one e) m)) = record { low = white_low e; fresh = tt; rest = blanks (step (one e) m) }
 
--- the first item of a line that begins with no white space
+-- the first item of a line that doesn't begin with white space
 data FirstItem (t : List ℕ) (i j : ℕ) : List Piece → Type 0 where
   first_then : {k : ℕ} {a b : List Piece} → DoubleChar t i k a → Chain (DoubleItem t) k j b → FirstItem t i j (a ++ b)
 

@@ -40,7 +40,7 @@ no_low_of f = record { none = λ v n l. f n.backslash n.letter }
 pub four_read : {t : List ℕ} {i v : ℕ} → NumericEscape t i 117 4 v → NoLow t (i + 6) → SomeOf (DoubleChar t) i (i + 6)
 four_read {t} {i} {v} a n = ⊎_elim (λ (h : is_high v ≡ true). as_char (by_half a h n)) (λ (l : is_high v ≡ false). as_char (by_four a l)) (cases_Bool (is_high v))
 
--- the first half of a pair, or an escape of its own
+-- the first half of a pair, or a separate escape
 abbrev Paired : List ℕ → ℕ → ℕ → ℕ → Type 0
 Paired t i v w = ((is_high v ≡ true) × (is_low w ≡ true)) ⊎ NoLow t (i + 6)
 

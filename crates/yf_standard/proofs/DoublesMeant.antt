@@ -128,7 +128,7 @@ unfolding pieces
 pieces_marks [] y = refl
 pieces_marks (c ∷ u) y = ap (λ z. good c ∷ z) (pieces_marks u y)
 
--- what no half of a pair that ends at a place goes on with
+-- the marks don't begin with the second half of a pair whose first half ends at i
 abbrev pub Fresh : ℕ → List Mark → Type 0
 Fresh i [] = Unit {0}
 Fresh i (char c ∷ y) = Unit {0}

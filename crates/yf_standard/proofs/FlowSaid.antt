@@ -1,4 +1,4 @@
--- Flow nodes (7.4 and 7.5): their tokens say what the relation `Derives` of `Grammar` means.
+-- Flow nodes (7.4 and 7.5): their tokens state what the relation `Derives` of `Grammar` means.
 use Rattle.std.proofs.Common.{◌≡◌, ℕ, ◌+◌, ◌-◌, ◌<◌, ◌≤◌, ℤ, pos, Bool, true, false, List, [], ◌∷◌, ◌++◌, Some, None, length, take, drop, refl, sym, ap, ◌∙◌, subst, append_assoc, append-nil, arith}
 use Rattle.std.specs.Str.{chars}
 use Rattle.yf_chars.specs.declared.context.Ctx.{Ctx}
@@ -38,7 +38,7 @@ use Rattle.yf_standard.proofs.Flows.{flow_same, flow_still}
 use Rattle.yf_standard.proofs.Sets.{plain_safe_is}
 use Rattle.yf_standard.proofs.SaidParts.{Says, SaysNode, SaysProps, says_same, said_after, said_noting, said_join, said_entering, says_comments, node_says, says_collection, says_empty, says_alias, says_text, says_with}
 
--- a node that its tokens say, with room for e open collections
+-- a node that its tokens state, with room for e open collections
 pub record SomeSaid (t : List ℕ) (e : ℕ) (p : Production) (i j : ℕ) (y : List Token) : Type 0 where
   pub height : ℕ
   pub meaning : Meaning
@@ -52,7 +52,7 @@ said_is {h = h} {m = m} d l f = record { height = h; meaning = m; node = d; fits
 abbrev pub SaidIn : List ℕ → ℕ → Ctx → Production → ℕ → ℕ → List Token → Type 0
 SaidIn t e c p i j y = is_block c ≡ false → SomeSaid t e p i j y
 
--- content like that of JSON, before which properties may be
+-- JSON-like content, with properties before it or not
 pub record ContentSaid (t : List ℕ) (e : ℕ) (n : ℤ) (c : Ctx) (i j : ℕ) (y : List Token) : Type 0 where
   pub height : ℕ
   pub meaning : Meaning
@@ -283,7 +283,7 @@ flow_node_said b (right (right (both p (left (both s (left d)))))) = as_node (pl
 flow_node_said b (right (right (both p (left (both s (right q)))))) = as_node (json_with p s (q b))
 flow_node_said b (right (right (both p (right unwritten)))) = as_node (properties_only b p)
 
--- a single pair is a collection, of what needs less room
+-- a single pair is a collection with less room for open collections
 pub data PairIn (t : List ℕ) (e : ℕ) (n : ℤ) (c : Ctx) (i j : ℕ) : List Token → Type 0 where
   pair_in : {r : ℕ} {y : List Token} → r < e → SaidIn t r c (Pair n c) i j y → PairIn t e n c i j (starts false true ∷ (y ++ ends false ∷ []))
 

@@ -46,7 +46,7 @@ SignOf t d i j = (code t i ≡ d) × (i + 1 ≡ j)
 abbrev pub NodeIn : List ℕ → ℕ → Ctx → Production → ℕ → ℕ → Type 0
 NodeIn t e c p i j = is_block c ≡ false → SomeNode t e p i j
 
--- brackets with entries or none between
+-- brackets with entries between them, or without
 abbrev pub Between : List ℕ → ℕ → Bool → ℤ → Ctx → ℕ → ℕ → Type 0
 Between t e s n c k j = (m : ℕ) × (((k ≡ m) ⊎ NodeIn t e c (Entries s n (in_flow c)) k m) × SignOf t (closing s) m j)
 
@@ -109,7 +109,7 @@ pub map_entry_read : (t : List ℕ) (e : ℕ) (n : ℤ) (c : Ctx) (i j : ℕ) �
 map_entry_read t e n c i j b (inl d) = let x = d.1.1.1.1 b i in node_is (an_explicit_entry d.1.0.0 (marked_separate t e n c i j d) x.node) x.fits
 map_entry_read t e n c i j b (inr f) = let d = f b i in node_is (an_implicit_entry d.node) d.fits
 
--- with room for what a single pair holds
+-- with the room of a single pair
 pub pair_read : (t : List ℕ) (e : ℕ) (n : ℤ) (c : Ctx) (i j : ℕ) → is_block c ≡ false → Marked t e n c i j ⊎ NodeIn t e c (Pair n c) i j → SomeNode t e (Pair n c) i j
 pair_read t e n c i j b (inl d) = let x = d.1.1.1.1 b i in node_is (an_explicit_pair d.1.0.0 (marked_separate t e n c i j d) x.node) x.fits
 pair_read t e n c i j b (inr f) = f b
@@ -259,7 +259,7 @@ entries_signs t e s n c i j d = (d.0, (d.1.0, (d.1.1.0, (d.1.1.1.0, go d.1.1.1.1
   go (inl e) = inl e
   go {k} (inr r) = inr (r.0, (char_is t k r.0 44 (omega arith) r.1.0, r.1.1))
 
--- a single pair is a collection, of what needs less room
+-- a single pair is a collection with less room for open collections
 abbrev pub PairIn : List ℕ → ℕ → ℤ → Ctx → ℕ → ℕ → Type 0
 PairIn t e n c i j = is_block c ≡ false → (r : ℕ) × ((r < e) × SomeNode t r (Pair n c) i j)
 

@@ -47,7 +47,7 @@ no_break {t} {z} e b =
     let q : code t z ≡ no_char = ap (code t) e ∙ code-end t in
     ⊎_elim (λ (h : code t z ≡ 13). absurd (omega (arith, h, q))) (λ (h : code t z ≡ 10). absurd (omega (arith, h, q))) (break_char b)
 
--- empty lines end in one place, before lines with content
+-- empty lines before lines with content end at one offset
 module _ {t : List ℕ} {k : ℕ} where
   same_place : {i a b : ℕ} {x y : List ℕ} → Chain (Empty t (pos k) BlockIn) i a x → Chain (Empty t (pos k) BlockIn) i b y
       → ((h : ℕ) (z : List ℕ) → Empty t (pos k) BlockIn a h z → ⊥) → ((h : ℕ) (z : List ℕ) → Empty t (pos k) BlockIn b h z → ⊥) → a ≡ b
@@ -97,7 +97,7 @@ module _ {t : List ℕ} {k : ℕ} where
   after_lines (by_text d) r l n = record { none = λ m g j x y o q f c e. no_fold d f }
   after_lines (by_break b) r l n = record { none = λ m g j x y o q f c e. all_taken r l n (fold_parts f b).1 (subst (λ u. LineContent t u g j y o) (sym (indent_width q)) c) }
 
--- the first group of lines: spaced ones, or folded ones after which no folded line follows
+-- the first group of lines: spaced ones, or folded ones with no folded line after them
 pub data Lead (t : List ℕ) (room k : ℕ) : ℕ → ℕ → Type 0 where
   spaced_lead : {a e : ℕ} → is_nb_char (code t (a + k)) ≡ true → is_white (code t (a + k)) ≡ true → Read t room (l-nb-spaced-lines (pos k)) a e → Lead t room k a e
   folded_lead : {a h e : ℕ} → Read t room (s-nb-folded-text (pos k)) a h → Read t room ((b-l-folded (pos k) BlockIn then s-nb-folded-text (pos k)) ⋆) h e → NoFoldedLine t (pos k) e → Lead t room k a e
@@ -129,7 +129,7 @@ module _ {t : List ℕ} {room k : ℕ} where
       let q : is_ns_char (code t (a + k)) ≡ true = rw (e, n) refl in
       by_rule refl (one_then (indent_made t a k s) (one_then (one_of (ns_char_is (code t (a + k)) ∙ q)) (chars_made nb_char_is r)))
 
-  -- a folded line before what follows
+  -- a folded line before other lines
   folded_first : {i a h b z : ℕ} → Empties t k i a → Spaces t a k → Read t room (s-nb-folded-text (pos k)) a h → Break t h b → Grouped t room k b z → Grouped t room k i z
   folded_first {i} {a} {h} {b} {z} e s d br g = go g.lead g.rest where
     go : {y : ℕ} → Lead t room k g.start y → Read t room ((b-as-line-feed then l-nb-same-lines (pos k)) ⋆) y z → Grouped t room k i z

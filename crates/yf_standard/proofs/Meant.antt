@@ -66,7 +66,7 @@ pub record Meanings {A : Type 0} (t : List ℕ) (L : Condition → ℕ → Type 
   pub by_open : (r e : ℕ) (f : Form) (i j : ℕ) (x : List A) → kind f ≡ COLLECTION → r < e → low ≤ i → j ≤ high → (d : Derived L t r (rule f) i j)
       → FormMeans t L single K r (rule f) i j x → K e f i j (made r f i j d x)
 
--- a production means what K says
+-- a production has the meaning that K gives
 as_meant : {A : Type 0} (t : List ℕ) (L : Condition → ℕ → Type 0) (w : ℕ → List A) (K : ℕ → Form → ℕ → ℕ → List A → Type 0) (e : ℕ) (f : Form) (i j : ℕ) (x : List A)
     → kind f ≡ PRODUCTION → K e f i j x → FormMeans t L w K e f i j x
 unfolding kind

@@ -66,6 +66,6 @@ asks_less t (is-sum n m k) i h = h
 asks_less t (auto-detect n k) i h = detected_deep h
 asks_less t c i h = tt
 
--- what the reading rules leave, the standard derives
+-- the standard derives what the reading rules allow
 pub rules_only_restrict : {t : List ℕ} {e : ℕ} {f : Form} {i j : ℕ} → Derived (read t) t e f i j → Derived (letter t) t e f i j
 rules_only_restrict {t} d = weaker (asks_less t) d

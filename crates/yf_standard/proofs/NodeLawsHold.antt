@@ -1,4 +1,4 @@
--- The laws of `NodeLaws`: what the tokens of nodes say.
+-- The laws of `NodeLaws` on the tokens of nodes.
 use Rattle.std.proofs.Common.{ℕ, true, true≢false, List, arith}
 use Rattle.std.specs.Str.{IsUtf8}
 use Rattle.yf_lines.specs.Basic.{Clear}

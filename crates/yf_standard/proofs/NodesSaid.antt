@@ -133,7 +133,7 @@ no_collection : {A : Type 0} → COLLECTION ≡ PRODUCTION → A
 unfolding is_collection
 no_collection q = absurd (true≢false (ap is_collection q))
 
--- what the productions of nodes say
+-- what the productions of nodes state
 unfoldable pub Tells : (t : List ℕ) → ℕ → Form → ℕ → ℕ → List Token → Type 0
 Tells t e (s-indent n) i j y = Quiet (Indent t n) i j y
 Tells t e s-separate-in-line i j y = Quiet (SeparateInLine t) i j y

@@ -1,4 +1,5 @@
--- Aliases, anchors, tags and properties (5.6, 6.8.2, 6.9, 7.1), from the standard's productions to the relations of `Names`.
+-- Aliases, anchors, tags and properties (5.6, 6.8.2, 6.9, 7.1): from the standard's productions to the relations of
+-- `Names`.
 use Rattle.std.proofs.Common.{◌≡◌, ◌≢◌, ℕ, ◌+◌, ◌<◌, ◌≤◌, ℤ, Bool, true, false, true≢false, ◌||◌, ◌==◌, List, ◌++◌, refl, sym, ap, ◌∙◌, subst, ◌⊎◌, inl, inr, arith, slice_range}
 use Rattle.yf_chars.specs.declared.context.Ctx.{Ctx}
 use Rattle.yf_chars.specs.Text.{code}
@@ -98,7 +99,7 @@ tag_char_read t i j d = go d.0.0.1 where
       (_, as_itself (rw (e, d.0.1, f) refl))
   go (as_escape a b c) = (_, as_escape a b c)
 
--- characters of a name, one or more, as far as they go
+-- one or more characters of a name, as many as possible
 spelled_later : {t : List ℕ} {p : ℕ → Bool} {i j : ℕ} {w : List ℕ} → SpelledChar t p i j w → i < j
 spelled_later {t} (as_itself {i = i} e) = next_later t i
 spelled_later (as_escape a b c) = omega arith

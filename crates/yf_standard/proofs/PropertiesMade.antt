@@ -1,4 +1,5 @@
--- Aliases, anchors, tags and properties (5.6, 6.8.2, 6.9, 7.1), from the relations of `Names` to the standard's productions.
+-- Aliases, anchors, tags and properties (5.6, 6.8.2, 6.9, 7.1): from the relations of `Names` to the standard's
+-- productions.
 use Rattle.std.proofs.Common.{◌≡◌, ℕ, ◌+◌, ◌<◌, ℤ, Bool, true, false, true≢false, ◌&&◌, ◌==◌, not, List, [], ◌∷◌, refl, sym, ap, ◌∙◌, subst, ⊎_elim, arith}
 use Rattle.std.proofs.lemmas.Bool.{cases_Bool, and_parts, or_cases}
 use Rattle.yf_chars.specs.declared.context.Ctx.{Ctx}
@@ -31,7 +32,7 @@ use Rattle.yf_standard.proofs.Sets.{anchor_char_is, word_char_is, hex_digit_is, 
 use Rattle.yf_chars.proofs.TextLemmas.{next_ascii}
 use Rattle.yf_props.proofs.TagLemmas.{hex_below}
 
--- one step or more of a chain
+-- one or more steps of a chain
 pub some_made : {room : ℕ} {A : Type 0} {S : ℕ → ℕ → List A → Type 0} {t : List ℕ} {a : Form} {i j : ℕ} {w : List A}
     → ((i j : ℕ) (w : List A) → S i j w → Read t room a i j) → Chain S i j w → i < j → Read t room (a ⁺) i j
 some_made f done l = absurd (omega arith)

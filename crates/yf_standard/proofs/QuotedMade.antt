@@ -1,4 +1,5 @@
--- Quoted scalars (7.3.1, 7.3.2), from the relations of `Quoted` to the standard's productions. A pair of surrogates is two escapes there.
+-- Quoted scalars (7.3.1, 7.3.2): from the relations of `Quoted` to the standard's productions, in which a pair of
+-- surrogates is two escapes.
 use Rattle.std.proofs.Common.{◌≡◌, ◌≢◌, ℕ, zero, suc, ◌+◌, ◌<◌, ℤ, Bool, true, false, true≢false, ◌||◌, ◌==◌, List, Option, Some, None, if◌then◌else◌, refl, sym, ap, ◌∙◌, subst, arith}
 use Rattle.std.proofs.lemmas.Bool.{ne_eqb}
 use Rattle.std.proofs.lemmas.Bool.Decides.{nat_tests}

@@ -40,7 +40,7 @@ use Rattle.yf_chars.proofs.EscapeLemmas.{named_below, digit_below, no_name, unna
 use Rattle.yf_lines.proofs.BasicLemmas.{break_char}
 use Rattle.yf_quoted.proofs.DoubleLemmas.{white_backslash}
 
--- with some meaning, over what both kinds of quotes share
+-- with some meaning, over the parts that both kinds of quotes share
 module _ {A : Type 0} (t : List ℕ) (put : List ℕ → List A) (C B : ℕ → ℕ → List A → Type 0) where
   whites_or : {i j : ℕ} → SomeOf (Rest t put C B) i j ⊎ Star (CharOf t s-white) i j → SomeOf (Rest t put C B) i j
   whites_or (inl r) = r
@@ -208,7 +208,7 @@ double_char_read t i j (inr d) =
     differs : (c k : ℕ) → not (c == k) ≡ true → c ≢ k
     differs c k e z = true≢false (sym e ∙ rw (eq-eqb c k z) refl)
 
--- [114], with one escape after another
+-- [114], with adjacent escapes
 pub data LoneItems (t : List ℕ) : ℕ → ℕ → Type 0 where
   no_items : {i j : ℕ} → i ≡ j → LoneItems t i j
   other_item : {i h k j : ℕ} → Star (CharOf t s-white) i h → is_white (code t h) ≡ false → SomeOf (DoubleChar t) h k → NoLow t h → h < k → LoneItems t k j → LoneItems t i j

@@ -25,7 +25,7 @@ joined_said x s = record {
   escapes = x.escapes ++ s.escapes;
 }
 
--- tokens that say what a meaning says
+-- tokens that state what a meaning states
 pub record Says (y : List Token) (x : Meaning) : Type 0 where
   pub all : (z : List Token) → said no_props (y ++ z) ≡ joined_said x (said no_props z)
 
@@ -117,7 +117,7 @@ says_whole {y} {x} f =
     ap (λ v. said no_props v) (sym (append-nil y)) ∙ f.all []
     ∙ same_said (append-nil (map value x.events)) (append-nil (notes_of x.comments)) (append-nil (tag_places x.events)) (append-nil x.escapes)
 
--- a node without properties of its own: the properties before it are its
+-- a node without properties of its own has the properties before it
 pub record SaysNode (y : List Token) (x : Meaning) : Type 0 where
   pub first : EventInText
   pub others : List EventInText

@@ -1,4 +1,4 @@
--- Block scalars (8.1), from the relations of `Header` and `Body` to the standard's productions.
+-- Block scalars (8.1): from the relations of `Header` and `Body` to the standard's productions.
 use Rattle.std.proofs.Common.{◌≡◌, ◌≢◌, ℕ, zero, suc, ◌+◌, ◌-◌, ◌<◌, ◌≤◌, ℤ, pos, max, Bool, true, false, true≢false, ◌<ℤ◌, List, [], ◌∷◌, ◌++◌, length, Option, Some, None, leb, refl, sym, ap, ◌∙◌, subst, ◌⊎◌, inl, inr, ⊎_elim, arith}
 use Rattle.std.proofs.lemmas.Bool.{cases_lt, and_parts, eq-eqb, leb-true}
 use Rattle.std.proofs.lemmas.Int.{ints}
@@ -199,7 +199,7 @@ folded_content {room = room} {t = t} {k = k} {i = i} {p = p} {j = j} c a d = go 
       let g = grouped {room = room} z.1.0 (after_lines z.1.1 w a.tail.within a.most) in
       by_rule refl (one_then (present (one_then (by_rule refl (one_then (lead_made g.empties g.lead) g.rest)) (last_made c z.1.1))) r)
 
--- the spaces before a comment, as any separation before it goes
+-- the spaces before a comment, as in any separation before it
 pub white_all : {t : List ℕ} {i j : ℕ} {w : List ℕ} (h : ℕ) → Many t is_white i j w → i ≤ h → h < j → is_white (code t h) ≡ true
 white_all h done l m = absurd (omega arith)
 white_all {t} {i} h (step (one e) r) l m =

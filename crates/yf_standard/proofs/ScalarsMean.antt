@@ -64,7 +64,7 @@ record ScalarBody (t : List ℕ) (n : ℤ) (f : Bool) (d : Option ℕ) (c : Chom
   pub bytes : encode_utf8_all x ≡ content_of (record { folded = f; digit = d; chomp = chomp_of c }) value.lines value.tail value.open_end
   pub comments : z ≡ notes value.comments
 
--- neither the digit bears on content, nor a note on tokens
+-- the digit doesn't affect content, nor a note tokens
 same_content : (f : Bool) (d : Option ℕ) (c : Chomping) (ls : List (List ℕ)) (count : ℕ) (o : Bool)
     → content_of (record { folded = f; digit = None; chomp = chomp_of c }) ls count o ≡ content_of (record { folded = f; digit = d; chomp = chomp_of c }) ls count o
 same_content f d c [] count o = refl

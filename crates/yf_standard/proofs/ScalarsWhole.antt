@@ -49,7 +49,7 @@ use Rattle.yf_block.proofs.LineSteps.ScalarLines.{body_between}
 use Rattle.yf_grammar.proofs.FlowReader.OneLine.{comment_lines_order}
 use Rattle.yf_grammar.proofs.Prefixes.PrefixComments.{rest_within}
 
--- how far parts go
+-- the ends of parts
 bares_forward : {t : List ℕ} {i j : ℕ} {w : List ℕ} → Chain (EmptyLines t) i j w → i ≤ j
 bares_forward done = omega arith
 bares_forward (step (bare m s) r) = let a = break_forward s.ends in let b = bares_forward r in omega (arith, a, b)
@@ -208,7 +208,7 @@ pub shallower : {t : List ℕ} {n : ℤ} {k i j : ℕ} {w : List CommentValue} �
 shallower h l (comments m b s e c) = comments m (hash_shallow h s e) s e c
 shallower h l (no_comment f) = no_comment (λ m b s e. f m (omega (arith, l, b)) s e)
 
--- [170] and [174]: the header with what it says of the indentation, and the content
+-- [170] and [174]: the header with its indentation, and the content
 abbrev pub HeaderPart : List ℕ → ℤ → Chomping → ℤ → ℕ → ℕ → Type 0
 HeaderPart t n c k a b =
     ((m : ℕ) × ((h : ℕ) × (HeaderRead t (GIVEN m) c a h × ((k ≡ pos (base n + m)) × (h ≡ b))))) ⊎ ((h : ℕ) × (HeaderRead t DETECTED c a h × (AutoDetect t n h k × (h ≡ b))))

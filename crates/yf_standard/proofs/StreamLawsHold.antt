@@ -1,4 +1,4 @@
--- The laws of `StreamLaws`: what the tokens of a stream say.
+-- The laws of `StreamLaws` on the tokens of a stream.
 use Rattle.std.proofs.Common.{◌≡◌, ℕ, List, [], ◌∷◌, ◌++◌, length, map, flat_map, refl, sym, ap, ◌∙◌, arith}
 use Rattle.yf_comments.specs.Comment.{CommentValue}
 use Rattle.yf_comments.specs.declared.comment.Comment.{Comment}

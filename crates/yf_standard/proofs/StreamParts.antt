@@ -1,4 +1,4 @@
--- Documents and streams (9): their tokens say the documents and the comments of `Stream`.
+-- Documents and streams (9): their tokens state the documents and the comments of `Stream`.
 use Rattle.std.proofs.Common.{◌≡◌, ℕ, ◌+◌, ◌≤◌, Bool, true, false, List, [], ◌∷◌, ◌++◌, length, map, refl, sym, ap, ◌∙◌, subst, append_assoc, append-nil, inl, inr, arith}
 use Rattle.std.proofs.lemmas.Bool.{eqb-true}
 use Rattle.std.specs.Str.{IsUtf8}
@@ -40,7 +40,7 @@ use Rattle.yf_standard.proofs.DirectivesSaid.{LinesSaid, with_stream, notes_stre
 use Rattle.yf_chars.proofs.ChainLemmas.{chain_append}
 use Rattle.yf_grammar.proofs.BlockOutcomes.BlockEnds.{block_ends}
 
--- a document before what follows
+-- a document, and the rest of the stream
 abbrev with_said : Bool → List Directive → Said → StreamSaid → StreamSaid
 with_said m ds d s = record {
   documents = record { marked = m; directives = ds; events = d.events; tags = d.tags; escapes = d.escapes } ∷ s.documents;
@@ -197,7 +197,7 @@ past_notes {y = y} cs r d = record {
 }
 
 module _ {t : List ℕ} {e : ℕ} (u : IsUtf8 t) where
-  -- comments, a document after them, and what follows
+  -- comments, a document after them, and the rest
   document_said_after : {m h : ℕ} {x : List Token} (y : List Token) (cs : List CommentValue) (f : DocumentIs t e m h x) (rest : Documents) → stream_said [] y ≡ documents_said rest
       → stream_said [] (notes cs ++ (x ++ y)) ≡ documents_said (with_document (cs ++ (f.before ++ f.comments)) f.value rest)
   unfolding with_document

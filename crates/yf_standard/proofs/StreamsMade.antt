@@ -1,4 +1,4 @@
--- Directives and streams (6.8, 9), from the relations of `Stream` to the standard's productions.
+-- Directives and streams (6.8, 9): from the relations of `Stream` to the standard's productions.
 use Rattle.std.proofs.Common.{◌≡◌, ◌≢◌, ℕ, ◌+◌, ◌<◌, ◌≤◌, Bool, true, false, true≢false, ◌&&◌, ◌==◌, List, [], ◌∷◌, length, codes, slice_range, refl, sym, ap, ◌∙◌, subst, ⊎_elim, arith}
 use Rattle.std.proofs.lemmas.Bool.{cases_lt, cases_Bool, and_parts, eqb-true, eq-eqb, or_cases}
 use Rattle.std.specs.Str.{IsUtf8}
@@ -147,7 +147,7 @@ module _ (t : List ℕ) (room : ℕ) (u : IsUtf8 t) where
   parameters_made {a} {k} r (reserved_parameters y g c) =
       in_right (in_right (by_rule refl (one_then (where_holds (no_yaml t a k u r y, no_tag t a k u r g)) (one_then (by_rule refl (some_chars_made ns_char_is r.chain r.some)) (many_made parameter_made c)))))
 
-  -- [82], once or more
+  -- [82], one or more
   record Lines (i j : ℕ) : Type 0 where
     at : ℕ
     first : Read t room l-directive i at

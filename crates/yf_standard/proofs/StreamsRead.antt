@@ -88,7 +88,7 @@ pub begins_within : {t : List ℕ} {i : ℕ} → IsUtf8 t → Begins t i → i �
 begins_within u (inl s) = start_within u s
 begins_within u (inr e) = omega (arith, e)
 
--- white space as far as it goes
+-- as much white space as possible
 record Whites (t : List ℕ) (i : ℕ) : Type 0 where
   end : ℕ
   run : List ℕ
@@ -104,7 +104,7 @@ whites_from t (suc n) i l =
     record { end = r.end; run = code t i ∷ r.run; whites = step (one c) r.whites; stops = r.stops })
     (λ (c : is_white (code t i) ≡ false). record { end = i; run = []; whites = done; stops = c }) (cases_Bool (is_white (code t i)))
 
--- the rows that prefixes begin with
+-- the rows at the start of prefixes
 record RowsFrom (t : List ℕ) (i : ℕ) : Type 0 where
   end : ℕ
   comments : List CommentValue
@@ -164,7 +164,7 @@ pub bare_read : (t : List ℕ) (e i j : ℕ) → IsUtf8 t → Begins t i → j �
 bare_read t e i j u s l r =
     let b = bare_known u s l r.1.1.0 in (b.at, ((b.comments, b.before), (b.content, (b.starts, (r.0, (b.meaning, (b.root, r.1.1.1)))))))
 
--- [209]: directives, once or more
+-- [209]: one or more directives
 pub directives_read : (t : List ℕ) (i k j : ℕ) → SomeDirectives t i k → Star (SomeDirectives t) k j → SomeDirectives t i j
 directives_read t i k j d none = d
 directives_read t i k j d (more {k = h} e r) = let rest = directives_read t k h j e r in (_, more_directives d.1 rest.1)

@@ -82,7 +82,7 @@ explicit_means {t} {e} {i} {j} (both (puts h) (right (both unwritten (noted {x =
     subst (λ s. ExplicitSaid t e i j (a_document true s ∷ [])) (sym (says_whole (said_noting (node_says (says_empty (i + 3))) cs)))
     (explicit_said (marked_nothing h.0 (subst (λ z. LineEnd t z j cs) (sym h.1) l)) (omega arith))
 
--- what the productions of streams say
+-- what the productions of streams state
 unfoldable pub Streams : (t : List ℕ) → ℕ → Form → ℕ → ℕ → List Token → Type 0
 Streams t e s-separate-in-line i j y = Quiet (SeparateInLine t) i j y
 Streams t e l-comment i j y = Noted (CommentLine t) i j y

@@ -75,7 +75,7 @@ pub texts_join : {t : List ℕ} {k i h b j : ℕ} → Texts t k i h → Break t 
 texts_join (last_text f s m l) b r = more_texts f s m l b r
 texts_join (more_texts f s m l c q) b r = more_texts f s m l c (texts_join q b r)
 
--- nothing is a line past the end of the text
+-- no line begins past the end of the text
 pub some_first : {t : List ℕ} {p : ℕ → Bool} {i j : ℕ} {x : List ℕ} → Many t p i j x → i < j → p (code t i) ≡ true
 some_first done l = absurd (omega arith)
 some_first (step (one e) r) l = e
@@ -88,7 +88,7 @@ no_line_past {t} {k} {i} l (content_line (content s m w e n)) =
     let q : code t (i + k) ≡ no_char = code-past t (i + k) (omega arith) in
     true≢false (sym (some_first m w) ∙ ap is_nb_char q ∙ no_nb_char)
 
--- lines up to a content line, and the end of that one
+-- lines up to a content line, and that line's end
 pub lines_texts : {t : List ℕ} {k i h j : ℕ} {ls : List (List ℕ)} {x : List ℕ} {o : Bool} → Chain (Line t k) i h ls → LineContent t k h j x o → (z : ℕ) × (Texts t k i z × Ends t z j o)
 lines_texts {t} {k} {i} done (content {h = z} s m l w n) = (z, (last_text (no_empties t k i) s m l, w))
 lines_texts {t} {k} {i} (step (empty_line {j = g} {m = d} s l) r) c =

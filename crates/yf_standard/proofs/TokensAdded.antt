@@ -1,4 +1,5 @@
--- Which comments and names each production of chapters 6, 7 and 8.1 has: a clause for each, and so all that is derived by them.
+-- The comments and names of each production of chapters 6, 7 and 8.1: a clause for each, and so for all their
+-- derivations.
 use Rattle.std.proofs.Common.{◌≡◌, ℕ, ◌≤◌, pos, false, List, refl}
 use Rattle.yf_chars.specs.declared.context.Ctx.TheVariants.{BlockOut, BlockIn, FlowOut, FlowIn, BlockKey, FlowKey}
 use Rattle.yf_lines.specs.Basic.{Break, Indent, IndentLess, SeparateInLine, FlowPrefix, Empty}
@@ -35,7 +36,7 @@ use Rattle.yf_standard.proofs.Texts.{Texts}
 use Rattle.yf_standard.proofs.ScalarsRead.{AtWidth, UpTo, IndicatorRead, ChompingRead, SomeEnd, NextText}
 use Rattle.yf_standard.proofs.BlockNoted.{HeaderNoted, TrailNoted, EndNoted, ContentNoted, header_noted, trail_noted, strip_noted, keep_noted, literal_noted, folded_noted}
 
--- what the productions have
+-- the tokens of the productions
 unfoldable pub Has : (t : List ℕ) → ℕ → Form → ℕ → ℕ → List Token → Type 0
 Has t e b-break i j x = Quiet (Break t) i j x
 Has t e b-non-content i j x = Quiet (Break t) i j x
@@ -134,7 +135,7 @@ module _ (t : List ℕ) (z : Zone t false) where
   has_by e (l-folded-content n c) i j x q l h d m = λ k s. folded_noted m k s
   has_by e f i j x q l h d m = tt
 
-  -- of collections nothing is asked
+  -- collections have no condition
   has_open : (e : ℕ) (f : Form) (i j : ℕ) (x : List Token) → kind f ≡ COLLECTION → Has t e f i j x
   unfolding Has kind is_collection
   has_open e (c-flow-sequence n c) i j x q = tt

@@ -1,5 +1,6 @@
--- The productions of YAML 1.2.2 that derive one character of a set (chapter 5; 102, 127 to 129), in the standard's order, by its names
--- and numbers. A set is a test on the character's code; ∪ is the standard's | and ∖ its - between such sets.
+-- The productions of YAML 1.2.2 that derive one character of a set (chapter 5; 102, 127 to 129), in the standard's
+-- order, with its names and numbers. A set is a test on the character's code; ∪ is the standard's | and ∖ its - between
+-- such sets.
 use Rattle.std.specs.Prelude.{ℕ, Bool, false, ◌==◌, ◌&&◌, ◌||◌, not, nat_le}
 use Rattle.yf_chars.specs.declared.context.Ctx.{Ctx}
 use Rattle.yf_chars.specs.declared.context.Ctx.TheVariants.{BlockOut, BlockIn, FlowOut, FlowIn, BlockKey, FlowKey}

@@ -87,7 +87,7 @@ content_made t (c-b-block-header m k) i j x = []
 content_made t (l-trail-comments n) i j x = []
 content_made t (c-l+literal n) i j x = but_first x
 content_made t (c-l+folded n) i j x = but_first x
--- all others add what their parts do
+-- all others add the content of their parts
 content_made t f i j x = x
 
 abbrev pub one_char : ℕ → List Mark

@@ -45,7 +45,7 @@ pub data AutoDetect (t : List ℕ) (n : ℤ) (i : ℕ) : ℤ → Type 0 where
   without_content : {k p : ℕ} {widths : List ℕ} → Chain (EmptyLines t) i p widths → Shallow t n p → largest widths ≤ k → least n ≤ k
       → NoLine t (pos k) p → AutoDetect t n i (pos k)
 
--- does not begin with YAML or TAG and white space
+-- the text doesn't begin with YAML or TAG and white space
 unfoldable pub is_name_yaml : List ℕ → ℕ → Bool
 is_name_yaml t i = (code t i == 89) && ((code t (i + 1) == 65) && ((code t (i + 2) == 77) && ((code t (i + 3) == 76) && is_white_or_end (code t (i + 4)))))
 

@@ -81,7 +81,7 @@ comments_among [] = []
 comments_among (a_comment i text ∷ x) = a_comment i text ∷ comments_among x
 comments_among (c ∷ x) = comments_among x
 
--- the words among tokens: a handle is one
+-- the words among tokens, handles included
 abbrev pub words_among : List Token → List (List ℕ)
 words_among [] = []
 words_among (a_word word ∷ x) = word ∷ words_among x
@@ -144,7 +144,7 @@ tokens_made t (ns-l-compact-mapping n) i j y x = starts false false ∷ (x ++ en
 -- 9.1
 tokens_made t l-bare-document i j y x = a_document false (said no_props x) ∷ []
 tokens_made t l-explicit-document i j y x = marked_document x
--- all others have what their parts have
+-- all others have the tokens of their parts
 tokens_made t f i j y x = x
 
 abbrev pub no_tokens : ℕ → List Token
@@ -161,7 +161,7 @@ abbrev pub notes : List CommentValue → List Token
 notes [] = []
 notes (c ∷ cs) = a_comment c.offset c.text ∷ notes cs
 
--- the first anchor among tokens, and the first tag with its place
+-- the first anchor among tokens, and the first tag with its offset
 abbrev pub anchor_among : List Token → Option (List ℕ)
 anchor_among [] = None
 anchor_among (an_anchor name ∷ x) = Some name

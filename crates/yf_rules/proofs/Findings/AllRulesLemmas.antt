@@ -91,7 +91,7 @@ module _ {B : Type 0} (definition : B → RuleDefinition) (without : List (List 
   asked_are (b ∷ bs) [] are = absurd are
 
 module _ {B : Type 0} (definition : B → RuleDefinition) (src : Table) (reading : Lists) (style : Style) where
-  -- one rule after the other
+  -- the rules in sequence
   in_order : {bs : List B} {found : List Finding} (rules : List StyleRule) → Are definition bs rules
       → InOrder (λ b x. RuleFindings (definition b) src reading style x) bs found
       → InOrder (λ rule x. RuleFindings (definition_of rule) src reading style x) rules found
@@ -102,7 +102,7 @@ module _ {B : Type 0} (definition : B → RuleDefinition) (src : Table) (reading
       subst (λ (rs : List StyleRule). InOrder (λ rule z. RuleFindings (definition_of rule) src reading style z) rs (x ++ y)) (sym l.split)
       (one_more (in_order l.before l.are front) (rule_finds src reading style l.is last))
 
-  -- all of them, but those that are left out
+  -- all rules except those that are left out
   pub all_find : (without : List (List ℕ)) (bs : List B) (findings : List Finding) → Are definition bs all_rules
       → CheckAnswer (λ b x. RuleFindings (definition b) src reading style x) (asked definition without bs) findings → FoundWithout without style src reading findings
   all_find without bs findings are (checked order sorted) = checked (in_order (rules_without without) (asked_are definition without bs all_rules are) order) sorted

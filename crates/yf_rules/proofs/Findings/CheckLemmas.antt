@@ -15,7 +15,7 @@ none_checked R xs e = subst (λ ys. InOrder R [] ys) (sym e) no_rules
 
 module _ {B : Type 0} (bs : List B) (i : ℕ) (b : B) (definition : B → RuleDefinition) (without : List (List ℕ)) (id : List ℕ) (left_out : Bool)
     (within : i < length bs) (same : b ≡ get_or bs i b) (test : left_out ≡ is_among without id) (named : id ≡ (definition b).id) where
-  -- those that are asked of one rule more
+  -- the rules that are asked, with one more rule
   one_asked : asked definition without (take (i + 1) bs) ≡ asked definition without (take i bs) ++ cond (not left_out) (b ∷ []) []
   one_asked =
       let passes : B → Bool = λ c. not (is_among without (definition c).id) in
@@ -23,7 +23,7 @@ module _ {B : Type 0} (bs : List B) (i : ℕ) (b : B) (definition : B → RuleDe
       filter_more passes bs i b within ∙ ap (λ c. filter passes (take i bs) ++ cond (passes c) (c ∷ []) []) (sym same)
       ∙ ap (λ t. filter passes (take i bs) ++ cond t (b ∷ []) []) decided
 
-  -- one rule more, which is asked
+  -- one more rule, which is asked
   pub more_checked : (R : B → List Finding → Type 0) (x y z : List Finding) → left_out ≡ false
       → InOrder R (asked definition without (take i bs)) x → R b y → z ≡ x ++ y → InOrder R (asked definition without (take (i + 1) bs)) z
   more_checked R x y z is o r q =
@@ -31,7 +31,7 @@ module _ {B : Type 0} (bs : List B) (i : ℕ) (b : B) (definition : B → RuleDe
       one_asked ∙ ap (λ t. asked definition without (take i bs) ++ cond (not t) (b ∷ []) []) is in
       subst (λ w. InOrder R w z) (sym grown) (subst (λ w. InOrder R (asked definition without (take i bs) ++ b ∷ []) w) (sym q) (one_more o r))
 
-  -- one rule more, which is left out
+  -- one more rule, which is left out
   pub more_left_out : (R : B → List Finding → Type 0) (x : List Finding) → left_out ≡ true
       → InOrder R (asked definition without (take i bs)) x → InOrder R (asked definition without (take (i + 1) bs)) x
   more_left_out R x is o =

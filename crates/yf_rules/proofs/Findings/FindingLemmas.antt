@@ -30,7 +30,7 @@ next_finding old new before after text findings i d within p =
     let cut : drop i findings ≡ get_or findings i d ∷ drop (i + 1) findings = rw add-one (drop-cons findings i d within) in
     subst (Progress old new before after text) (ap findings_text cut) p
 
--- what the rules find in a text, from the clauses of the check
+-- the findings of the rules in a text, from the clauses of the check
 pub found_text : {V E : Type 0} {text : List ℕ} (C : Table → Lists → List Finding → Type 0) (style : Style) (src : Table) (reading : Lists)
     (items : V → List Finding) (outcome : Result V E) → src.text ≡ text → AreLines text src.lines → IsStream DEPTH (events_of reading) → TheReading text reading
     → IfOk outcome (λ v. C src reading (items v)) → IfOk outcome (λ v. IsFormatted src reading style → NoneFixable (items v))

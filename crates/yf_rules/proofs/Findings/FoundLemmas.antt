@@ -1,4 +1,4 @@
--- What a rule finds, from the offsets at fault and their places.
+-- The findings of a rule, from its offsets and their positions.
 use Rattle.std.proofs.Common.{◌≡◌, ℕ, List, Result, Ok, Err, subst}
 use Rattle.std.specs.Prelude.{IfOk}
 use Rattle.yf_lines.specs.declared.place.Position.{Position}

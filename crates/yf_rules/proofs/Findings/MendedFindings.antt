@@ -28,7 +28,7 @@ none_at_fault rule src r s items (Err x) mended a = tt
 
 -- Places.
 
--- no offsets have no places
+-- no offsets have no positions
 pub places_none : (t : List ℕ) (ps : List Position) → PlacesOf t [] ps → ps ≡ []
 places_none t [] a = refl
 places_none t (p ∷ ps) a = let w = a.only p (is_head p ps) in absurd (nothing_in w.offset w.among)
@@ -62,7 +62,7 @@ rule_silent number id fixable is_fixable xs places findings same are f e w =
     (λ (h : fixable ≡ false). left_alone number id fixable xs h)
     (cases_Bool fixable))
 
--- those of no rule, and of one rule more
+-- the findings of no rule, and with one more rule
 pub none_silent : {W : Type 0} (findings : List Finding) → findings ≡ [] → W → NoneFixable findings
 none_silent findings e w = none_fixed findings e
 

@@ -54,7 +54,7 @@ module _ {K : Type 0} {R : K → K → Ordering} (o : IsTotalOrder R) where
 
 -- Filters of lists whose elements have equal values.
 module _ {X T : Type 0} (value : X → T) where
-  -- lists with equal values have them after a filter that goes by the value
+  -- lists with equal values have equal values after a filter on the value
   pub filter_values : (p : X → Bool) → ((x y : X) → value y ≡ value x → p y ≡ p x) → (xs ys : List X)
       → map value ys ≡ map value xs → map value (filter p ys) ≡ map value (filter p xs)
   filter_values p by [] [] e = refl
@@ -72,7 +72,7 @@ module _ {X T : Type 0} (value : X → T) where
         go false true e h r = absurd (true≢false (sym e))
         go false false e h r = r
 
-  -- an element that a filter leaves
+  -- an element that a filter removes
   pub some_passes : (p : X → Bool) (xs : List X) (t : T) (ts : List T) → map value (filter p xs) ≡ t ∷ ts
       → (z : X) × Contains xs z × (p z ≡ true)
   some_passes p [] t ts e = absurd (let w : [] ≡ (t ∷ ts) = e in cc)

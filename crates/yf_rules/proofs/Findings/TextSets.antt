@@ -1,4 +1,4 @@
--- In the reading of a text the sets that go by trees are exact (`SetsOfTextsAreExact`).
+-- In the reading of a text the sets that depend on trees are exact (`SetsOfTextsAreExact`).
 use Rattle.yf_laws.specs.Laws.{ReadingsAreOfTexts}
 use Rattle.yf_rules.specs.TreeSets.{SetsOfTextsAreExact}
 

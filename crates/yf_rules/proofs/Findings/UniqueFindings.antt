@@ -90,7 +90,7 @@ values_at n m id name f g (p ∷ ps) en ei ef =
     cc
 
 module _ (src : Table) (reading : Lists) (style : Style) (w : IsTextual reading) where
-  -- those of one rule
+  -- the findings of one rule
   rule_values : (rule : StyleRule) {x y : List Finding} → RuleFindings (definition_of rule) src reading style x
       → RuleFindings (definition_of rule) src reading style y → map finding_values y ≡ map finding_values x
   rule_values rule (at_places {places = ps} n id f en ei ef (found_at {os = os} a pa) ua ex) (at_places {places = rs} m name g em ej eg (found_at {os = qs} b pb) ub ey) =
@@ -99,7 +99,7 @@ module _ (src : Table) (reading : Lists) (style : Style) (w : IsTextual reading)
       ap (map finding_values) (ey ∙ ap (map (finding_at m name g)) same)
       ∙ (values_at m n name id g f ps (em ∙ sym en) (ej ∙ sym ei) (eg ∙ sym ef) ∙ sym (ap (map finding_values) ex))
 
--- Of lists that begin and end with one element each.
+-- For lists that begin and end with one element each.
 
 no_last : {A : Type 0} (xs : List A) (x : A) → [] ≡ xs ++ x ∷ [] → ⊥
 no_last xs x e = let n = simp length-append at (ap length e) in omega (arith, n)
@@ -133,7 +133,7 @@ module _ {B : Type 0} (R : B → List Finding → Type 0)
       let second : map finding_values v ≡ map finding_values y = single d y v (subst (λ (b : B). R b y) ends.1 last) other in
       map-append finding_values u v ∙ (ap (λ z. z ++ map finding_values v) first ∙ (ap (λ z. map finding_values x ++ z) second ∙ sym (map-append finding_values x y)))
 
--- and of these in their order
+-- and the findings of these rules, in order
 key_total : IsTotalOrder key_cmp
 key_total = then_total (then_total (on_total (λ (k : ℕ × ℕ × ℕ). k.0) nat_cmp_total) (on_total (λ (k : ℕ × ℕ × ℕ). k.1) nat_cmp_total)) (on_total (λ (k : ℕ × ℕ × ℕ). k.2) nat_cmp_total)
 

@@ -30,7 +30,7 @@ diff_of {style} {name} {t = t} {u = u} {new = new} {before = before} {diff = dif
       mended = λ none. subst (λ v. IsMended v style) (sym (own none)) headline.mended;
     }
 
--- if nothing differs, there is nothing that the house style fixes
+-- if nothing differs, the text has no fixable finding
 pub nothing_is_clean : {style : Style} {name : List ℕ} {known : Option (List ℕ)} {diff : List ℕ} → DiffOf style name known diff → diff ≡ [] → IfSome known (IsClean style)
 nothing_is_clean d none = own_is_clean d.rendered (d.told none)
 

@@ -66,7 +66,7 @@ module _ (input : ByteStream) {failed : Bool} {t : List ℕ} (given : GivenText 
   refused_by B before after Memory w i n = (refused_for Memory w i, n)
   refused_by B before after _ w i n = absurd i
 
-  -- a run that has written nothing is refused so
+  -- a run that has written nothing fails so
   pub run_refused : (Broken : Type 0) (before after : ByteStream) (fault : Fault) → StreamFault t fault → NothingWritten before after
       → RefusedRun Broken input (left_of input failed) before after fault
   run_refused B before after fault w n = refused_by B before after fault w (faults_are_placed t fault w) n

@@ -1,4 +1,4 @@
--- A text that a run has read, and why a run is refused before there is one.
+-- A text that a run has read, and why a run fails before it has one.
 use Rattle.std.proofs.Common.{◌≡◌, ◌≤◌, ℕ, List, Bool, length, subst, sym}
 use Rattle.std.specs.Prelude.{Option}
 use Rattle.std.specs.Str.{IsUtf8}

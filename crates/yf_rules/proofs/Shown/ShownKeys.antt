@@ -1,4 +1,4 @@
--- A repeated key of a small reading.
+-- A repeated key in a small reading.
 use Rattle.std.proofs.Common.{ℕ, List, [], ◌∷◌, Option, Some, None, codes, false, arith, refl}
 use Rattle.yf_props.specs.Props.{no_props}
 use Rattle.yf_events.specs.Tree.{NodeOffsets, Node, scalar, mapping, no_pairs, pair, DocumentTree, TreesOf, flat_stream}

@@ -33,7 +33,7 @@ ActionBroke Format style input before after = BrokeOffText style input before af
 ActionBroke Compare style input before after = BrokeOffDifference style input before after
 ActionBroke (Diff name) style input before after = BrokeOffDiff style name.now input before after
 
--- Why the action is refused.
+-- why the action is refused
 abbrev pub ActionRefused : Action → Style → ByteStream → ByteStream → ByteStream → ByteStream → Fault → Type 0
 ActionRefused action style input left before after fault =
     RefusedRun (ActionBroke action style input before after) input left before after fault

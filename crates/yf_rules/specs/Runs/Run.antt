@@ -144,7 +144,7 @@ pub record BrokeOffText (style : Style) (input before after : ByteStream) : Type
   pub rendered : FormattingGiven style input.contents formatted
   pub broke : BreaksOff before after formatted
 
--- Why no stream could be read of the reader.
+-- Why no stream could be read from the reader.
 abbrev pub RefusedText : ByteStream → ByteStream → Fault → Type 0
 RefusedText input left (NotUtf8 offset) = GaveNoText input.contents offset × NoFailure input left
 RefusedText input left (Syntax place what) = GaveNoStream input.contents (Syntax place what) × NoFailure input left

@@ -1,4 +1,4 @@
--- No such byte so far.
+-- The bytes so far have no such byte.
 use Rattle.std.proofs.Common.{◌≡◌, drop}
 use Rattle.yf_rules.specs.Quoted.{has_special}
 use Rattle.yf_rules.proofs.quoted.has_special.Given as goal
