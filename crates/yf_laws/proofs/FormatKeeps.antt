@@ -1,5 +1,5 @@
--- A formatted text is the only one that formatting may give. It is accepted, has the same content and the same comments
--- at the same places, is in normal form, and a second run changes nothing.
+-- A formatted text is the only formatting of its source. It is accepted, has the same content and the same comments at
+-- the same places, is in normal form, and a second run changes nothing.
 use Rattle.std.proofs.Common.{List, ℕ}
 use Rattle.std.specs.Str.{IsUtf8}
 use Rattle.yf_forms.specs.declared.style.Style.{Style}

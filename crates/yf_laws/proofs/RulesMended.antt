@@ -1,4 +1,4 @@
--- No rule whose findings the house style fixes finds anything in a formatted text.
+-- A formatted text has no fixable finding.
 use Rattle.std.proofs.Common.{true≢false, sym}
 use Rattle.yf_rule_sets.specs.declared.rules.StyleRule.TheVariants.{TrailingBlanks, Indentation, Quoting, DocumentStart, FinalBreak, LineBreaks, ByteOrderMark, BlankLines, FlowLayout, CommentSpace, LineLength, RepeatedKeys, KeyMark, HiddenCharacter}
 use Rattle.yf_laws.specs.Mended.{RulesAreMended}

@@ -1,4 +1,4 @@
--- What is proved about a formatted text.
+-- The statements on a formatted text.
 use Rattle.std.specs.Prelude.{◌≡◌, ℕ, List}
 use Rattle.yf_forms.specs.declared.style.Style.{Style}
 use Rattle.yf_laws.specs.FixedLaws.{IsNormalText}

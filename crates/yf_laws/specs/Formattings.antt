@@ -1,4 +1,4 @@
--- What is proved about a text that has a formatting, and about every text.
+-- The statements on a text that has a formatting, and on every text.
 use Rattle.std.specs.Prelude.{◌≢◌, ℕ, List}
 use Rattle.std.specs.Str.{IsUtf8}
 use Rattle.yf_lines.specs.declared.fault.Fault.{Fault}

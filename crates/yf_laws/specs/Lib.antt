@@ -18,7 +18,7 @@ pub mod Passes
 pub mod PassLaws
 -- what formatting keeps: content, comments, lines, spellings
 pub mod Preservation
--- a formatted text has no fixable finding; what is proved about every text
+-- a formatted text has no fixable finding; the statements on every text
 pub mod Mended
 pub mod Formattings
 -- the promises of settings

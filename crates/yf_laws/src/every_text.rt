@@ -34,7 +34,7 @@ pub fn texts_are_read_and_formatted()
     ensures formatted { StandardTextsAreFormatted }
 {}
 
-/// No rule whose findings the house style fixes finds anything in a formatted text.
+/// A formatted text has no fixable finding.
 #[inline(always)]
 pub fn rules_are_mended()
     ensures { RulesAreMended }
@@ -51,7 +51,8 @@ pub fn formattings_hold()
 /// with a `---`, except for a first one that `document_start` leaves without. Each quoted scalar is, from quote to
 /// quote, spelled as the house style spells it. Under `invisible = "escaped"` no quoted scalar holds a hidden character
 /// unescaped, so the rule hidden-character finds each one that is left, except for byte order marks. Under `comments =
-/// "block"` a comment on its own line at the column of an open collection stays at the column of that collection.
+/// "block"` a comment on its own line at the column of an open collection stays at the column of that collection,
+/// unless the next row decides its column (`IsKeptAt`).
 #[inline(always)]
 pub fn settings_are_kept()
     ensures starts { StartsAreKept }

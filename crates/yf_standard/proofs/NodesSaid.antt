@@ -1,4 +1,4 @@
--- What the tokens of nodes (chapters 7 and 8) say, in a document's node: a clause for each production, and so for all
+-- What the tokens of nodes (chapters 7 and 8) state, in a document's node: a clause for each production, and so for all
 -- derivations.
 use Rattle.std.proofs.Common.{◌≡◌, ℕ, ◌<◌, ◌≤◌, ℤ, pos, ◌+ℤ◌, Bool, false, true, true≢false, List, [], ◌∷◌, ◌++◌, Some, None, map, encode_utf8_all, refl, sym, ap, ◌∙◌, subst, append_assoc, arith}
 use Rattle.yf_chars.specs.declared.context.Ctx.{Ctx}

@@ -1,4 +1,4 @@
--- What tokens say, part by part: each way of joining parts is one of the meanings of `Grammar`.
+-- What tokens state, part by part: each way of joining parts is one of the meanings of `Grammar`.
 use Rattle.std.proofs.Common.{◌≡◌, ℕ, Bool, true, false, List, [], ◌∷◌, ◌++◌, Option, None, map, encode_utf8_all, refl, sym, ap, ◌∙◌, subst, append_assoc, append-nil}
 use Rattle.std.proofs.lemmas.List.{map-append}
 use Rattle.yf_comments.specs.Comment.{CommentValue}

@@ -1,4 +1,4 @@
--- What the tokens of directives, documents and streams (6.8 and 9) say: a clause for each production, and so for all
+-- What the tokens of directives, documents and streams (6.8 and 9) state: a clause for each production, and so for all
 -- derivations.
 use Rattle.std.proofs.Common.{◌≡◌, ℕ, ◌+◌, ◌≤◌, negsuc, false, true, true≢false, List, [], ◌∷◌, ◌++◌, length, refl, sym, ap, ◌∙◌, subst, arith}
 use Rattle.std.proofs.lemmas.Bool.{eqb-true}

@@ -46,8 +46,8 @@ abbrev pub SingleContents : Type 0
 SingleContents = (t : List ℕ) (e i j : ℕ) (n : ℤ) (c : Ctx) → IsUtf8 t → Clear t i j → (d : Derived (read t) t e (c-single-quoted n c) i j)
     → (x : List ℕ) × (SingleQuoted t n c i j x × (content d ≡ marks x))
 
--- Each derivation of a double-quoted scalar (109) that covers no forbidden line means what is read: the characters, and
--- the escapes that write none, with their offsets.
+-- Each derivation of a double-quoted scalar (109) that covers no forbidden line means the pieces that are read: the
+-- characters, and the escapes that write none, with their offsets.
 abbrev pub DoubleContents : Type 0
 DoubleContents = (t : List ℕ) (e i j : ℕ) (n : ℤ) (c : Ctx) → IsUtf8 t → Clear t i j → (d : Derived (read t) t e (c-double-quoted n c) i j)
     → DoubleQuoted t n c i j (pieces (content d))

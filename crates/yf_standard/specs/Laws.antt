@@ -38,6 +38,7 @@ RulesOnlyRestrict = (t : List ℕ) (e i j : ℕ) (f : Form) → Derived (read t)
 abbrev pub ReadTextsAreStandard : Type 0
 ReadTextsAreStandard = (t : List ℕ) (r : Lists) → IsUtf8 t → ReadingOf t r → Derived (letter t) t DEPTH l-yaml-stream 0 (length t)
 
--- A forbidden line, which a document's node may not cover, begins where c-forbidden of the standard is derived.
+-- A forbidden line, which a document's node may not cover, begins at each offset from which c-forbidden of the standard
+-- is derived, and nowhere else.
 abbrev pub ForbiddenLinesAreStandard : Type 0
 ForbiddenLinesAreStandard = (t : List ℕ) (i : ℕ) → IsUtf8 t → (ForbiddenLine t i → (j : ℕ) × Derived (read t) t DEPTH c-forbidden i j) × ((j : ℕ) → Derived (read t) t DEPTH c-forbidden i j → ForbiddenLine t i)

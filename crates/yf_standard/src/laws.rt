@@ -6,7 +6,7 @@ ghost use Rattle.yf_standard.specs.NodeLaws.{BlockNodes, FlowNodes};
 ghost use Rattle.yf_standard.specs.StreamLaws.{ReadingsAreSaid, StreamTokens};
 ghost use Rattle.yf_standard.specs.TokenLaws.{AliasTokens, CommentTokens, FoldedScalars, LiteralScalars, PropertyTokens, SeparateTokens};
 
-/// Does nothing: its contract holds for every text.
+/// Does nothing: its contract states which texts are streams of the standard, with which meaning.
 ///
 /// The definitions of the crates below derive a text as a stream, within the limit of open collections, if and only if
 /// the standard's productions do with the reading rules (`l-yaml-stream`, production 211). So no text that is refused

@@ -1,5 +1,5 @@
--- What is at the first character of a node, and how it is derived as a block node there: after a sign, after a `:` and
--- a space, or on the next line.
+-- The first character of a node, and the derivation of the node as a block node there: after a sign, after a `:` and a
+-- space, or on the next line.
 use Rattle.std.proofs.Common.{◌≡◌, ℕ, suc, ◌+◌, ◌-◌, ◌<◌, ◌≤◌, ℤ, pos, Bool, true, false, List, [], ◌++◌, refl, sym, ap, ◌∙◌, subst, arith, true≢false, append_assoc, append-nil}
 use Rattle.std.specs.Prelude.{◌+ℤ◌, ◌≤ℤ◌}
 use Rattle.yf_chars.specs.declared.context.Ctx.{Ctx}

@@ -1,5 +1,5 @@
--- The comments after a laid-out block scalar: those on the line of its header, and those from its end on, where the gap
--- after it begins.
+-- The comments after a laid-out block scalar: those on the line of its header, and those after its end, from the start
+-- of its gap on.
 use Rattle.std.proofs.Common.{◌≡◌, ℕ, ℤ, zero, suc, ◌+◌, ◌-◌, ◌<◌, ◌≤◌, ◌⊎◌, inl, inr, ⊎_elim, Bool, true≢false, List, [], ◌∷◌, ◌++◌, length, map, replicate, refl, sym, ap, ◌∙◌, subst, arith, length-append, add-zero, zero-add}
 use Rattle.std.proofs.lemmas.Bool.{cases_lt}
 use Rattle.std.proofs.lemmas.List.{length-map, length-replicate}

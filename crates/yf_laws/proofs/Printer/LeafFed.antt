@@ -28,7 +28,7 @@ use Rattle.yf_print.proofs.Pass.PrintLemmas.{stopped}
 use Rattle.yf_forms.proofs.Decide.FlagLemmas.{and_false}
 use Rattle.yf_forms.proofs.Measure.SumLemmas.{true_right}
 
--- Where rows are put.
+-- Putting rows.
 
 abbrev pub put_value : Known → Option ℕ → Bool → List Row → Draft → Draft
 put_value k None true rows d = fed (remarks_of k.work) k.trail rows (without_blank d)
@@ -75,7 +75,7 @@ row_put k f (Printer.Role.Value column) row d b c = by f.key_comment c where
   by None c = refl
   by (Some j) c = begun k row (further column k.work.style.indent) (without_blank (with_key_trail k.work.reading.comments (Some j) d)) b c
 
--- What is added.
+-- Additions.
 
 -- past the content of a node, without its own entry
 pub within : (k : Known) (i last : ℕ) (e : EventInText) (tail : List EventInText) (is js : List ℕ) (ss rs : List Span) (d : Draft) → Among k.work.reading.events (e ∷ tail) i

@@ -1,4 +1,4 @@
--- The rows of a found node carry its notes on blank lines, and its block scalars end where the rows say.
+-- The rows of a found node carry its notes on blank lines, and give the ends of its block scalars.
 use Rattle.std.proofs.Common.{◌≡◌, ◌≢◌, ℕ, pos, ◌+◌, ◌-◌, Bool, true, false, true≢false, List, [], ◌∷◌, ◌++◌, codes, Option, Some, None, refl, sym, ap, ◌∙◌, subst, append_assoc, append-nil}
 use Rattle.std.specs.Prelude.{is_some, not, ◌&&◌, if◌then◌else◌}
 use Rattle.std.specs.Str.{IsUtf8}

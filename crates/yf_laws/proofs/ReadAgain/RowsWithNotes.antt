@@ -95,7 +95,7 @@ mutual
       let c : bare_pairs ps ≡ bare_pairs qs = cc in
       kept_pair (node_kept k l a) (node_kept v w b) (pairs_kept ps qs c)
 
--- What is kept.
+-- Kept nodes.
 
 mutual
   pub kept_alike : {x y : Node} → Kept x y → Alike Anywhere x y

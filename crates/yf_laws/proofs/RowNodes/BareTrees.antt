@@ -1,4 +1,4 @@
--- What is found for a tree is found for the tree with other notes on blank lines.
+-- If a tree is found, it is found with other notes on blank lines too.
 use Rattle.std.proofs.Common.{◌≡◌, ℕ, List, [], ◌∷◌, ◌++◌, length, map, flat_map, refl, sym, ap, ◌∙◌, subst}
 use Rattle.std.specs.Prelude.{is_some}
 use Rattle.std.proofs.lemmas.List.{length-map}

@@ -1,5 +1,5 @@
 -- In the normal form of trees that are in a text no comment is between the leaves of a flow collection on one line:
--- those leaves are between its brackets, where the house style allows no comment.
+-- those leaves are between its brackets, and the house style allows no comment there.
 use Rattle.std.proofs.Common.{◌≡◌, ℕ, ◌≤◌, Bool, true, false, true≢false, not, ◌&&◌, List, [], ◌∷◌, map, Option, None, refl, sym, ap, ◌∙◌, subst, arith}
 use Rattle.std.specs.Prelude.{nat_le, nat_lt, find, if◌then◌else◌}
 use Rattle.std.specs.List.{list_any}

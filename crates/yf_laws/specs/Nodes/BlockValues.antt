@@ -1,6 +1,6 @@
 -- The header of a block scalar, as the value from which yf_block_scalar defines its text. That text is the header text
--- of `BlockLines`, and the lines agree too (`proofs/Derived/BlockTexts.antt`, `ScalarBytes.antt`), so that the layout
--- is what is read again.
+-- of `BlockLines`, and the lines agree too (`proofs/Derived/BlockTexts.antt`, `ScalarBytes.antt`), so the layout reads
+-- back.
 use Rattle.std.specs.Prelude.{ℕ, zero, suc, Bool, true, false, List, Option, Some, None, if◌then◌else◌}
 use Rattle.yf_block_scalar.specs.declared.header.Chomp.{Chomp}
 use Rattle.yf_block_scalar.specs.declared.header.Chomp.TheVariants.{Strip, Clip, Keep}

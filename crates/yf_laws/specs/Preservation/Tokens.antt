@@ -1,4 +1,4 @@
--- Where tabs may be in a line of a formatted text that is not a line of a block scalar.
+-- The allowed tabs in a line of a formatted text that is not a line of a block scalar.
 use Rattle.std.specs.Prelude.{◌≡◌, ◌≢◌, ℕ, List, [], ◌∷◌, ◌++◌, chars, flat_map, map}
 use Rattle.yf_quoted.specs.Written.{single_bytes}
 use Rattle.yf_events.specs.Event.{EventValue, EventInText, scalar_node}

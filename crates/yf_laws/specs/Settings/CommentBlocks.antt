@@ -47,19 +47,19 @@ pub record Site : Type 0 where
   pub begin : Beginning
 
 -- The comment e of the formatting u is the comment d of the text t, at that site; is_first: d is before everything on
--- the next row. e is the first thing on its line.
+-- the next row. e is on a line of its own.
 pub record IsKeptAt (t u : List ℕ) (site : Site) (is_first : Bool) (d e : CommentValue) : Type 0 where
   pub text : trimmed e.text ≡ trimmed d.text
   pub column : ℕ
   pub alone : own_column u e.offset ≡ Some column
-  -- if d is alone on its line, at the column of an open collection, and follows the open collections, e is at the
-  -- column of that collection
+  -- if d is on a line of its own, before everything on the next row, at the column of an open collection, and follows
+  -- the open collections, e is at the column of that collection
   pub aligned : (k n : ℕ) → is_first ≡ true → own_column t d.offset ≡ Some k → goes_by_open k site.begin site.blocks.text ≡ true → block_at k site.blocks.text ≡ Some n
       → column_of_block n site.blocks.formatting ≡ Some column
-  -- if d is so at the margin, and no open collection is there, e is at the margin
+  -- if d is so at the margin, and collections are open but none is there, e is at the margin
   pub margin : is_first ≡ true → own_column t d.offset ≡ Some 0 → goes_by_open 0 site.begin site.blocks.text ≡ true → 0 < length site.blocks.text → block_at 0 site.blocks.text ≡ None → column ≡ 0
-  -- if d isn't alone on its line, or comes after something on the next row, or before a node's text, e is at the column
-  -- of the next row
+  -- if d isn't on a line of its own, or comes after something on the next row, or before a node's text, e is at the
+  -- column of the next row
   pub not_alone : own_column t d.offset ≡ None → column ≡ site.next
   pub not_first : is_first ≡ false → column ≡ site.next
   pub before_text : site.begin ≡ begins_node → column ≡ site.next
@@ -86,8 +86,9 @@ pub data AreKeptIn (t u : List ℕ) : OpenIn → List Row → List Row → List 
 abbrev pub none_open : OpenIn
 none_open = record { text = []; formatting = [] }
 
--- Under `comments = "block"` each comment on a line of its own stays before the same row, and one at the column of a
--- collection that is open there stays at the column of that collection.
+-- Under `comments = "block"` each comment on a line of its own stays before the same row. One at the column of a
+-- collection that is open there stays at the column of that collection, unless the next row decides its column
+-- (`IsKeptAt`).
 abbrev pub CommentsStayInBlocks : Type 0
 CommentsStayInBlocks = (t u : List ℕ) (s : Style) (q : Lists) → IsUtf8 t → (f : IsFormatting t s u) → (a : ReadingOf u q) → keeps_blocks s ≡ true
     → AreKeptIn t u none_open (rows_in f) (rows_of q s a.trees) (own_line_comments (source_in f) (rows_in f)) (own_line_comments (source_of q (rows_of q s a.trees)) (rows_of q s a.trees))
