@@ -55,7 +55,7 @@ characters_between t i j u a b w = go j i (omega arith) a w where
       (λ (h : j ≤ i). ([], subst (λ k. Many t is_char i k []) (let e : i ≡ j = omega arith in e) done))
       (cases_lt i j)
 
--- an offset with these characters between it and the cursor is one of the marks of the line, or is after them
+-- an offset this many characters before the cursor is one of the marks of the line, or is after them
 marks_or_after : (t : List ℕ) (start at column offset : ℕ) (y : List ℕ) → IsUtf8 t → (r : HasColumn t start at column) → IsCharBoundary t offset → Many t is_char offset at y
     → ((offset < r.follows) × (column ≤ length y)) ⊎ ((z : List ℕ) × Many t is_char r.follows offset z × (column ≡ length z + length y + 1))
 marks_or_after t start at column offset y u r b m =

@@ -63,7 +63,7 @@ pub places_passed : (t : List ℕ) (os : List ℕ) (i : ℕ) (ps : List Position
     → (IsCharBoundary t (get_or os i 0) → ⊥) → PlacesOf t (take (i + 1) os) ps
 places_passed t os i ps h s n = subst (λ xs. PlacesOf t xs ps) (sym (take_more os i 0 h)) (place_left t (take i os) (get_or os i 0) ps s n)
 
--- the order of places is total, and places that it does not tell apart are equal
+-- the order of positions is total, and positions that compare equal are equal
 pub place_total : IsTotalOrder place_cmp
 place_total = then_total (on_total (λ p. p.line) nat_cmp_total) (on_total (λ p. p.column) nat_cmp_total)
 

@@ -1,4 +1,4 @@
--- Laws of the pass that tells keys of block mappings: what it tells in trees, and which events are outside of flow collections.
+-- Laws of the pass that finds keys of block mappings: its result in trees, and the events outside of flow collections.
 use Rattle.std.proofs.Common.{◌≡◌, ℕ, zero, suc, ◌+◌, ◌-◌, ◌<◌, ◌≤◌, Bool, true, false, List, [], ◌∷◌, ◌++◌, Some, drop, length, get_or, flat_map, reverse, set, take, refl, sym, ap, ◌∙◌, append_assoc, ⊎_elim, arith, true≢false}
 use Rattle.std.specs.Prelude.{replicate, slice_get}
 use Rattle.std.proofs.lemmas.Bool.{cases_lt}

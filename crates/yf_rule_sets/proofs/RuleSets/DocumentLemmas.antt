@@ -33,7 +33,7 @@ starts_there : {t : List ℕ} {m b : Bool} {o x : ℕ} → IsUnmarked t m b o x 
 starts_there without_marker = refl
 starts_there (not_alone n) = refl
 
--- a character of a break is no white
+-- a character of a break is not white
 white_no_break : (c : ℕ) → is_break_char c ≡ true → is_white c ≡ false
 unfolding is_white
 white_no_break c e = ⊎_elim (λ (h : c ≡ 13). ap is_white h) (λ (h : c ≡ 10). ap is_white h) (break_char_cases c e)
@@ -148,7 +148,7 @@ marker_step es i ms new o l inv f q =
 pub event_count : (r : Lists) → length (events_of r) ≡ length r.events
 event_count r = length-map r.events (λ e. e.event)
 
--- the same of the documents as the code has them
+-- the documents in the code
 pub document_answered : (t u : List ℕ) (r : Lists) (s : Style) (ds : List Doc) (ms : List Bool) (k : ℕ) (d : Doc) (m b : Bool) (answer : Option ℕ) → u ≡ t → b ≡ may_be_bare s k → ds ≡ r.documents
     → ms ≡ markers_in (events_of r) → k < length ds → k < length ms → m ≡ get_or ms k m → IsTheOne (IsUnmarked u m b (get_or ds k d).start) answer
     → IsTheOne (NoMarkerLine t r s k) answer

@@ -1,4 +1,4 @@
--- hidden-character: what its pass finds are the hidden characters that no quoted scalar holds.
+-- hidden-character: its pass finds the hidden characters outside of quoted scalars.
 use Rattle.std.proofs.Common.{◌≡◌, ℕ, ◌<◌, ◌≤◌, true, false, List, [], Option, Some, length, sym, subst, ap, ◌∙◌, ⊎_elim, arith}
 use Rattle.std.specs.Str.{IsCharBoundary}
 use Rattle.std.proofs.lemmas.Bool.{cases_Bool}
@@ -49,7 +49,7 @@ no_sign_inside t reach k n = ⊎_elim (λ (b : begins t k ≡ true). absurd (n (
 pub sign_there : (t : List ℕ) (reach k c : ℕ) → code t k ≡ c → IsHiddenSign c → reach ≤ k → Sole (IsBeyond IsHiddenSign t reach k) k
 sign_there t reach k c e s l = sole_kind t reach k (subst (λ v. IsHiddenSign v) (sym e) s) l
 
--- where hidden characters are not to be escaped, none is at fault
+-- if the style doesn't escape hidden characters, none is at fault
 apart : Plain ≡ Escaped → ⊥
 apart e = cc
 

@@ -91,7 +91,7 @@ module _ {outer ks : List ScalarKey} {c : KeyedCollection} {l : OpenCollection} 
         sym known,
       )
 
-  -- a new one, where no mapping has further keys
+  -- a new one, if no mapping has further keys
   pub key_pushed : (ms : List ScalarKey) (k : ScalarKey) → ms ≡ ks ++ k ∷ [] → false ≡ holds_key (key_value k) (drop c.first ks) → contains key_cmp c.more k ≡ false
       → IsLast outer ms c (with_key (key_value k) l) × (false ≡ has_key (key_value k) l.keys)
   key_pushed ms k e h m =

@@ -1,4 +1,4 @@
--- What the pass finds in trees are the repeated keys of these trees.
+-- In trees, the pass finds the repeated keys of these trees.
 use Rattle.std.proofs.Common.{◌≡◌, ℕ, ◌+◌, ◌<◌, ◌≤◌, ◌⊎◌, Bool, true, false, List, [], ◌∷◌, ◌++◌, Option, Some, None, length, refl, sym, subst, ap, ◌∙◌, inl, inr, ⊎_elim, arith, true≢false}
 use Rattle.std.specs.List.{Contains}
 use Rattle.std.specs.Cmp.{nat_cmp_is}
@@ -50,7 +50,7 @@ is_found false p e = absurd (true≢false (sym e))
 abbrev key_at : List (Option (List ℕ)) → NumberedNode → Option KeyValue
 key_at tags k = key_of tags k.0 k.1
 
--- what a key tells of its node
+-- keys and their nodes
 
 not_less : Less ≡ Equal → ⊥
 not_less e = cc
@@ -198,7 +198,7 @@ roots_repeat r trees (d ∷ ds) i f o c =
     (λ (h : Contains (found_in_documents r.resolved j ds) o). roots_repeat r trees ds j (λ x m. f x (is_later (i + 1, d.root) (roots_from j ds) x m)) o h)
     (Contains-append_cases (found_in r.resolved (i + 1) d.root) (found_in_documents r.resolved j ds) o c)
 
--- the other way: what is found in a part is found in the whole
+-- the other way: each finding in a part is a finding in the whole
 pub first_same : {a b : NumberedNode} {c d : NumberedNode} → ◌≡◌ {A = NumberedPair} (a, c) (b, d) → a ≡ b
 first_same e = ap (λ (p : NumberedPair). p.0) e
 
@@ -268,7 +268,7 @@ all_found_in : (tags : List (Option (List ℕ))) (trees : List DocumentTree) (x 
 all_found_in tags trees x o (is_root c) h = roots_found tags trees 1 x o c h
 all_found_in tags trees y o (is_inner {x = x} s q) h = all_found_in tags trees x o s (held_found tags x y o q h)
 
--- a key of which an earlier one is the same is found
+-- a key that is equal to an earlier one is found
 known_found : (tags : List (Option (List ℕ))) (ps : Pairs) (i : ℕ) (ks : List KeyValue) (k v : NumberedNode) (w : KeyValue) → has_key w ks ≡ true → Contains (pairs_from i ps) (k, v)
     → key_at tags k ≡ Some w → Contains (found_in_pairs tags i ks ps) (key_place k.1)
 known_found tags no_pairs i ks k v w e c q = absurd (nothing_in (k, v) c)

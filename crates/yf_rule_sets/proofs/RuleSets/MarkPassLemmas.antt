@@ -31,12 +31,12 @@ use Rattle.yf_rule_sets.specs.RuleSets.Scalars.{ScalarSpan, IsWithin, LooseMark}
 use Rattle.yf_rule_sets.specs.RuleSets.Scalars.ScalarSpan.{of_scalar}
 use Rattle.yf_rule_sets.specs.RuleSets.Scalars.LooseMark.{in_no_scalar}
 
--- an index at which something is said is one of an event
+-- an index with a span is that of an event
 pub span_event : {r : Lists} {i : ℕ} {s : Span} → ScalarSpan r i s → i < length r.events
 span_event {r} {i} (of_scalar {props} {style} {text} h) =
     let n = slice_get_within (events_of r) i (scalar_node props style text) h.event in omega (arith, n, length-map r.events (λ e. e.event))
 
--- the part of a scalar is one
+-- the span of a scalar is unique
 pub span_sole : {r : Lists} {i : ℕ} {s x : Span} → slice_get (spans_of r) i ≡ Some (Some s) → ScalarSpan r i x → x ≡ s
 span_sole e (of_scalar h) = same_Some _ _ (same_Some _ _ (sym h.part ∙ e))
 
@@ -45,7 +45,7 @@ span_none {x = x} e (of_scalar h) = nothing (same_Some _ _ (sym h.part ∙ e)) w
   nothing : {x : Span} → Some x ≡ None → ⊥
   nothing e = cc
 
--- the same parts in another order
+-- a list of the spans in another order
 pub sorted_same : {Part : ℕ → Span → Type 0} (xs ys : List Span) → IsPermutation xs ys → Exactly Part xs → Exactly Part ys
 sorted_same xs ys p s = record {
   only = λ x c. s.only x (Contains-permutation ys xs x (IsPermutation-sym xs ys p) c);
@@ -101,7 +101,7 @@ none_left spans count offset h = record { none = λ k x f l. absurd (let n = sli
 pub begin_later : (spans : List Span) (count i j : ℕ) → i ≤ j → AllBegin spans count i → AllBegin spans count j
 begin_later spans count i j l b = record { all = λ k s e h. let w = b.all k s e h in omega (arith, w, l) }
 
--- what nothing reaches is in no part, and what is in no part is not reached
+-- an offset that no span reaches is in no span, and an offset in no span is not reached
 module _ {Part : ℕ → Span → Type 0} {spans : List Span} {count reach k : ℕ} (s : Exactly Part spans) (c : Covers spans count reach)
     (b : AllBegin spans count k) (n : NoneBegins spans count k) where
   pub in_cover : (i : ℕ) (x : Span) → Part i x → IsWithin x k → k < reach

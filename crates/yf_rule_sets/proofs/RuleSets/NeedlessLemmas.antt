@@ -82,7 +82,7 @@ module _ (t : List ℕ) (r : Lists) (i : ℕ) where
   pub no_entry : slice_get (entries_of r) i ≡ Some None → (o : ℕ) → IsMarked t r i o → ⊥
   no_entry e o (marked f m) = some_none (same_Some _ _ (sym f ∙ e))
 
--- what is answered of one event
+-- the result for one event
 
 module _ (src : Table) (r : Lists) (house : Style) (trees : List DocumentTree) (i done : ℕ) (d : FlowsDone r.events i done) where
   pub not_outside : i ≤ done → (o : ℕ) → NeedlessMark src r house trees i o → ⊥

@@ -28,7 +28,7 @@ by_meeting t j k x y (falls_short z e q) l = no_length e (let n : length x ≡ l
 pub ends_later : (t : List ℕ) (i j k : ℕ) (x y : List ℕ) → Many t is_char i j x → Many t is_char i k y → length x ≤ length y → j ≤ k
 ends_later t i j k x y c d l = by_meeting t j k x y (chain_meet (one_functional t is_char) c d) l
 
--- after so many characters is the end already
+-- at the end after at most `count` characters, no character follows
 pub too_short : (t : List ℕ) (start end count at passed : ℕ) (x : List ℕ) → Many t is_char start at x → length x ≡ passed → passed ≤ count → end ≤ at
     → (o : ℕ) → IsAfterChars t start end count o → ⊥
 too_short t start end count at passed x m l w e o b =
@@ -40,7 +40,7 @@ run_bytes done = omega arith
 run_bytes {t} {i = i} (step {y = y} (one a) c) =
     let l = next_later t i in let r = run_bytes c in omega (arith, l, r)
 
--- so many bytes have no more characters
+-- a run of n bytes has at most n characters
 pub too_few_bytes : (t : List ℕ) (start end count : ℕ) → end - start ≤ count → (o : ℕ) → IsAfterChars t start end count o → ⊥
 too_few_bytes t start end count h o b = let r = run_bytes b.run in omega (arith, r, h, b.many, b.before)
 

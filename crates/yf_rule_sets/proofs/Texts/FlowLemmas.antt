@@ -1,4 +1,4 @@
--- Laws of the pass that tells which events are in flow collections.
+-- Laws of the pass that finds the events in flow collections.
 use Rattle.std.proofs.Common.{◌≡◌, ℕ, ◌+◌, ◌<◌, ◌≤◌, ◌⊎◌, Bool, true, false, List, Option, Some, None, length, get_or, map, refl, sym, ap, subst, ◌∙◌, inl, inr, ⊎_elim, arith, true≢false}
 use Rattle.std.specs.Prelude.{option_map, slice_get}
 use Rattle.std.proofs.lemmas.Bool.{cases_lt}
@@ -143,7 +143,7 @@ last_there {i = i} {x = x} m d n e =
     let q = ap (λ w. w.last) (measure_there m d n e) in
     omega (arith, s, q)
 
--- with measures of flow collections alone
+-- with measures only of flow collections
 
 pub same_flow : (x : Node) → is_flow x ≡ true → FlowsAlone.is_flow x ≡ true
 same_flow (scalar at props style text lines) f = f

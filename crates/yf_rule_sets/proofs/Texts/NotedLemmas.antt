@@ -4,7 +4,7 @@ use Rattle.std.proofs.lemmas.Bool.{cases_lt, cases_eq}
 use Rattle.std.proofs.lemmas.List.{get_or-set_same, get_or-set_other, get_or-replicate, get_or_past, length-replicate, length-set}
 use Rattle.yf_rule_sets.specs.Passes.LineFlags.{FlagsAdded, FlagsOf, ListTells}
 
--- what a pass over the lines has noted before the line `at`
+-- P holds for k, and k is before the line `at`
 pub record Until (P : ℕ → Type 0) (at k : ℕ) : Type 0 where
   pub holds : P k
   pub before : k < at
@@ -82,7 +82,7 @@ sole_noted old P at l p f = record {
 pub none_noted : (old : List Bool) (P : ℕ → Type 0) → ((k : ℕ) → P k → ⊥) → FlagsAdded old old P
 none_noted old P f = record { len = refl; only = λ k q. inl q; kept = λ k q. q; all = λ k m q. absurd (f k q) }
 
--- the same under another name
+-- the flags for an equivalent relation
 pub noted_as : (old new : List Bool) (P Q : ℕ → Type 0) → ((k : ℕ) → P k → Q k) → ((k : ℕ) → Q k → P k) → FlagsAdded old new P → FlagsAdded old new Q
 noted_as old new P Q f g n = record {
   len = n.len;
@@ -114,7 +114,7 @@ one_below old mid new P n a b = record {
 pub all_below : (old new : List Bool) (P : ℕ → ℕ → Type 0) (n : ℕ) → ((i k : ℕ) → P i k → i < n) → FlagsAdded old new (Below P n) → FlagsAdded old new (λ k. (i : ℕ) × P i k)
 all_below old new P n f a = noted_as old new (Below P n) (λ k. (i : ℕ) × P i k) (λ k w. (w.0, w.2)) (λ k w. (w.0, f w.0 k w.1, w.1)) a
 
--- of lines of which nothing is noted at first, the notes tell it
+-- if no line is flagged at first, the flags are exact
 pub noted_tells : (n : ℕ) (xs ys : List Bool) (P : ℕ → Type 0) → xs ≡ replicate n false → ((k : ℕ) → P k → k < n) → FlagsAdded xs ys P → ListTells ys P
 noted_tells n xs ys P e f a = record {
   only = λ k q. ⊎_elim (λ (o : get_or xs k false ≡ true). absurd (none_true n k (sym (ap (λ zs. get_or zs k false) e) ∙ o))) (λ (o : P k). o) (a.only k q);

@@ -49,7 +49,7 @@ one_before t at end x p m r e =
     let q : next t (at - 1) ≡ at = r.end ∙ (let z : at - 1 + 1 ≡ at = omega arith in z) in
     step (one e) (subst (λ k. Many t is_white k end x) (sym q) m)
 
--- past the end of the text is no white
+-- no white space is past the end of the text
 pub no_white_past : (t : List ℕ) (i : ℕ) → length t ≤ i → is_white (code t i) ≡ false
 unfolding is_white
 no_white_past t i h = ap is_white (code-past t i h)
@@ -91,7 +91,7 @@ open_read t u r cs k d q e l n o h =
 pub comment_count : (r : Lists) (cs : List Comment) → map comment_value cs ≡ r.comments → length cs ≡ length r.comments
 comment_count r cs e = sym (length-map cs comment_value) ∙ ap length e
 
--- whether white space alone is in a part of the text
+-- whether a span holds only white space
 pub white_line : (t : List ℕ) (start end at : ℕ) → WhitesEnd t start end at → MatchBool (at == start) (WhitesEnd t start end start) (WhitesEnd t start end start → ⊥)
 white_line t start end at w = ⊎_elim
     (λ (e : at ≡ start). rw (eq-eqb at start e) (subst (λ k. WhitesEnd t start end k) e w))
