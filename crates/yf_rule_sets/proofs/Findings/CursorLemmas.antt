@@ -19,7 +19,7 @@ use Rattle.yf_lines.specs.Lines.PlaceOf.{in_line}
 use Rattle.yf_rule_sets.specs.declared.facts.cursor.Cursor.{Cursor}
 use Rattle.yf_rule_sets.specs.RuleSets.Places.{HasColumn, IsCursor}
 
--- what a cursor says in its line
+-- the fact of a cursor in its line
 pub reached_in : (t : List ℕ) (ls : List Line) (s : Cursor) (l : Line) → IsCursor t ls s → slice_get ls s.line ≡ Some l → HasColumn t l.start s.at s.column
 reached_in t ls s l h e = subst (λ o. IfSome o (λ (m : Line). HasColumn t m.start s.at s.column)) e h.reached
 

@@ -1,4 +1,4 @@
--- Laws of the places of a list of offsets.
+-- Laws of the positions of a list of offsets.
 use Rattle.std.proofs.Common.{◌≡◌, ℕ, ◌+◌, ◌<◌, ◌&&◌, ◌==◌, Bool, true, List, [], ◌∷◌, ◌++◌, length, take, get_or, sym, subst, ap, ◌∙◌, ⊎_elim, arith}
 use Rattle.std.specs.Cmp.{IsEquivalence, IsTotalOrder, both_tied, unsigned_ties}
 use Rattle.std.specs.List.{Contains}
@@ -31,7 +31,7 @@ no_places t ps e = subst (PlacesOf t []) (sym e) (record {
 wider : (t os : List ℕ) (o : ℕ) (p : Position) → IsPlaceIn t os p → IsPlaceIn t (os ++ o ∷ []) p
 wider t os o p w = record { offset = w.offset; among = Contains-append_left os (o ∷ []) w.offset w.among; boundary = w.boundary; place = w.place }
 
--- one more offset, with its place or without one
+-- one more offset, with its position or without one
 place_added : (t os : List ℕ) (o : ℕ) (ps : List Position) (p : Position) → PlacesOf t os ps → IsCharBoundary t o → PlaceOf t o p.line p.column
     → PlacesOf t (os ++ o ∷ []) (ps ++ p ∷ [])
 place_added t os o ps p s b h = record {

@@ -77,7 +77,7 @@ in_none t es i e b q f h = entries_at t es i e q ∙ ap (λ b. if b then start_a
 pub past_events : (t : List ℕ) (es : List EventInText) (i : ℕ) → length es ≤ i → start_at t (first_entry (drop i es)) ≡ None
 past_events t es i l = ap (λ es. start_at t (first_entry es)) (drop_all i es l)
 
--- one more of all of them
+-- one more block collection
 
 all_more : (t : List ℕ) (es : List EventInText) (i : ℕ) → i < length es → all_entries t (drop i es) ≡ and_those (entries_from t (drop i es)) (all_entries t (drop (suc i) es))
 all_more t [] i l = absurd (omega (arith, l))

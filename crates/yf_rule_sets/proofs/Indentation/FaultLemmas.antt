@@ -1,4 +1,4 @@
--- Laws of what the rule indentation finds event by event.
+-- Laws of the findings of the rule indentation, event by event.
 use Rattle.std.proofs.Common.{◌≡◌, ℕ, ◌+◌, ◌≤◌, false, List, [], ◌∷◌, ◌++◌, Option, Some, None, append_assoc, drop, get_or, length, reverse, unwrap_or, refl, sym, subst, ap, ◌∙◌, ⊎_elim, arith, true≢false, add-one}
 use Rattle.std.specs.List.{Contains}
 use Rattle.std.specs.Option.{option_to_list}
@@ -132,7 +132,7 @@ module _ (src : Table) (r : Lists) (house : Style) (columns : List ℕ) (i : ℕ
   event_found (alias_node name) q h = node_found (AtFault src r house columns) nodes os new f (stood i (outer st) (beside st)) answer
       (fault_answers src r house columns (stood i (outer st) (beside st)) (alias_node name) q content answer a h) n
 
--- one event more
+-- one more event
 
 pub first_reached : (src : Table) (r : Lists) (house : Style) (columns : List ℕ) (begun : ℕ) (st : List ContextFrame) (os : List ℕ) → IsPass src.text r.events columns begun 0 → st ≡ [] → os ≡ []
     → IndentPassAt src r house columns begun 0 st os

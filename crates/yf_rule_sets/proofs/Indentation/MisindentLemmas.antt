@@ -58,7 +58,7 @@ module _ (src : Table) (r : Lists) (house : Style) (columns : List ℕ) (is : Co
   found_key : {k : NumberedNode} → IsNodeOf trees k → WithoutMark src k.1 → M k.0 ≡ true
   found_key {k} n w = unmarked_found src r columns is k.0 k.1 (node_there t n) ∙ key_unmarked w
 
-  -- the column that is wanted
+  -- the wanted column
   by_column : {x y : NumberedNode} (n : IsNodeOf trees x) (h : IsChildOf x y) (flag : Bool) (wanted : ℕ) → (ImplicitValue src x y → flag ≡ true)
       → (flag ≡ true → is_block_collection x.1 ≡ true → ImplicitValue src x y) → (o : Option ℕ) → C x.0 ≡ o → wanted_column house flag (held o) ≡ Some wanted
       → WantedColumn src house trees y wanted
@@ -166,7 +166,7 @@ module _ (src : Table) (r : Lists) (house : Style) (columns : List ℕ) (is : Co
         ∙ ap (λ b. Some (if not b then column else column + house.indent)) s;
   }
 
-  -- the indentation that is wanted
+  -- the wanted indentation
   by_indent : {x y : NumberedNode} (n : IsNodeOf trees x) (h : IsChildOf x y) (wanted : ℕ) (o : Option ℕ) → C x.0 ≡ o → wanted_indent house (held o) ≡ Some wanted → WantedIndent src house trees y wanted
   by_indent n h wanted None e q = absurd (none_some q)
   by_indent {x} {y} n h wanted (Some column) e q = subst (WantedIndent src house trees y) (same_Some _ _ q) (in_entry n h (col_found x n column e).2)
@@ -282,7 +282,7 @@ module _ (src : Table) (r : Lists) (house : Style) (columns : List ℕ) (is : Co
     all = λ k o m. let w = out_told k o m in f.all w.0 o w.1 w.2;
   }
 
--- what the whole pass finds
+-- the findings of the whole pass
 pub pass_done : (src : Table) (r : Lists) (house : Style) (columns : List ℕ) (begun i : ℕ) (st : List ContextFrame) (os : List ℕ) → length r.events ≤ i
     → IndentPassAt src r house columns begun i st os → (trees : List DocumentTree) → TreesOf r trees → Exactly (IndentFault src house trees) os
 pass_done src r house columns begun i st os l m trees t =

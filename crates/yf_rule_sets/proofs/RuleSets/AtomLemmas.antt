@@ -55,7 +55,7 @@ outer : {s : Style} {es : List EventInText} {i : ℕ} {f : Form} {n : Role} {e :
     → in_flow n ≡ false → Tells s f.is_implicit n e.event → Agree s es (i + 1) fs ns ds → Agree s es i (f ∷ fs) (n ∷ ns) (e ∷ ds)
 outer p t a = one_more (λ h. absurd (true≢false (sym h ∙ p))) (λ h. t) a
 
--- one that is the last of a collection or of others, and no node
+-- a single event that is not an atom, outside of flow collections
 at_end : {s : Style} {es : List EventInText} {i : ℕ} {n : Role} {e : EventInText} → in_flow n ≡ false → is_atom e.event ≡ false → Agree s es i (no_form ∷ []) (n ∷ []) (e ∷ [])
 at_end {n = n} {e = e} p q = outer p (no_node n e.event q) none_left
 

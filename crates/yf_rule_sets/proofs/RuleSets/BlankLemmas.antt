@@ -64,7 +64,7 @@ scalar_line_event {r = r} {i = i} (of_scalar {props} {style} {text} h e m n) =
 pub offset_within : {src : Table} {offset k : ℕ} → HasOffset src offset k → k < length src.lines
 offset_within {src} {offset} {k} h = slice_get_within src.lines k h.line h.at
 
--- it is the last one that begins there or before
+-- that line is the last one that begins at the offset or before it
 last_begun : (src : Table) (offset begun k : ℕ) → AreLines src.text src.lines → begun ≤ length src.lines → LinesBegunAt src.lines offset begun → HasOffset src offset k → k + 1 ≡ begun
 last_begun src offset begun k a w b h =
     ⊎_elim
@@ -153,7 +153,7 @@ unless_parts {src} l e (is_white {l = m} f w) = (refl, subst (λ (x : Line). Whi
 pub other_no_blank : (src : Table) (k : ℕ) (b : Bool) (l : Line) → slice_get src.lines k ≡ Some l → (WhitesEnd src.text l.start l.end l.start → ⊥) → BlankUnless src k b → ⊥
 other_no_blank src k b l e n u = n (unless_parts l e u).1
 
--- a line that ends in text is none of white space
+-- a line that ends in text is not one of white space
 pub text_unless : (src : Table) (k : ℕ) (b : Bool) → EndsInText src k → BlankUnless src k b → ⊥
 text_unless src k b f (is_white {l} e w) = let p = f l e in no_white_end src.text l.start l.end l.start p.1 w p.0
 

@@ -37,7 +37,7 @@ is_head x xs = (0, omega arith, refl)
 pub is_later : {X : Type 0} (x : X) (xs : List X) (y : X) → Contains xs y → Contains (x ∷ xs) y
 is_later x xs y c = Contains-append_right (x ∷ []) xs y c
 
--- an offset that is found on a condition
+-- an offset that is found if a condition holds
 when_found : (b : Bool) (o p : ℕ) → Contains (offset_if b p) o → (b ≡ true) × (p ≡ o)
 when_found true o p c = (refl, ⊎_elim (λ (h : p ≡ o). h) (λ (h : Contains [] o). absurd (nothing_in o h)) (head_or_later p [] o c))
 when_found false o p c = absurd (nothing_in o c)
@@ -70,7 +70,7 @@ tag_of (alias at name) tags i w e = absurd (none_some e)
 tag_of (sequence at flow props items) tags i w e = absurd (none_some e)
 tag_of (mapping at flow props pairs) tags i w e = absurd (none_some e)
 
--- values that compare as equal are equal
+-- values that compare equal are equal
 exact_option : {K : Type 0} (R : K → K → Ordering) → CmpEqualImpliesEq R → CmpEqualImpliesEq (option_cmp R)
 exact_option R x None None e = refl
 exact_option R x None (Some b) e = absurd (not_less e)
@@ -130,7 +130,7 @@ none_or : (o : Option KeyValue) → (o ≡ None) ⊎ ((w : KeyValue) × (o ≡ S
 none_or None = inl refl
 none_or (Some w) = inr (w, refl)
 
--- a key that is known repeats an earlier one
+-- a known key repeats an earlier one
 repeats_known : (r : Lists) (trees : List DocumentTree) (x k v : NumberedNode) (ks : List KeyValue) → IsNodeOf trees x → AllOf r.resolved x k.0 ks → Contains (pairs_of x.0 x.1) (k, v)
     → is_known (key_at r.resolved k) ks ≡ true → Repeated r trees (key_place k.1)
 repeats_known r trees x k v ks s a c e = ⊎_elim

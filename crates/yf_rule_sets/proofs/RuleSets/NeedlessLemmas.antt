@@ -1,4 +1,4 @@
--- Laws of keys that are written with a `?` and wanted without.
+-- Laws of keys with a `?` that the house style writes without.
 use Rattle.std.proofs.Common.{◌≡◌, ℕ, ◌<◌, ◌≤◌, Bool, true, false, ◌&&◌, List, [], ◌∷◌, Option, Some, None, length, get_or, refl, sym, ap, subst, ◌∙◌, ⊎_elim, arith, true≢false}
 use Rattle.std.specs.List.{Contains}
 use Rattle.std.specs.Prelude.{◌==◌, if◌then◌else◌, slice_get}
@@ -36,7 +36,7 @@ use Rattle.yf_rule_sets.proofs.Texts.ExactLemmas.{same_answer}
 use Rattle.yf_rule_sets.proofs.RuleSets.KeySetLemmas.{head_or_later, is_head, is_later}
 use Rattle.yf_chars.proofs.Tests.{some_none}
 
--- a list of keys, and the test whether one begins at an index
+-- a list of keys, and the test if one begins at an index
 
 its_number : (i : ℕ) → ((i == i) && true) ≡ true
 its_number i = grind (arith, nat_tests)

@@ -22,7 +22,7 @@ content_same ls text follows f n g m a b =
     let line : a.line ≡ b.line = same_Some _ _ (sym (subst (λ k. slice_get ls k ≡ Some a.line) same a.at) ∙ b.at) in
     (same, a.spaces ∙ ap (λ (l : Line). l.indent - head_count 32 (drop (head_count 10 text) text)) line ∙ sym b.spaces)
 
--- two numbers of lines begun at one offset are one, if there is a line after the second
+-- two numbers of lines begun at one offset are equal, if a line follows the second
 pub same_after : (ls : List Line) (offset j k m : ℕ) (l : Line) → LinesBegunAt ls offset j → LinesBegunAt ls offset k → slice_get ls m ≡ Some l → k ≤ m → j ≡ k
 same_after ls offset j k m l a b e h =
     ⊎_elim (λ (x : j < k). absurd (begun_same ls offset j k l m a b e (omega (arith, x, h)) x))

@@ -46,7 +46,7 @@ pub same_answer : {A : Type 0} {P Q : A → Type 0} → ((x : A) → P x → Q x
 same_answer to back None f = λ x q. f x (back x q)
 same_answer to back (Some x) a = record { holds = to x a.holds; only = λ y q. a.only y (back y q) }
 
--- a pass over all indices at which something can be meant
+-- a pass over all indices with wanted items
 pub all_found_upto : {A : Type 0} (P Q : ℕ → A → Type 0) (n : ℕ) (xs : List A) → UpTo P n xs → ((k : ℕ) (x : A) → k < n → P k x → Q k x)
     → ((k : ℕ) (x : A) → Q k x → (k < n) × P k x) → Exactly Q xs
 all_found_upto P Q n xs u f g = record {

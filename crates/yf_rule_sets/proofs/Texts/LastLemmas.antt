@@ -18,7 +18,7 @@ use Rattle.yf_rule_sets.specs.RuleSets.ByLine.BlankEnd.{at_line_end}
 use Rattle.yf_rule_sets.specs.RuleSets.Whites.{WhitesEnd}
 use Rattle.yf_rule_sets.proofs.Texts.WhitesLemmas.{white_within}
 
--- before a line feed, and after a byte above the space, a line's text ends
+-- a line's text ends before a line feed and after a byte above the space
 text_before_feed : {t : List ℕ} {e n : ℕ} (s : ℕ) → IsUtf8 t → LineEnd t e n → NoBreakIn t s e → s + 2 ≤ n → code t (n - 1) ≡ 10 → 32 < get_or t (n - 2) 0 → e + 1 ≡ n
 text_before_feed {t} s u (at_break (cr_lf {i} a b)) w l c d =
     let x = byte_from_code t i u (omega (arith, a)) in
@@ -54,7 +54,7 @@ pub same_line : (src : Table) (k : ℕ) (a b : Line) → slice_get src.lines k �
     → (a.start < a.end) × (is_white (code src.text (a.end - 1)) ≡ false) → (b.start < b.end) × (is_white (code src.text (b.end - 1)) ≡ false)
 same_line src k a b e f h = subst (λ (l : Line). (l.start < l.end) × (is_white (code src.text (l.end - 1)) ≡ false)) (same_Some _ _ (sym e ∙ f)) h
 
--- white space ends no such line
+-- no such line ends with white space
 pub no_white_end : (t : List ℕ) (start end o : ℕ) → is_white (code t (end - 1)) ≡ false → WhitesEnd t start end o → o < end → ⊥
 no_white_end t start end o f w l = true≢false (sym (white_within (end - 1) w.run (omega (arith, l)) (omega (arith, l))) ∙ f)
 

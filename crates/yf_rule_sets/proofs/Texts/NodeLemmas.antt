@@ -1,4 +1,5 @@
--- How nodes are among the events of trees: each event that begins a node begins one, and two nodes are apart or one in the other.
+-- Nodes among the events of trees: each event that begins a node begins one, and two nodes are apart or one is in the
+-- other.
 use Rattle.std.proofs.Common.{◌≡◌, ℕ, zero, suc, ◌+◌, ◌-◌, ◌<◌, ◌≤◌, true, false, List, [], ◌∷◌, ◌++◌, length, drop, take, flat_map, refl, sym, ap, subst, ◌∙◌, append_assoc, append-nil, add-one, get_or, Some, ⊎_elim, arith, true≢false}
 use Rattle.std.proofs.lemmas.Bool.{cases_lt}
 use Rattle.std.proofs.lemmas.List.{drop_at, length-append, length-take-le, take-append-drop}
@@ -106,7 +107,7 @@ first_begins (mapping at flow props pairs) after more e q = ap (λ d. begins_nod
 pub events_after : {es : List EventInText} {i : ℕ} {x : Node} (n : NodeAt es i x) → drop i es ≡ flat x ++ n.after
 events_after {i = i} {x = x} n = ap (drop i) n.is ∙ drop_at n.before (flat x ++ n.after) i n.index
 
--- at one index one node begins
+-- only one node begins at an index
 pub same_node : {es : List EventInText} {i : ℕ} {x y : Node} → NodeAt es i x → NodeAt es i y → x ≡ y
 same_node {x = x} {y = y} n m = (node_unique x y n.after m.after (sym (events_after n) ∙ events_after m)).0
 

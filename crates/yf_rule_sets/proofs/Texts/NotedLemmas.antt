@@ -1,4 +1,4 @@
--- Laws of notes on lines.
+-- Laws of flags of lines.
 use Rattle.std.proofs.Common.{◌≡◌, ◌≢◌, ℕ, ◌+◌, ◌<◌, ◌≤◌, Bool, true, false, List, length, get_or, set, replicate, refl, sym, subst, ap, ◌∙◌, inl, inr, ⊎_elim, arith, true≢false}
 use Rattle.std.proofs.lemmas.Bool.{cases_lt, cases_eq}
 use Rattle.std.proofs.lemmas.List.{get_or-set_same, get_or-set_other, get_or-replicate, get_or_past, length-replicate, length-set}
@@ -49,7 +49,7 @@ lines_noted old new P at f n = record {
   all = λ k m q. n.all k m (record { holds = q; before = f k m q });
 }
 
--- of the events: none yet, one that says something, one that says nothing
+-- the events: none yet, one that flags a line, one that flags none
 none_true : (n k : ℕ) → get_or (replicate n false) k false ≡ true → ⊥
 none_true n k e = ⊎_elim (λ (h : k < n). true≢false (sym e ∙ get_or-replicate n k false false h))
     (λ (h : n ≤ k). true≢false (sym e ∙ get_or_past (replicate n false) k false (omega (arith, h, length-replicate n false)))) (cases_lt k n)
@@ -69,7 +69,7 @@ one_noted_by old new i P Q f n b = record {
       (cases_lt j i);
 }
 
--- one line is noted, or none
+-- one line is flagged, or none
 pub sole_noted : (old : List Bool) (P : ℕ → Type 0) (at : ℕ) → at < length old → P at → ((k : ℕ) → P k → k ≡ at) → FlagsAdded old (set old at true) P
 sole_noted old P at l p f = record {
   len = length-set old at true;
@@ -91,7 +91,7 @@ noted_as old new P Q f g n = record {
   all = λ k m q. n.all k m (g k q);
 }
 
--- what the indices below n say, step by step
+-- the flags of the indices below n, step by step
 abbrev pub Below : (ℕ → ℕ → Type 0) → ℕ → ℕ → Type 0
 Below P n k = (i : ℕ) × (i < n) × P i k
 

@@ -1,4 +1,4 @@
--- Laws of the lines of a scalar as the code has them.
+-- Laws of the lines of a scalar in the code.
 use Rattle.std.proofs.Common.{◌≡◌, ℕ, ◌<◌, ◌≤◌, true, List, Option, Some, None, MatchOption, refl, sym, subst, ◌∙◌, ⊎_elim, arith}
 use Rattle.std.specs.Borrow.{Bor}
 use Rattle.std.specs.Prelude.{slice_get}
@@ -82,7 +82,7 @@ content_told src r i None (has_none f) = λ x h. none_answered f h
 content_told src r i (Some lines) (has_lines {props} {style} {text} {s} {first} {content} is b c) =
     content_answers src r i props style text s is first b (content_start src.text s props) content refl c
 
--- of it, the lines that are wanted
+-- the wanted lines in the result
 no_scalar_line : {src : Table} {r : Lists} {i k : ℕ} → ((props : PropsValue) (style : ScalarStyle) (text : List ℕ) (s : Span) → IsScalar r i props style text s → ⊥)
     → ScalarLine src r k i → ⊥
 no_scalar_line f (of_scalar {props} {style} {text} {s} h e m n) = f props style text s h

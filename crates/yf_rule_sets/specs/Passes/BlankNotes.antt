@@ -34,7 +34,7 @@ pub data IsBeforeMarker (src : Table) (r : Lists) (k : ℕ) : Type 0 where
 pub data BlankUnless (src : Table) (k : ℕ) : Bool → Type 0 where
   is_white : {l : Line} → slice_get src.lines k ≡ Some l → WhitesEnd src.text l.start l.end l.start → BlankUnless src k false
 
--- all lines from `last` on are blank, and the one before it is not
+-- all lines from `last` on are blank, and the one before `last` is not
 pub record LastLine (blank : List Bool) (last : ℕ) : Type 0 where
   pub follows : (m : ℕ) → last ≤ m → m < length blank → get_or blank m false ≡ true
   pub before : (last ≡ 0) ⊎ ((m : ℕ) × (m + 1 ≡ last) × (m < length blank) × (get_or blank m false ≡ false))

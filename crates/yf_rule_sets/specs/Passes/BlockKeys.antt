@@ -62,7 +62,7 @@ abbrev pub roles : List Role → List EventInText → List Role
 roles st [] = []
 roles st (e ∷ es) = next_role st ∷ roles (next e.event st) es
 
--- the role of the node that an event begins; for another event, a role that is no key
+-- the role of the node that an event begins; for another event, a role other than that of a key
 abbrev pub role_at : EventValue → List Role → Role
 role_at v st = if begins_node v then next_role st else Item
 

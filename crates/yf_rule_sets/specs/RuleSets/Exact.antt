@@ -12,7 +12,7 @@ pub record UpTo {A : Type 0} (P : ℕ → A → Type 0) (n : ℕ) (xs : List A) 
   pub only : (x : A) → Contains xs x → (k : ℕ) × (k < n) × P k x
   pub all : (k : ℕ) (x : A) → k < n → P k x → Contains xs x
 
--- P holds only for x
+-- P holds for x, and only for x
 pub record Sole {A : Type 0} (P : A → Type 0) (x : A) : Type 0 where
   pub holds : P x
   pub only : (y : A) → P y → y ≡ x
