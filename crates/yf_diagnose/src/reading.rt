@@ -24,8 +24,9 @@ use yf_chars::text::is_char_at;
 use yf_lines::basic::{is_marker_at, skip_whites};
 use yf_lines::table::skip_marks;
 
-/// Diagnoses a text that is not a stream, because its reading stopped at an offset. It reads the refused part again:
-/// the node or the key, the header, the directive, or the line.
+/// Returns why a text is not a stream, and at which offset. The reading of the text stopped at `stop`.
+///
+/// It reads the refused part again: the node or the key, the header, the directive, or the line.
 pub fn diagnose(text: &str, stop: usize) -> Diagnosis
     requires { IsCharBoundary text.now stop }
     ensures { IsDiagnosis text.now stop result }

@@ -1,6 +1,7 @@
 -- The lemmas, each group under the function or the theorem that it serves.
 
--- breaks, white space, starts of lines and document markers: `line_break`, `skip_whites`, `is_line_start`, `marker_is_at`
+-- breaks, white space, starts of lines and document markers: `line_break`, `skip_whites`, `is_line_start`,
+-- `is_marker_at`
 pub mod BasicLemmas
 pub mod ClearLemmas
 -- contexts

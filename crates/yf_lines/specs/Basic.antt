@@ -77,7 +77,7 @@ pub data Empty (t : List ℕ) (n : ℤ) (c : Ctx) : ℕ → ℕ → List ℕ →
   prefixed : {i h j : ℕ} → LinePrefix t n c i h → Break t h j → Empty t n c i j (LINE_FEED ∷ [])
   shorter : {i h j : ℕ} → IndentLess t n i h → Break t h j → Empty t n c i j (LINE_FEED ∷ [])
 
--- b-l-folded(n,c): a break before empty lines means their line feeds; otherwise a break means a space
+-- b-l-folded(n,c): a break before empty lines means their line feeds, and a break by itself means a space
 pub data FoldedBreak (t : List ℕ) (n : ℤ) (c : Ctx) : ℕ → ℕ → List ℕ → Type 0 where
   trimmed : {i h k j : ℕ} {x y : List ℕ} → Break t i h → Empty t n c h k x → Chain (Empty t n c) k j y → FoldedBreak t n c i j (x ++ y)
   as_space : {i j : ℕ} → Break t i j → FoldedBreak t n c i j (SPACE ∷ [])

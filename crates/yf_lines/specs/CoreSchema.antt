@@ -90,6 +90,6 @@ float_pattern =
 abbrev pub core_pattern : Pattern
 core_pattern = either null_pattern (either boolean_pattern (either integer_pattern float_pattern))
 
--- Each null, boolean or number of the core schema is steady, so it is never written in quotes.
+-- Each null, boolean or number of the core schema is steady, so it may stay plain.
 abbrev pub CoreTextsAreSteady : Type 0
 CoreTextsAreSteady = (x : List ℕ) → Matches core_pattern x → is_steady x ≡ true

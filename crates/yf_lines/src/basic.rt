@@ -1,5 +1,5 @@
-//! The basic structures that all readers share (YAML 1.2.2, 5.4 and 6.1 to 6.5): line breaks, white space, indentation, the
-//! start of a line and document markers. Offsets count bytes.
+//! The basic structures that all readers share (YAML 1.2.2, 5.4 and 6.1 to 6.5): line breaks, white space, indentation,
+//! the start of a line and document markers. Offsets count bytes.
 ghost use Rattle.std.specs.Prelude.{◌≡◌, ◌≢◌, ◌+◌, ◌-◌, ◌<◌, ◌≤◌, ◌⊎◌, ◌==◌, ℕ, Bool, true, false, List, length, IfSome, MatchOption, MatchBool, ⊤};
 ghost use Rattle.std.specs.Str.{IsCharBoundary};
 ghost use Rattle.yf_chars.specs.Signs.{BYTE_ORDER_MARK, SPACE};

@@ -28,7 +28,7 @@ impl<'a> Src<'a> {
     ///
     /// # Errors
     ///
-    /// Fails with `AllocError` if memory is refused.
+    /// Fails with `AllocError` if memory is refused, or if a line begins after byte 2^32 - 1 of the text.
     pub fn new(alloc: Global, text: &'a str) -> Result<Src<'a>, AllocError>
         ensures text { IfOk result (λ src. src.text ≡ text.now) }
         ensures lines { IfOk result (λ src. AreLines text.now src.lines) }

@@ -293,7 +293,7 @@ pub record PrintState : Type 0 where
 abbrev pub state : Draft → List PrintFrame → ℕ → ℕ → PrintState
 state d levels documents done = record { draft = d; levels = levels; documents = documents; done = done }
 
--- a collection with entries on lines of their own begins
+-- begins a collection with entries on lines of their own
 abbrev pub collection_at : Work → ℕ → Form → PropsValue → FrameState → Role → PrintState → PrintState
 collection_at g i f props first role w = record w {
   draft = collection_begun g props role w.draft;
@@ -316,7 +316,7 @@ node_in g i m f e (sequence_starts flow props) role w = collection_if (is_whole 
 node_in g i m f e (mapping_starts flow props) role w = collection_if (is_whole i m f) g i m f e props Key role w
 node_in g i m f e _ role w = leaf_at g i m f e role w
 
--- the sign before a node is printed
+-- prints the sign before a node
 abbrev pub signed : Work → Form → Option Entry → PrintState → PrintState
 signed g f entry w = record w { draft = sign g f entry w.levels w.draft; levels = frames_after f entry w.levels }
 
