@@ -30,8 +30,7 @@ pub(crate) fn refused(at: usize, why: Why) -> Result<usize, Mistake>
     Err(Mistake { at, why })
 }
 
-/// Returns the diagnosis of a reading that begins at the offset. If the reading succeeds, `why` is wrong with what it
-/// read.
+/// Returns the diagnosis of a reading that begins at the offset. If the reading succeeded, it is `why` at the offset.
 pub(crate) fn told(text: &str, at: usize, read: Result<usize, Mistake>, why: Why) -> Diagnosis
     requires boundary { IsCharBoundary text.now at }
     requires read { IsReadFrom text.now at read }
