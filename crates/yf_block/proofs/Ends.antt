@@ -1,4 +1,4 @@
--- what all functions rest on: ends of lines, properties, looks ahead
+-- lemmas that all functions use: ends of lines, properties, looks ahead
 pub mod Forward
 pub mod PropertiesLemmas
 pub mod InlineLemmas

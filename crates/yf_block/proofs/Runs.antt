@@ -1,4 +1,4 @@
--- a run of the reader from step to step: how many collections are open, what is left, and what it gives in the end
+-- a run of the reader from step to step: the number of open collections, the work left, and the results
 pub mod CountedSteps
 pub mod MovedLemmas
 pub mod WorkedLemmas

@@ -1,5 +1,5 @@
--- To which node the properties of lines before belong: what is known of the node on the line before its text, as long as it is not known
--- whether it is a key.
+-- The owner of the properties on earlier lines: the reader's knowledge of the node on the line before its text,
+-- before it is known to be a key.
 use Rattle.std.specs.Prelude.{◌≡◌, ◌≢◌, ℕ, List, Option, Some, None}
 use Rattle.yf_chars.specs.Text.{code}
 use Rattle.yf_events.specs.declared.event.Entry as TheEntry
@@ -10,17 +10,17 @@ use Rattle.yf_block.specs.declared.content.Belonging.TheVariants.{Nothing as NoB
 use Rattle.yf_block.specs.declared.properties.PlacedProperties.{PlacedProperties}
 use Rattle.yf_block.specs.PropertiesAnswers.{LineProperties, HoldsProperties, held_lead, lead_at}
 
--- what is ahead of a node whose own properties on the line from p on are these, or which has none
+-- the state ahead of a node whose own properties on the line are these, from p on, or which has none
 pub data AfterLine (t : List ℕ) (p : ℕ) (a : Ahead) : Option PlacedProperties → Ahead → Type 0 where
   none_more : AfterLine t p a None a
   more_there : {held : PlacedProperties} {z : Ahead} (l : LineProperties t p held) → Joins a l.value p held.end z → AfterLine t p a (Some held) z
 
--- why properties of lines before can't be those of the node: two of one kind, or the node is an alias
+-- why properties of earlier lines can't belong to the node: two are of one kind, or the node is an alias
 pub data OfOther (t : List ℕ) (p at : ℕ) (a : Ahead) : Option PlacedProperties → Type 0 where
   two_alike : {held : PlacedProperties} (l : LineProperties t p held) → Apart a l.value → OfOther t p at a (Some held)
   before_alias : {inner : Option PlacedProperties} → code t at ≡ 42 → OfOther t p at a inner
 
--- all properties are those of the node, if it is no key
+-- the node has all properties, unless it is a key
 pub record AllOfNode (t : List ℕ) (p at : ℕ) (a : Ahead) (inner : Option PlacedProperties) (entry : Option TheEntry.Entry) (lead : Lead) : Type 0 where
   pub ahead : Ahead
   pub held : PlacedProperties

@@ -1,5 +1,6 @@
--- What holds between two steps of the reader of block nodes: its stack and what it has written are tied to what the recursive reader has read.
--- The last place at which all may end is where the last halt ends.
+-- The invariant between two steps of the reader of block nodes: it ties the stack and the events to those of the
+-- recursive reader.
+-- The last offset at which all nodes may end is the end of the last halt.
 use Rattle.std.specs.Prelude.{◌≡◌, ℕ, ◌+◌, ◌^◌, ◌<◌, ◌≤◌, ℤ, pos, ◌+ℤ◌, ◌≤ℤ◌, Bool, true, false, List, [], ◌∷◌, ◌++◌, length, Option, Some, None, ◌⊎◌}
 use Rattle.yf_chars.specs.declared.context.Ctx.{Ctx}
 use Rattle.yf_chars.specs.declared.context.Ctx.TheVariants.{BlockOut}
@@ -27,7 +28,7 @@ use Rattle.yf_block.specs.LineFits.{FitsLine, PairLine}
 use Rattle.yf_block.specs.LookTests.{NotWithinBreak}
 use Rattle.yf_block.specs.BlockTied.{stage_entry, layers_entry, begins, ahead_comments, all_written, entries_written, ReadTied, CollectionTied, FrameTied, StackTied, halt_end, EntryTied}
 
--- properties on hold, and what is ahead of the node that is awaited
+-- the held properties, and the state ahead of the awaited node
 pub record PropertiesTied (h : HeldValue) (held : PlacedProperties) : Type 0 where
   pub start : held.start ≡ h.start
   pub end : held.end ≡ h.end
@@ -43,8 +44,8 @@ abbrev pub is_out : Ctx → Bool
 is_out BlockOut = true
 is_out _ = false
 
--- the node that is awaited, in the indentation n and the context c, with what is ahead of it; no collection round it is deeper, and
--- within one it may always be empty
+-- the awaited node, with its indentation n, its context c and the state ahead of it; no collection around it is
+-- deeper, and within a collection it may always be empty
 pub record WantedTied (t : List ℕ) (floor : ℕ) (ls : List Layer) (n : ℤ) (c : Ctx) (a : Ahead) (wanted : AwaitedNode) : Type 0 where
   pub least : pos wanted.least ≡ n +ℤ pos 1
   pub out : wanted.out ≡ is_out c
@@ -55,7 +56,7 @@ pub record WantedTied (t : List ℕ) (floor : ℕ) (ls : List Layer) (n : ℤ) (
   pub rooted : (i : ℕ) → a ≡ Indicator i → ls ≡ [] → ⊥
   pub narrow : wanted.least ≤ 2 ^ 30 + 1
 
--- a node is awaited after an indicator, which ends there
+-- a node is awaited after an indicator that ends there
 pub record AtNode (t : List ℕ) (d : ℕ) (root : BlockTask) (before : Part) (frames : List Frame) (p : ℕ) (progress : BlockCursor) (part : Part) : Type 0 where
   pub layers : List Layer
   pub room : ℕ
@@ -73,7 +74,7 @@ pub record AtNode (t : List ℕ) (d : ℕ) (root : BlockTask) (before : Part) (f
   pub stack : StackTied (length before.events) layers frames progress halt
   pub read : ReadTied t before (all_written layers ⊕ only (comments ++ ahead_comments ahead) 0) progress part
 
--- a node is awaited at the start of a line, the end of the line before it and its comment lines having been read
+-- a node is awaited at the start of a line, after the end of the line before it and its comment lines
 pub record AtLine (t : List ℕ) (d : ℕ) (root : BlockTask) (before : Part) (frames : List Frame) (p : ℕ) (progress : BlockCursor) (part : Part) : Type 0 where
   pub layers : List Layer
   pub room : ℕ
@@ -107,7 +108,7 @@ pub record AtResume (t : List ℕ) (d : ℕ) (root : BlockTask) (before : Part) 
   pub stack : StackTied (length before.events) layers frames progress halt
   pub read : ReadTied t before (all_written layers ⊕ begins (layers_entry layers) answer.meaning) progress part
 
--- the same, where the frame of the innermost collection is no longer on the stack
+-- a node has been read whole, and the frame of the innermost collection is no longer on the stack
 pub record AtTop (t : List ℕ) (d : ℕ) (root : BlockTask) (before : Part) (frames : List Frame) (p : ℕ) (top : Frame) (progress : BlockCursor) (part : Part) : Type 0 where
   pub layer : Layer
   pub layers : List Layer
@@ -123,19 +124,20 @@ pub record AtTop (t : List ℕ) (d : ℕ) (root : BlockTask) (before : Part) (fr
   pub stack : StackTied (length before.events) layers frames progress halt
   pub read : ReadTied t before (all_written (layer ∷ layers) ⊕ begins (stage_entry layer.stage) answer.meaning) progress part
 
--- and the line that begins there does not end that collection
+-- `AtTop`, and the line that begins there does not end that collection
 pub record AtFit (t : List ℕ) (d : ℕ) (root : BlockTask) (before : Part) (frames : List Frame) (p : ℕ) (next : ResumedFrame) (progress : BlockCursor) (part : Part) : Type 0 where
   pub top : AtTop t d root before frames p next.frame progress part
   pub line : FitsLine t p next.frame next.fit
   pub goes_on : next.fit ≡ EndsBefore → ⊥
 
--- an entry of a mapping may go on there, the line of which begins after the node
+-- an entry of a mapping may go on there, on a line that begins after the node
 pub record AtPair (frame : Frame) (t : List ℕ) (d : ℕ) (root : BlockTask) (before : Part) (frames : List Frame) (p : ℕ) (progress : BlockCursor) (part : Part) : Type 0 where
   pub line : ℕ
   pub fits : PairLine t line frame p
   pub top : AtTop t d root before frames line frame progress part
 
--- an entry of a collection begins there, whose frame is not on the stack; the first one of a mapping with a `?` or a `:`
+-- an entry of a collection begins there, and its frame is not on the stack; the first entry of a mapping has a `?` or
+-- a `:`
 pub record AtEntry (t : List ℕ) (d : ℕ) (root : BlockTask) (before : Part) (frames : List Frame) (frame : Frame) (p : ℕ) (progress : BlockCursor) (part : Part) : Type 0 where
   pub layer : Layer
   pub layers : List Layer
@@ -153,7 +155,7 @@ pub record AtEntry (t : List ℕ) (d : ℕ) (root : BlockTask) (before : Part) (
   pub stack : StackTied (length before.events) layers frames progress halt
   pub read : ReadTied t before (entries_written layer layers) progress part
 
--- the outermost node has been read whole; or there is none, and its last halt is what is left
+-- the outermost node has been read whole, with its last halt; `AtFailed`: there is none, only its last halt
 pub record AtDone (t : List ℕ) (d : ℕ) (root : BlockTask) (before : Part) (p : ℕ) (progress : BlockCursor) (part : Part) : Type 0 where
   pub answer : ParsedNode
   pub halt : Option ParsedNode
@@ -163,7 +165,7 @@ pub record AtDone (t : List ℕ) (d : ℕ) (root : BlockTask) (before : Part) (p
   pub halted : progress.halt ≡ halt_end halt
   pub read : ReadTied t before answer.meaning progress part
 
--- nothing is found, or what is found leaves a line of the text that is none of comments: a comment that no break ends
+-- no node is found, or the node leaves a line of the text that is not a comment line: a comment that no break ends
 pub data TextIsLeft (t : List ℕ) (d : ℕ) (root : BlockTask) : Type 0 where
   none_found : Whole t d root None → TextIsLeft t d root
   line_left : {f : ParsedNode} → Whole t d root (Some f) → (LinesEnd t f.end → ⊥) → Stuck (Row t f.end) → TextIsLeft t d root
@@ -174,7 +176,7 @@ pub record AtFailed (t : List ℕ) (d : ℕ) (root : BlockTask) (progress : Bloc
   pub halts : Halts t d [] root halt
   pub halted : progress.halt ≡ halt_end halt
 
--- what comes next
+-- the state for each next step
 abbrev pub BlockTied : List ℕ → ℕ → BlockTask → Part → List Frame → Step → BlockCursor → Part → Type 0
 BlockTied t d root before frames (Node p) progress part = AtNode t d root before frames p progress part
 BlockTied t d root before frames (Line p) progress part = AtLine t d root before frames p progress part

@@ -1,5 +1,5 @@
--- What ties the reader's stack to the recursive reader of block nodes: of each frame the collection that it stands for, and the flat
--- lists of events, comments and escapes that have been written so far, after those of the part to which they are added.
+-- The tie between the reader's stack and the recursive reader of block nodes: the collection of each frame, and the
+-- flat lists of events, comments and escapes written so far, after those of the part to which they are added.
 use Rattle.std.specs.Prelude.{◌≡◌, ℕ, ◌+◌, ◌^◌, ◌<◌, ◌≤◌, Bool, true, false, List, [], ◌∷◌, ◌++◌, length, Option, Some, None}
 use Rattle.std.specs.Str.{IsUtf8}
 use Rattle.yf_comments.specs.Comment.{CommentValue}
@@ -27,7 +27,7 @@ abbrev pub kind_of : Bool → CollectionKind
 kind_of true = Sequence
 kind_of false = Mapping
 
--- where the entry begins that the awaited node begins, if it begins one: a value does not
+-- the start of the entry that the awaited node begins, if it begins one: a value does not
 abbrev pub stage_entry : Stage → Option ℕ
 stage_entry (AtItem i) = Some i
 stage_entry (AtKey i) = Some i
@@ -42,14 +42,14 @@ abbrev pub begins : Option ℕ → Meaning → Meaning
 begins None x = x
 begins (Some i) x = entering i None x
 
--- what has been written of the present entry before the node that is awaited in it
+-- the events of the present entry before its awaited node
 abbrev pub stage_written : Stage → Meaning
 stage_written (AtItem i) = only [] 0
 stage_written (AtKey i) = only [] 0
 stage_written (AtLoneValue i) = entering i (Some i) (empty_node i)
 stage_written (AtValue i k f) = entering i (Some k) f.meaning
 
--- what is ahead of a node: its properties with their comments, and where it begins if it would begin at p without them
+-- the properties ahead of a node with their comments, and its start if it would begin at p without them
 abbrev pub ahead_comments : Ahead → List CommentValue
 ahead_comments (Props h) = h.value.comments
 ahead_comments _ = []
@@ -71,7 +71,7 @@ abbrev pub entry_at : Option ℕ → Option TheEntry.Entry
 entry_at None = None
 entry_at (Some i) = Some (record { start = i; colon = None; blank_before = false })
 
--- one event; the one that begins a collection, while its end is not known
+-- one event, and the event that begins a collection before its end is set
 abbrev pub one : EventInText → Meaning
 one e = record { events = e ∷ []; comments = []; escapes = []; finish = 0 }
 
@@ -84,11 +84,11 @@ begun_event l entry = record {
   folded = [];
 }
 
--- what has been written up to the entries of a collection before the present one, after what was written before the collection
+-- the events up to the present entry of a collection, after the events written before the collection
 abbrev pub entries_after : Meaning → Layer → List Layer → Meaning
 entries_after w l ls = noting w (l.comments ++ ahead_comments l.ahead) ⊕ one (begun_event l (entry_at (layers_entry ls))) ⊕ l.known
 
--- what has been written before the node that is awaited in the innermost collection, from the outermost node on
+-- the events before the awaited node of the innermost collection, from the outermost node on
 abbrev pub all_written : List Layer → Meaning
 all_written [] = only [] 0
 all_written (l ∷ ls) = entries_after (all_written ls) l ls ⊕ stage_written l.stage
@@ -96,7 +96,7 @@ all_written (l ∷ ls) = entries_after (all_written ls) l ls ⊕ stage_written l
 abbrev pub entries_written : Layer → List Layer → Meaning
 entries_written l ls = entries_after (all_written ls) l ls
 
--- a part has so much more than one before, with the notes of its entries filled in
+-- a part has this meaning more than an earlier one, with the notes of its entries filled in
 pub record PartSoFar (t : List ℕ) (before : Part) (x : Meaning) (part : Part) : Type 0 where
   pub events : List EventInText
   pub noting : Noting t 0 x.events events
@@ -107,19 +107,20 @@ abbrev pub floor_after : ℕ → List EventInText → ℕ
 floor_after floor [] = floor
 floor_after floor (e ∷ es) = floor_after (floor_after_event floor e e.event) es
 
--- a text as the program reads them: of 1 GiB at most
+-- a text as the program reads it: at most 1 GiB
 pub record TextTied (t : List ℕ) : Type 0 where
   pub utf8 : IsUtf8 t
   pub size : length t ≤ 2 ^ 30
 
--- so much has been read; the last block scalar ends where a line begins, or at the end of the text
+-- this meaning has been read; the last block scalar ends at the start of a line, or at the end of the text
 pub record ReadTied (t : List ℕ) (before : Part) (x : Meaning) (progress : BlockCursor) (part : Part) : Type 0 where
   pub text : TextTied t
   pub floor : progress.floor ≡ floor_after 0 x.events
   pub floor_line : progress.floor < length t → Blank t progress.floor
   pub written : PartSoFar t before x part
 
--- a frame stands for a collection in which an entry is awaited, before which part had m events; for one in which a node is awaited
+-- a frame ties to a collection that awaits an entry (m is the number of events of the part before), and to one that
+-- awaits a node
 pub record CollectionTied (m : ℕ) (l : Layer) (ls : List Layer) (f : Frame) : Type 0 where
   pub kind : f.kind ≡ kind_of l.sequence
   pub column : f.column ≡ l.column
@@ -135,17 +136,17 @@ pub data FramesTied (m : ℕ) : List Frame → List Layer → Type 0 where
   no_frames : FramesTied m [] []
   frame_tied : {f : Frame} {fs : List Frame} {l : Layer} {ls : List Layer} → FrameTied m l ls f → FramesTied m fs ls → FramesTied m (f ∷ fs) (l ∷ ls)
 
--- how many `:` a frame awaits
+-- the number of `:` that a frame awaits
 abbrev pub colons_if : Bool → ℕ
 colons_if true = 1
 colons_if false = 0
 
--- where what is left of a broken node ends
+-- the end of the remaining part of a broken node
 abbrev pub halt_end : Option ParsedNode → Option ℕ
 halt_end None = None
 halt_end (Some f) = Some f.end
 
--- the open collections, and the last place at which all of them may end
+-- the open collections, and the last offset at which all of them may end
 pub record StackTied (m : ℕ) (ls : List Layer) (frames : List Frame) (progress : BlockCursor) (halt : Option ParsedNode) : Type 0 where
   pub order : LayersDeepen ls
   pub frames_tied : FramesTied m frames ls
@@ -157,7 +158,7 @@ pub data EntryTied (t : List ℕ) (floor : ℕ) : Option ℕ → Option TheEntry
   no_entry : EntryTied t floor None None
   entry_begins : {i : ℕ} {b : Bool} → NotedSince t floor i b → EntryTied t floor (Some i) (Some (record { start = i; colon = None; blank_before = b }))
 
--- what is awaited after an indicator in a collection at that column
+-- the node awaited after an indicator in a collection at that column
 abbrev pub wanted_after : ℕ → Bool → Bool → Option TheEntry.Entry → AwaitedNode
 wanted_after column compact out entry = record { least = column + 1; out = out; compact = compact; entry = entry; outer = None }
 

@@ -1,4 +1,4 @@
--- The events at the end of a collection: of an empty value, where the `:` of a `?` entry is awaited, and of the end itself.
+-- The events at the end of a collection: an empty value if it awaits the `:` of a `?` entry, and the end itself.
 use Rattle.std.specs.Prelude.{Bool, true, false, List, [], ◌∷◌, ◌++◌, None}
 use Rattle.yf_props.specs.Props.{no_props}
 use Rattle.yf_events.specs.Event.{EventValue, EventInText, sequence_ends, mapping_ends, scalar_node}

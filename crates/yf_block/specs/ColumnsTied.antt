@@ -11,7 +11,7 @@ use Rattle.yf_block.specs.BlockStepTied.{is_out}
 abbrev pub same_columns : Option ℕ → Columns
 same_columns o = record { sequence = o; mapping = o }
 
--- after an indicator, where a compact collection may begin if the node may be one
+-- after an indicator, the column at which a compact collection may begin if the node may be one
 abbrev pub CompactTied : List ℕ → AwaitedNode → ℕ → ℕ → Option ℕ → Type 0
 CompactTied t wanted at place column = (n : ℤ) → pos wanted.least ≡ n +ℤ pos 1 → (wanted.compact ≡ true → (0 < wanted.least) × (wanted.least ≤ at)) → is_white (code t place) ≡ false
     → Compact t wanted.compact n at place (same_columns column)
@@ -21,7 +21,7 @@ abbrev pub SequenceTied : AwaitedNode → ℕ → Bool → Type 0
 SequenceTied wanted width result = (n : ℤ) → (c : Ctx) → pos wanted.least ≡ n +ℤ pos 1 → wanted.out ≡ is_out c
     → MatchBool result (least_column true n c ≤ℤ pos width) (least_column true n c ≤ℤ pos width → ⊥)
 
--- whether one is there
+-- whether a sequence begins there
 abbrev pub SequenceBegins : List ℕ → ℕ → AwaitedNode → ℕ → Bool → Type 0
 SequenceBegins t at wanted width result = (n : ℤ) → (c : Ctx) → pos wanted.least ≡ n +ℤ pos 1 → wanted.out ≡ is_out c
     → MatchBool result (DashAt t at × (least_column true n c ≤ℤ pos width)) (DashAt t at → least_column true n c ≤ℤ pos width → ⊥)

@@ -1,4 +1,5 @@
--- A node on its line where no collection begins with a sign: before its properties, after them, and once a flow node has been read.
+-- A node on its line, if no collection begins with a sign: before its properties, after them, and after its flow node
+-- has been read.
 use Rattle.std.specs.Prelude.{◌≡◌, ℕ, ◌<◌, ◌≤◌, ℤ, pos, ◌+ℤ◌, Bool, true, false, List, [], ◌∷◌, ◌++◌, length, Option, Some, None, ◌⊎◌}
 use Rattle.yf_chars.specs.declared.context.Ctx.TheVariants.{FlowOut, FlowKey}
 use Rattle.yf_chars.specs.Text.{code}
@@ -43,24 +44,24 @@ pub record AtContent (t : List ℕ) (d : ℕ) (root : BlockTask) (before : Part)
   pub column_is : cols.mapping ≡ column
   pub signless : NoSign t cols p
 
--- the same, where it is only known of sequences that none begins there
+-- like `AtContent`, but only sequences are known not to begin there
 pub record AtUndashed (column : Option ℕ) (t : List ℕ) (d : ℕ) (root : BlockTask) (before : Part) (frames : List Frame) (p : ℕ) (progress : BlockCursor) (part : Part) : Type 0 where
   pub cols : Columns
   pub column_is : cols.mapping ≡ column
   pub undashed : (m : ℕ) → cols.sequence ≡ Some m → DashAt t p → ⊥
   pub start : AtStart t d root before frames cols p progress part
 
--- and where properties are there
+-- `AtContent`, with properties at the offset
 pub record AtProperties (held : PlacedProperties) (column : Option ℕ) (t : List ℕ) (d : ℕ) (root : BlockTask) (before : Part) (frames : List Frame) (p : ℕ) (progress : BlockCursor) (part : Part) : Type 0 where
   pub properties : LineProperties t p held
   pub content : AtContent t d root before frames p column progress part
 
--- properties on the line, or none, and where the text of the node is after them
+-- properties on the line, or none, and the start of the node's text after them
 pub data TextAfter (t : List ℕ) (p : ℕ) : Option PlacedProperties → ℕ → Type 0 where
   text_alone : Stuck (Properties t (pos 0) FlowKey p) → TextAfter t p None p
   text_held : {held : PlacedProperties} {at : ℕ} → LineProperties t p held → Stuck (LineEnd t held.end) → PlaceAfter t held.end at → TextAfter t p (Some held) at
 
--- after white space the line ends, or a comment is there
+-- after white space the line ends, or a comment begins
 pub record EndsAfter (t : List ℕ) (g place : ℕ) : Type 0 where
   pub whites : List ℕ
   pub run : Many t is_white g place whites
@@ -72,7 +73,7 @@ pub record AtAfterProperties (b : AfterProperties) (t : List ℕ) (d : ℕ) (roo
   pub content : AtContent t d root before frames p b.node_start.column progress part
   pub text : TextAfter t p b.inner b.at
 
--- so much a part has
+-- the counts of a part's lists
 pub record CountsOf (part : Part) (counts : Counts) : Type 0 where
   pub events : counts.events ≡ length part.events
   pub comments : counts.comments ≡ length part.comments
@@ -82,7 +83,8 @@ pub record CountsOf (part : Part) (counts : Counts) : Type 0 where
 abbrev pub ScalarSignAt : List ℕ → ℕ → Type 0
 ScalarSignAt t p = (code t p ≡ 124) ⊎ (code t p ≡ 62)
 
--- a flow node, or an empty key, was read after the properties, with what was known of it, after what the earlier part had
+-- a flow node or an empty key was read after the properties, with the reader's knowledge of it, after the contents of
+-- the earlier part
 pub record AtInline (t : List ℕ) (d : ℕ) (root : BlockTask) (before : Part) (frames : List Frame) (depth : ℕ) (b : AfterProperties) (facts : NodeFacts) (node : Node) (progress : BlockCursor) (earlier now : Part) : Type 0 where
   pub there : AtAfterProperties b t d root before frames b.node_start.at progress earlier
   pub belonging : BelongingTied t b.node_start.at b.at there.content.start.ahead b.inner progress.wanted.entry facts.lead facts.belonging
@@ -91,7 +93,7 @@ pub record AtInline (t : List ℕ) (d : ℕ) (root : BlockTask) (before : Part) 
   pub read : InlineRead t there.content.start.room (pos progress.wanted.least) b.at depth b.inner facts.lead earlier now node
   pub no_scalar : ScalarSignAt t b.at → ⊥
 
--- it is the first key of a mapping at that column, with its `:` at the other place, and its collections may be open
+-- the node is the first key of a mapping at that column, its `:` is at `colon`, and the limit allows its collections
 pub record AtFirstKey (t : List ℕ) (d : ℕ) (root : BlockTask) (before : Part) (frames : List Frame) (depth : ℕ) (b : AfterProperties) (facts : NodeFacts) (column colon : ℕ) (progress : BlockCursor) (earlier now : Part) : Type 0 where
   pub node : Node
   pub inline : AtInline t d root before frames depth b facts node progress earlier now
@@ -102,7 +104,7 @@ pub record AtFirstKey (t : List ℕ) (d : ℕ) (root : BlockTask) (before : Part
   pub within : node.deepest < d
   pub open_there : depth < d
 
--- both, whatever the part was before the node and how many were open there
+-- both, for any earlier part and any number of open collections
 pub record AtNodeEnd (b : AfterProperties) (facts : NodeFacts) (node : Node) (t : List ℕ) (d : ℕ) (root : BlockTask) (before : Part) (frames : List Frame) (p : ℕ) (progress : BlockCursor) (part : Part) : Type 0 where
   pub depth : ℕ
   pub earlier : Part
@@ -113,18 +115,19 @@ pub record AtKeyEnd (b : AfterProperties) (facts : NodeFacts) (column colon : �
   pub earlier : Part
   pub key : AtFirstKey t d root before frames depth b facts column colon progress earlier part
 
--- what is known of a node is what is ahead of it, if its text begins at the place
+-- the lead of a node is the state ahead of it, if its text begins at the offset
 pub record LeadTied (a : Ahead) (p : ℕ) (lead : Lead) : Type 0 where
   pub start : lead.start ≡ ahead_start a p
   pub props : props_value lead.props ≡ ahead_props a
   pub tag : lead.tag_offset ≡ ahead_tag a
 
--- where it is known of a node that it begins at a place, it is a plain scalar; or an alias, within which no line ends
+-- a plain scalar has a known start; another node may have one only if no line begins within it, like an alias
 pub data PlainIs (t : List ℕ) (place end : ℕ) (plain : Option ℕ) : Type 0 where
   plain_known : begins_plain (code t place) ≡ true → plain ≡ Some place → PlainIs t place end plain
   other_known : begins_plain (code t place) ≡ false → ((q : ℕ) → plain ≡ Some q → NoStart t q end) → PlainIs t place end plain
 
--- a flow node without properties of its own was read, which ends at the offset and may be what is awaited if the line ends after it
+-- a flow node without properties of its own was read; it ends at the offset and may be the awaited node if the line
+-- ends after it
 pub record AtLeaf (t : List ℕ) (d : ℕ) (root : BlockTask) (before : Part) (frames : List Frame) (plain : Option ℕ) (p : ℕ) (progress : BlockCursor) (part : Part) : Type 0 where
   pub layers : List Layer
   pub room : ℕ
@@ -145,7 +148,7 @@ pub record AtLeaf (t : List ℕ) (d : ℕ) (root : BlockTask) (before : Part) (f
   pub stack : StackTied (length before.events) layers frames progress halt
   pub read : ReadTied t before (all_written layers ⊕ begins (layers_entry layers) (meaning_after comments (headed ahead answer.meaning))) progress part
 
--- a leaf, or an empty key that is none, after which the line goes on
+-- a leaf, or an empty key that is not a key of a mapping, after which the line goes on
 pub data LeafEnding (plain : Option ℕ) (t : List ℕ) (d : ℕ) (root : BlockTask) (before : Part) (frames : List Frame) (p : ℕ) (progress : BlockCursor) (part : Part) : Type 0 where
   leaf_ends : AtLeaf t d root before frames plain p progress part → LeafEnding plain t d root before frames p progress part
   line_goes_on : Stuck (LineEnd t p) → ((q : ℕ) → plain ≡ Some q → NoStart t q p) → AtFailed t d root progress → LeafEnding plain t d root before frames p progress part
@@ -163,7 +166,8 @@ pub data KeyOrLost (t : List ℕ) (room : ℕ) (n : ℤ) (depth : ℕ) (b : Afte
   key_again : KeyAgain t room n depth b entry start earlier new → KeyOrLost t room n depth b entry start earlier new
   key_lost : InlineLost t room n b.at b.inner → KeyOrLost t room n depth b entry start earlier new
 
--- it was read after what the earlier part had, with what is known of the node on its line, unless all properties are those of a node
+-- the key was read after the contents of the earlier part, with the lead of the node on its line, unless the node has
+-- all properties
 pub record KeyRead (t : List ℕ) (room : ℕ) (n : ℤ) (depth : ℕ) (b : AfterProperties) (facts : NodeFacts) (wanted : AwaitedNode) (earlier old : Part) : Type 0 where
   pub node : Node
   pub counts : CountsOf earlier facts.before

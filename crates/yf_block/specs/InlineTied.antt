@@ -1,4 +1,5 @@
--- A node that is awaited on a line: its first character is at the place. And what is written where a collection begins there.
+-- A node awaited on a line, with its first character at the offset; and the event written if a collection begins
+-- there.
 use Rattle.std.specs.Prelude.{◌≡◌, ℕ, ◌≤◌, ℤ, Bool, true, false, List, ◌++◌, length, Option, Some, ◌⊎◌}
 use Rattle.yf_chars.specs.declared.context.Ctx.{Ctx}
 use Rattle.yf_chars.specs.Text.{code}
@@ -53,6 +54,6 @@ abbrev pub started : CollectionKind → ℕ → AwaitedNode → EventInText
 started kind at wanted =
     lead_event (lead_at at wanted.outer wanted.entry) (event_with (props_value (lead_at at wanted.outer wanted.entry).props) (start_of (is_sequence kind) false)) at
 
--- the `?` or the `:` of an entry is there
+-- the `?` or the `:` of an entry is at the offset
 abbrev pub EntrySignAt : List ℕ → ℕ → Type 0
 EntrySignAt t p = SignAt t 63 p ⊎ SignAt t 58 p

@@ -1,4 +1,4 @@
--- An implicit key is awaited, of an entry of a mapping whose frame is on the stack again.
+-- An implicit key of a mapping is awaited; the mapping's frame is on the stack again.
 use Rattle.std.specs.Prelude.{◌≡◌, ℕ, false, List, ◌∷◌, None}
 use Rattle.yf_events.specs.declared.event.Entry as TheEntry
 use Rattle.yf_events.specs.declared.part.Part.{Part}

@@ -1,4 +1,4 @@
--- What a line is to an open collection, as the reader finds it.
+-- The relation of a line to an open collection, as the reader finds it.
 use Rattle.std.specs.Prelude.{◌≡◌, ℕ, ◌+◌, ◌<◌, List, Option, Some, None}
 use Rattle.yf_grammar.specs.BlockReader.BlockParser.{DashAt, LineText}
 use Rattle.yf_block.specs.declared.frame.Frame.{Frame}
@@ -7,7 +7,7 @@ use Rattle.yf_block.specs.declared.resume.Fit.{Fit}
 use Rattle.yf_block.specs.declared.resume.Fit.TheVariants.{Item, Entry, Deeper, EndsBefore}
 use Rattle.yf_block.specs.LookTests.{EntryPlace}
 
--- an entry may begin at the place on the line that begins at the offset; without a place no line of a node is there
+-- an entry may begin at `p` on the line that begins at `at`; without `p`, no line of a node begins there
 abbrev pub PlaceTied : List ℕ → ℕ → Option ℕ → Type 0
 PlaceTied t at None = (m p : ℕ) → LineText t at m p → ⊥
 PlaceTied t at (Some p) = EntryPlace t at p

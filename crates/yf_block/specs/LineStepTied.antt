@@ -1,4 +1,5 @@
--- A node that is awaited at the start of a line, once it is noted that all may end before it: it is empty, or it begins on that line.
+-- A node awaited at the start of a line, after noting that all nodes may end before it: it is empty, or it begins on
+-- that line.
 use Rattle.std.specs.Prelude.{◌≡◌, ◌≢◌, ℕ, ◌-◌, ◌≤◌, ℤ, pos, ◌≤ℤ◌, true, false, List, ◌++◌, length, Option}
 use Rattle.yf_chars.specs.declared.context.Ctx.{Ctx}
 use Rattle.yf_chars.specs.Text.{code}
@@ -21,11 +22,11 @@ use Rattle.yf_block.specs.declared.frame.BlockCursor.{BlockCursor}
 use Rattle.yf_block.specs.BlockTied.{ahead_comments, all_written, ReadTied, StackTied}
 use Rattle.yf_block.specs.BlockStepTied.{WantedTied}
 
--- the outermost node's last halt, where the awaited one has that one
+-- the outermost node's last halt, if the awaited node has this one
 abbrev pub halt_with : List Layer → List CommentValue → Option ParsedNode → Option ParsedNode → Option ParsedNode
 halt_with ls ds h o = made_or (λ f. rounds ls (as_after ds f)) h o
 
--- what is ahead of the node may be alone up to the line, or up to one before it
+-- what is ahead may be the whole node, up to the line or an earlier one
 pub record AtAlone (t : List ℕ) (d : ℕ) (root : BlockTask) (before : Part) (frames : List Frame) (p : ℕ) (progress : BlockCursor) (part : Part) : Type 0 where
   pub layers : List Layer
   pub room : ℕ
@@ -52,7 +53,7 @@ pub record AtEmpty (t : List ℕ) (d : ℕ) (root : BlockTask) (before : Part) (
   pub at : AtAlone t d root before frames p progress part
   pub none : NoNode t at.indentation at.context progress.from p
 
--- after the spaces of the line no sequence begins that may be the node
+-- no sequence that may be the node begins after the spaces of the line
 pub record AtIndented (t : List ℕ) (d : ℕ) (root : BlockTask) (before : Part) (frames : List Frame) (p start : ℕ) (progress : BlockCursor) (part : Part) : Type 0 where
   pub at : AtAlone t d root before frames p progress part
   pub goes_on : LinesEnd t p → ⊥

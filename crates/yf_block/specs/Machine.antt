@@ -1,5 +1,4 @@
--- What holds between two steps of the reader: the places that it keeps lie between characters, and less of the text is
--- left at each step.
+-- The invariant between two steps of the reader: its offsets are boundaries, and each step leaves less of the text.
 use Rattle.std.specs.Prelude.{◌≡◌, ℕ, ◌+◌, ◌-◌, ◌*◌, ◌≤◌, length, List, Option, Some, None}
 use Rattle.std.specs.List.{All}
 use Rattle.std.specs.Str.{IsCharBoundary}
@@ -21,7 +20,7 @@ use Rattle.yf_block.specs.declared.nodes.Stopped.{Stopped}
 use Rattle.yf_block.specs.declared.nodes.Stop.{Stop}
 use Rattle.yf_block.specs.declared.nodes.Stop.TheVariants.{Done as DoneAt, Failed as FailedAt, TooDeep as TooDeepAt}
 
--- a place, if there is one, between characters
+-- an offset, if there is one, is a boundary
 abbrev pub MayBoundary : List ℕ → Option ℕ → Type 0
 MayBoundary t None = Unit {0}
 MayBoundary t (Some p) = IsCharBoundary t p
@@ -31,13 +30,13 @@ pub record ProgressAt (t : List ℕ) (p : BlockCursor) : Type 0 where
   pub from : IsCharBoundary t p.from
   pub halt : MayBoundary t p.halt
 
--- what a step is on: a place, and what is kept and noted so far
+-- the state on which a step works: the offset, the cursor and the escapes are boundaries
 pub record IsReaderReady (t : List ℕ) (at : ℕ) (r : BlockReader) : Type 0 where
   pub boundary : IsCharBoundary t at
   pub progress : ProgressAt t r.progress
   pub escapes : All (IsCharBoundary t) r.part.escapes
 
--- a step from an offset on
+-- the next step is at or after an offset
 abbrev pub StepReady : List ℕ → ℕ → Step → Type 0
 StepReady t at (Node p) = BoundaryFrom t at p
 StepReady t at (Line p) = BoundaryFrom t at p
@@ -46,7 +45,7 @@ StepReady t at (Done p) = IsCharBoundary t p
 StepReady t at (Failed p) = IsCharBoundary t p
 StepReady t at (TooDeep p) = IsCharBoundary t p
 
--- how much is left to do of n bytes
+-- the work left of n bytes
 abbrev pub left : ℕ → Step → ℕ
 left n (Node p) = 3 * (n - p) + 3
 left n (Line p) = 3 * (n - p) + 2
@@ -55,25 +54,25 @@ left n (Done p) = 0
 left n (Failed p) = 0
 left n (TooDeep p) = 0
 
--- a step from an offset on, after which so much is left at most
+-- a step from an offset on that leaves at most this much work
 pub record IsLess (t : List ℕ) (at more : ℕ) (r : BlockReader) (s : Step) : Type 0 where
   pub progress : ProgressAt t r.progress
   pub ready : StepReady t at s
   pub moves : left (length t) s ≤ 3 * (length t - at) + more
   pub escapes : All (IsCharBoundary t) r.part.escapes
 
--- from an offset on are properties, or none, and after them a place
+-- properties begin at an offset, or none do, and the other offset is after them
 abbrev pub PropertiesTo : List ℕ → ℕ → ℕ → Option PlacedProperties → Type 0
 PropertiesTo t start at None = at ≡ start
 PropertiesTo t start at (Some held) = BoundaryFrom t (start + 1) held.end × (held.end ≤ at)
 
--- what a step is on after the properties of a line
+-- the state on which a step works after the properties of a line
 pub record IsReaderReadyAfter (t : List ℕ) (b : AfterProperties) (r : BlockReader) : Type 0 where
   pub standing : IsReaderReady t b.at r
   pub start : IsCharBoundary t b.node_start.at
   pub properties : PropertiesTo t b.node_start.at b.at b.inner
 
--- where what is at a place ends at the earliest: after its first character, or after the properties before it
+-- the earliest end of a node at an offset: after its first character, or after the properties before it
 abbrev pub earliest_end : ℕ → Option PlacedProperties → ℕ
 earliest_end at None = at + 1
 earliest_end at (Some held) = held.end

@@ -1,5 +1,5 @@
--- What the reader of block nodes answers: the longest block node within the limit of open collections, written after what a part had; or
--- that none is derived there.
+-- The result of the reader of block nodes: the longest block node within the limit of open collections, written after
+-- the contents of a part; or none, because none is derived there.
 use Rattle.std.specs.Prelude.{◌≡◌, ℕ, ◌+◌, ◌<◌, ◌^◌, ◌≤◌, ℤ, pos, ◌+ℤ◌, true, false, List, [], Option, Some, None}
 use Rattle.yf_chars.specs.declared.context.Ctx.{Ctx}
 use Rattle.yf_chars.specs.Chain.{Stuck, Chosen}
@@ -14,21 +14,21 @@ use Rattle.yf_block.specs.declared.nodes.BlockOutcome.TheVariants.{Found, Nothin
 use Rattle.yf_block.specs.BlockTied.{floor_after}
 use Rattle.yf_block.specs.BlockStepTied.{TextIsLeft}
 
--- an indentation of a node, from -1 to 2^30; no text of 1 GiB has a column that is not less than 2^30
+-- an indentation of a node, from -1 to 2^30; every column of a text of 1 GiB is below 2^30
 pub record Indentation (n : ℤ) : Type 0 where
   pub least : ℕ
   pub is : pos least ≡ n +ℤ pos 1
   pub narrow : least ≤ 2 ^ 30 + 1
 
--- the node that ends there, as a part of its own, and where its last block scalar ends
+-- the node that ends there, as a part of its own, and the end of its last block scalar
 pub record NodeGiven (t : List ℕ) (limit : ℕ) (n : ℤ) (c : Ctx) (at end floor : ℕ) (before part : Part) : Type 0 where
   pub node : Part
   pub chosen : Chosen (BlockNodePart t limit n c at) end node
   pub added : PartGrown before part node.events node.comments node.escapes
   pub floor_is : floor ≡ floor_after 0 node.events
 
--- a node that was found: what the part has more is known where nothing went wrong after it, or where the part had nothing before; a collection
--- too many is told only where more openers than the limit are from the place on
+-- a found node: the part's new contents are known if nothing went wrong after it, or if the part was empty;
+-- `too_deep` is only set if more openers than the limit are after the offset
 pub record FoundTied (t : List ℕ) (limit : ℕ) (n : ℤ) (c : Ctx) (at : ℕ) (before : Part) (f : FoundNode) (part : Part) : Type 0 where
   pub whole : f.whole ≡ true → NodeGiven t limit n c at f.end f.floor before part
   pub broken : f.whole ≡ false → TextIsLeft t limit (Awaited false n c Nothing at)

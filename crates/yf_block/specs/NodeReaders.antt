@@ -1,4 +1,4 @@
--- What the readers of block nodes answer, as those of flow nodes do. In other contexts than the two block contexts there is none.
+-- The results of the readers of block nodes, like those of flow nodes. Only the two block contexts have block nodes.
 use Rattle.std.specs.Prelude.{ℕ, ℤ, List, Option, Result}
 use Rattle.yf_chars.specs.declared.context.Ctx.{Ctx}
 use Rattle.yf_lines.specs.declared.fault.Fault.{Fault}
@@ -8,7 +8,7 @@ use Rattle.yf_flow.specs.declared.flow.ScannedPart.{ScannedPart}
 use Rattle.yf_flow.specs.NodeReaders.{ReadsNode, ScansNode}
 use Rattle.yf_grammar.specs.Productions.ReadParts.{BlockNodePart}
 
--- read_block_node and scan_block_node: the longest block node within the limit of open collections
+-- read_block_node and scan_block_node read the longest block node within the limit of open collections
 abbrev pub ReadsBlockNode : List ℕ → ℤ → Ctx → ℕ → Result (Option NodePart) Fault → Type 0
 ReadsBlockNode t n ctx at = ReadsNode t (BlockNodePart t DEPTH n ctx at) at
 

@@ -1,4 +1,4 @@
--- A collection that begins with its first entry, and an entry of one whose frame is not on the stack.
+-- A collection that begins with its first entry, and an entry of a collection whose frame is not on the stack.
 use Rattle.std.specs.Prelude.{◌≡◌, ℕ, ◌+◌, false, List, Option, Some}
 use Rattle.std.specs.Str.{IsCharBoundary}
 use Rattle.yf_events.specs.declared.part.Part.{Part}
@@ -10,17 +10,17 @@ use Rattle.yf_block.specs.declared.frame.BlockCursor.{BlockCursor}
 use Rattle.yf_block.specs.BlockStepTied.{AtEntry}
 use Rattle.yf_block.specs.InlineTied.{AtStart, EntrySignAt}
 
--- the sign of its first entry is there, and a character after a `-` begins after it
+-- the sign of the collection's first entry is at the offset, and after a `-` comes a boundary
 abbrev pub SignOf : CollectionKind → List ℕ → ℕ → Type 0
 SignOf Sequence t p = DashAt t p × IsCharBoundary t (p + 1)
 SignOf Mapping t p = EntrySignAt t p
 
--- the column at which one may begin
+-- the column at which a collection of the kind may begin
 abbrev pub column_of : CollectionKind → Columns → Option ℕ
 column_of Sequence cols = cols.sequence
 column_of Mapping cols = cols.mapping
 
--- one may begin at the column
+-- a collection of the kind may begin at the column
 pub record AtOpening (kind : CollectionKind) (column : ℕ) (t : List ℕ) (d : ℕ) (root : BlockTask) (before : Part) (frames : List Frame) (p : ℕ) (progress : BlockCursor) (part : Part) : Type 0 where
   pub cols : Columns
   pub column_is : column_of kind cols ≡ Some column

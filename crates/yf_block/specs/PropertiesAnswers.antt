@@ -1,5 +1,5 @@
--- What the readers of the properties of a line give, in terms of the recursive reader: the properties, what is after them, and
--- what becomes of those of lines before.
+-- The results of the readers of a line's properties, by the recursive reader: the properties, the text after them,
+-- and the fate of those of earlier lines.
 use Rattle.std.specs.Prelude.{◌≡◌, ℕ, pos, true, false, List, [], Option, Some, None, MatchOption}
 use Rattle.yf_chars.specs.declared.context.Ctx.TheVariants.{FlowKey}
 use Rattle.yf_chars.specs.Text.{code}
@@ -24,7 +24,8 @@ pub record LineProperties (t : List ℕ) (p : ℕ) (held : PlacedProperties) : T
   pub tied : PropertiesTied (line_held value p held.end) held
   pub no_comments : value.comments ≡ []
 
--- the place of what is after properties that end at g: after white space, or the `:` of an empty key; and no further property
+-- the offset of the text after properties that end at g: after white space, or at the `:` of an empty key; no further
+-- property is there
 pub record PlaceAfter (t : List ℕ) (g p : ℕ) : Type 0 where
   pub whites : List ℕ
   pub run : Many t is_white g p whites
@@ -32,16 +33,16 @@ pub record PlaceAfter (t : List ℕ) (g p : ℕ) : Type 0 where
   pub beside : p ≡ g → SignAt t 58 p
   pub no_property : begins_properties (code t p) ≡ false
 
--- or something else is beside them, or a further property
+-- something else is beside the properties, or a further property comes after them
 pub data NoPlaceAfter (t : List ℕ) (g : ℕ) : Type 0 where
   other_beside : is_white (code t g) ≡ false → (SignAt t 58 g → ⊥) → NoPlaceAfter t g
   property_after : {p : ℕ} {w : List ℕ} → Many t is_white g p w → is_white (code t p) ≡ false → begins_properties (code t p) ≡ true → NoPlaceAfter t g
 
--- two things that may be missing are both there
+-- two optional values are both present
 pub data BothThere {A : Type 0} : Option A → Option A → Type 0 where
   both_there : {a b : A} → BothThere (Some a) (Some b)
 
--- properties of a line after those of lines before, as the properties of one node
+-- properties of a line after those of earlier lines, as the properties of one node
 pub record BothProperties (h : HeldValue) (q : PropertiesValue) (g : ℕ) (held : PlacedProperties) : Type 0 where
   pub apart : Clash h q → ⊥
   pub value : HeldValue
@@ -51,7 +52,7 @@ pub record BothProperties (h : HeldValue) (q : PropertiesValue) (g : ℕ) (held 
 abbrev pub JoinedTo : HeldValue → PropertiesValue → ℕ → Option PlacedProperties → Type 0
 JoinedTo h q g result = MatchOption result (Clash h q) (BothProperties h q g)
 
--- what is ahead holds those of lines before, or there are none
+-- the state ahead holds the properties of earlier lines, or there are none
 pub record HoldsProperties (a : Ahead) (held : PlacedProperties) : Type 0 where
   pub value : HeldValue
   pub is : a ≡ Props value
@@ -69,7 +70,7 @@ pub record JoinedAhead (a : Ahead) (q : PropertiesValue) (p g : ℕ) (held : Pla
 abbrev pub JoinedAfter : Ahead → PropertiesValue → ℕ → ℕ → Option PlacedProperties → Type 0
 JoinedAfter a q p g result = MatchOption result (Apart a q) (JoinedAhead a q p g)
 
--- what is known of a node with properties, or of one at an offset that has perhaps none
+-- the lead of a node with properties, or of one at an offset that may have none
 abbrev pub held_lead : PlacedProperties → Option TheEntry.Entry → Lead
 held_lead held entry = record { start = held.start; props = held.props; tag_offset = held.tag_offset; entry = entry }
 

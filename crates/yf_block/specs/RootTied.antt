@@ -1,4 +1,4 @@
--- What is known where the reader of block nodes begins, before it has read anything.
+-- The state in which the reader of block nodes begins, before it has read anything.
 use Rattle.std.specs.Prelude.{◌≡◌, ℕ, ◌+◌, ◌^◌, ◌≤◌, ℤ, pos, ◌+ℤ◌, false, List, [], None}
 use Rattle.yf_chars.specs.declared.context.Ctx.{Ctx}
 use Rattle.yf_events.specs.declared.part.Part.{Part}

@@ -1,4 +1,4 @@
--- What a run of the reader of block nodes gives, from its first step until it stops, in terms of the recursive reader.
+-- The results of a run of the reader of block nodes, from its first step until it stops, by the recursive reader.
 use Rattle.std.specs.Prelude.{◌≡◌, ℕ, ◌+◌, ◌<◌, ◌≤◌, ◌^◌, ℤ, pos, ◌+ℤ◌, Bool, true, false, List, [], Option, Some}
 use Rattle.yf_chars.specs.declared.context.Ctx.{Ctx}
 use Rattle.yf_lines.specs.Basic.{is_block}
@@ -26,19 +26,19 @@ StopCounted limit total (Done p) = Unit {0}
 StopCounted limit total (Failed p) = Unit {0}
 StopCounted limit total (TooDeep p) = limit < total
 
--- whether the limit of open collections is passed
+-- whether the text opens more collections than the limit
 abbrev pub is_too_deep : Stop → Bool
 is_too_deep (Done p) = false
 is_too_deep (Failed p) = false
 is_too_deep (TooDeep p) = true
 
--- what is told where no node ends
+-- the outcome if no node ends
 abbrev pub StopsAs : Stop → BlockOutcome → Type 0
 StopsAs (Done p) o = o ≡ NoNode p
 StopsAs (Failed p) o = o ≡ NoNode p
 StopsAs (TooDeep p) o = o ≡ TooDeepHere p
 
--- the outermost node has been read, and ends there
+-- the outermost node has been read and ends there
 pub record RunDone (t : List ℕ) (d : ℕ) (root : BlockTask) (before : Part) (p : ℕ) (r : Stopped) (part : Part) : Type 0 where
   pub answer : ParsedNode
   pub halt : Option ParsedNode
@@ -64,7 +64,7 @@ StopGives t d root before (TooDeep p) r part = RunBroken t d root r
 pub record RunTied (t : List ℕ) (d : ℕ) (root : BlockTask) (before : Part) (r : Stopped) (part : Part) : Type 0 where
   pub gives : StopGives t d root before r.stop r part
 
--- what is read: a node in an indentation and a context of block nodes
+-- the root: a node in an indentation and a context of block nodes
 pub record ReadRoot (t : List ℕ) (root : Root) (n : ℤ) (c : Ctx) : Type 0 where
   pub text : TextTied t
   pub block : is_block c ≡ true
@@ -72,7 +72,7 @@ pub record ReadRoot (t : List ℕ) (root : Root) (n : ℤ) (c : Ctx) : Type 0 wh
   pub narrow : root.least ≤ 2 ^ 30 + 1
   pub out : root.out ≡ is_out c
 
--- the last place at which all open nodes may end
+-- the last offset at which all open nodes may end
 pub record HaltAt (t : List ℕ) (d : ℕ) (root : BlockTask) (end : ℕ) : Type 0 where
   pub found : ParsedNode
   pub halts : Halts t d [] root (Some found)

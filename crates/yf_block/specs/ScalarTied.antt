@@ -1,4 +1,5 @@
--- A block scalar as a node: its header is where the node is awaited; and its lines after the header, as the reader has them.
+-- A block scalar as a node: its header at the offset of the awaited node, and its lines after the header as the
+-- reader has them.
 use Rattle.std.specs.Prelude.{◌≡◌, ℕ, ◌+◌, ◌^◌, ◌≤◌, ℤ, pos, ◌+ℤ◌, List, ◌++◌, length, Option}
 use Rattle.yf_chars.specs.Chain.{Chosen}
 use Rattle.yf_lines.specs.Lines.{NoBreakIn}
@@ -39,11 +40,11 @@ pub record AtScalar (t : List ℕ) (d : ℕ) (root : BlockTask) (before : Part) 
   pub stack : StackTied (length before.events) layers frames progress halt
   pub read : ReadTied t before (all_written layers ⊕ only (comments ++ ahead_comments ahead) 0) progress part
 
--- with the indentation that is awaited
+-- with the indentation of the awaited node
 abbrev pub AtHeader : Lead → List ℕ → ℕ → BlockTask → Part → List Frame → ℕ → BlockCursor → Part → Type 0
 AtHeader lead t d root before frames p progress part = AtScalar t d root before frames lead progress.wanted.least p progress part
 
--- its header is read, which ends at the offset, and so are its lines
+-- its header has been read up to the offset, and so have its lines
 pub record AtBody (lead : Lead) (block : BlockText) (t : List ℕ) (d : ℕ) (root : BlockTask) (before : Part) (frames : List Frame) (at : ℕ) (progress : BlockCursor) (part : Part) : Type 0 where
   pub least : ℕ
   pub place : ℕ
@@ -57,14 +58,14 @@ pub record AtBody (lead : Lead) (block : BlockText) (t : List ℕ) (d : ℕ) (ro
   pub comments : part.comments ≡ earlier.comments ++ head.comments
   pub escapes : part.escapes ≡ earlier.escapes
 
--- so many lines are left of a walk over lines, which is within the first of them
+-- a walk over lines has this many lines left, and is within the first of them
 pub record LinesLeft (t : List ℕ) (left place end : ℕ) : Type 0 where
   pub start : ℕ
   pub line : NoBreakIn t start place
   pub begins : left ≡ 0 → start ≡ place
   pub rest : LinesBetween t left start end
 
--- the event of a scalar of which so much is known, up to an offset
+-- the event of a scalar with its lead and its lines, up to an offset
 abbrev pub scalar_event : Lead → BlockText → ℕ → EventInText
 scalar_event lead block end = record {
   event = scalar_node (props_value lead.props) (style_of block.header.folded) (content_of block.header block.lines block.tail block.open_end);

@@ -1,5 +1,5 @@
--- What every step of the reader promises that is begun at an offset, where its task is: what comes next is tied to the recursive reader,
--- less of the text is left, and no more collections are open than openers were read.
+-- The promises of every step of the reader that begins at an offset with its task: the next step is tied to the
+-- recursive reader, less of the text is left, and at most as many collections are open as openers were read.
 use Rattle.std.specs.Prelude.{◌≡◌, ℕ, ◌^◌, ◌<◌, List, length, reverse, Result, IfOk}
 use Rattle.std.specs.Str.{IsUtf8}
 use Rattle.std.specs.declared.alloc.AllocError.{AllocError}

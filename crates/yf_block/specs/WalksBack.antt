@@ -1,12 +1,12 @@
--- What `is_blank_after` answers, for all arguments: its walk step by step, in the order in which it looks.
+-- The results of `is_blank_after`, for all arguments: its walk step by step, in the order in which it looks.
 use Rattle.std.specs.Prelude.{◌≡◌, ◌≢◌, ℕ, ◌-◌, ◌<◌, ◌≤◌, Bool, true, false, List}
 use Rattle.yf_chars.specs.Class.{is_white}
 use Rattle.yf_chars.specs.Signs.{BYTE_ORDER_MARK}
 use Rattle.yf_chars.specs.Text.{code}
 use Rattle.yf_lines.specs.Basic.{Break}
 
--- from the place back; the first flag says whether white space alone is between the place and a break that was passed, and
--- the second is the answer
+-- from the offset back; the first flag says whether only white space is between the offset and a break that was
+-- passed, and the second is the result
 pub data WalksBack (t : List ℕ) (floor : ℕ) : ℕ → Bool → Bool → Type 0 where
   floor_reached : {j : ℕ} {blank : Bool} → j ≤ floor → WalksBack t floor j blank blank
   white_passed : {j : ℕ} {blank answer : Bool} → floor < j → is_white (code t (j - 1)) ≡ true

@@ -18,17 +18,18 @@ use yf_lines::fault::Fault;
 use yf_lines::source_text::Src;
 use yf_lines::text::ReadResult;
 
-/// Reads a block node (s-l+block-node(n,c), production 196) from a byte offset on: its events and comments, each with its
-/// place, and the offset after it. `n` is the indentation of the collection around it, from -1 to 2^30.
+/// Reads a block node (s-l+block-node(n,c), production 196) that begins at a byte offset.
 ///
-/// The node is the longest that is there: where the text goes wrong later, it ends at the last place at which all open
-/// nodes may end. `None` where no block node begins there in that context. In other contexts than block-out and block-in
-/// there is none. Texts are of 1 GiB at most, and no column of such a text is 2^30 or more.
+/// Returns its events and comments, each with its offsets, and the offset after it. `n` is the indentation of the
+/// collection around it, from -1 to 2^30. The node is the longest one: if the text goes wrong later, the node ends at
+/// the last offset at which all open nodes may end. Returns `None` if no block node begins there in that context, and
+/// in all contexts but block-out and block-in. A text has at most 1 GiB, and its columns are below 2^30.
 ///
 /// # Errors
 ///
-/// `Fault::TooDeep` where nothing is found and the nodes there open more than `DEPTH` collections at once, a single pair
-/// counted as one; `Fault::EscapeValue` at the first escape in the node that is no character; `Fault::Memory`.
+/// Fails with `Fault::TooDeep` if it finds nothing and the nodes open more than `DEPTH` collections at once (a single
+/// pair counts as one), with `Fault::EscapeValue` at the first escape in the node that is not a character, and with
+/// `Fault::Memory`.
 pub fn read_block_node<'a>(
     alloc: Global,
     src: &Src<'a>,
@@ -52,11 +53,11 @@ pub fn read_block_node<'a>(
     }
 }
 
-/// Reads a block node as `read_block_node` does, but goes on past an escape that is no character.
+/// Reads a block node as `read_block_node` does, but goes on past an escape that is not a character.
 ///
 /// # Errors
 ///
-/// `Fault::TooDeep` and `Fault::Memory`, as `read_block_node` does.
+/// Fails with `Fault::TooDeep` and `Fault::Memory`, as `read_block_node` does.
 pub fn scan_block_node<'a>(
     alloc: Global,
     src: &Src<'a>,

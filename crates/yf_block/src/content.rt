@@ -1,4 +1,4 @@
-//! What a node has on one line: the sign of an entry, properties, a block scalar, or a flow node.
+//! The parts of a node on one line: the sign of an entry, properties, a block scalar, or a flow node.
 ghost use Rattle.std.specs.Prelude.{◌≡◌, ◌+◌, Some, MatchBool, ℕ, MatchOption};
 ghost use Rattle.std.specs.Str.{IsCharBoundary};
 ghost use Rattle.yf_chars.specs.Boundary.{BoundaryFrom};
@@ -30,7 +30,7 @@ use yf_flow::node::Lead;
 use yf_flow::nodes::Ending;
 use yf_lines::basic::skip_whites;
 
-/// A place of a line at which the text of a node begins.
+/// The offset on a line at which the text of a node begins.
 #[derive(Clone, Copy)]
 pub(crate) struct NodeStart {
     pub(crate) at: usize,
@@ -38,37 +38,37 @@ pub(crate) struct NodeStart {
     pub(crate) column: Option<usize>,
 }
 
-/// What is after the properties of a line.
+/// The text after the properties of a line.
 #[derive(Clone, Copy)]
 pub(crate) struct AfterProperties<'a> {
     pub(crate) at: usize,
     /// The properties of the line.
     pub(crate) inner: Option<PlacedProperties<'a>>,
-    /// Where the text of the node begins.
+    /// The start of the node's text.
     pub(crate) node_start: NodeStart,
 }
 
-/// To which node the properties belong that are on lines before.
+/// The owner of properties on earlier lines.
 #[derive(Clone, Copy)]
 pub(crate) enum Belonging {
-    /// There are none.
+    /// No earlier line has properties.
     Nothing,
-    /// To the node on the line, if it is no key.
+    /// They belong to the node on the line, unless it is a key.
     Joined,
-    /// They cannot be those of the node on the line, so it must be the first key of a mapping.
+    /// They can't belong to the node on the line, so it must be the first key of a mapping.
     Apart,
 }
 
-/// What is known of a node before its text.
+/// The reader's knowledge of a node before its text.
 #[derive(Clone, Copy)]
 pub(crate) struct NodeFacts<'a> {
     pub(crate) lead: Lead<'a>,
     pub(crate) belonging: Belonging,
-    /// How much had been read before the node.
+    /// The counts of the part before the node.
     pub(crate) before: Counts,
 }
 
-/// Whether the properties of lines before cannot be those of the node on the line.
+/// Returns whether the properties of earlier lines can't belong to the node on the line.
 pub(crate) fn is_apart(belonging: Belonging) -> bool
     ensures { MatchBool result (belonging ≡ Belonging.Apart) (belonging ≡ Belonging.Apart → ⊥) }
 {
@@ -79,7 +79,7 @@ pub(crate) fn is_apart(belonging: Belonging) -> bool
 }
 
 impl<'a> BlockReader<'a> {
-    /// Begins the content of a node at a place of a line.
+    /// Begins the content of a node on a line.
     #[inline(always)]
     pub(crate) fn take_content(
         &mut self,
@@ -110,7 +110,8 @@ impl<'a> BlockReader<'a> {
         }
     }
 
-    // The same where its first character is that of a property. Kept apart for speed: row `take_held_content` of docs/PERF.md.
+    // Like `take_content`, for content that begins with a property. Kept apart for speed: row `take_held_content` of
+    // docs/PERF.md.
     #[inline(never)]
     fn take_held_content(
         &mut self,
@@ -141,7 +142,8 @@ impl<'a> BlockReader<'a> {
         }
     }
 
-    // A flow node, a key or a block scalar, after the properties of its line. Few nodes have properties on lines before.
+    // Takes a flow node, a key or a block scalar after the properties of its line. Few nodes have properties on
+    // earlier lines.
     #[inline(always)]
     fn take_after_properties(
         &mut self,
@@ -162,7 +164,8 @@ impl<'a> BlockReader<'a> {
         }
     }
 
-    // The same where properties are on lines before. Kept apart for speed: row `take_after_lines` of docs/PERF.md.
+    // Like `take_after_properties`, with properties on earlier lines. Kept apart for speed: row `take_after_lines` of
+    // docs/PERF.md.
     #[inline(never)]
     fn take_after_lines(
         &mut self,
@@ -186,7 +189,7 @@ impl<'a> BlockReader<'a> {
         self.take_text(scope, after, &facts)
     }
 
-    // The text of a node or key of which the facts are known.
+    // Takes the text of a node or key with known facts.
     #[inline(always)]
     fn take_text(
         &mut self,
@@ -225,8 +228,8 @@ impl<'a> BlockReader<'a> {
         }
     }
 
-    // What is after the properties of a line: nothing, so that the node is on a later one, or the content of a
-    // node or key.
+    // Takes the text after the properties of a line: nothing if the node is on a later line, or the content of a node
+    // or key.
     #[inline(never)]
     fn take_propertied(
         &mut self,
@@ -265,7 +268,7 @@ impl<'a> BlockReader<'a> {
     }
 }
 
-// The column of a mapping whose first entry begins there with its `?` or its `:`.
+// Returns the column of a mapping if its first entry begins there with a `?` or a `:`.
 fn signed_column(text: &str, node_start: NodeStart) -> Option<usize>
     ensures { MatchOption result ((m : ℕ) → node_start.column ≡ Some m → EntrySignAt text.now (node_start.at) → ⊥)
         (λ m. (node_start.column ≡ Some m) × EntrySignAt text.now (node_start.at)) }
@@ -281,8 +284,8 @@ fn signed_column(text: &str, node_start: NodeStart) -> Option<usize>
     }
 }
 
-// What is known of the node after the properties of a line, as long as it is not known whether it is a key, where none are on
-// lines before.
+// Returns the facts about a node after the properties of its line, before it is known to be a key. No earlier line
+// has properties.
 #[inline(always)]
 fn facts_alone<'a>(
     after: &AfterProperties<'a>,
@@ -300,7 +303,7 @@ fn facts_alone<'a>(
     }
 }
 
-// The same where properties are on lines before.
+// Like `facts_alone`, with properties on earlier lines.
 #[inline(never)]
 fn facts_with_outer<'a>(
     text: &str,
@@ -326,7 +329,7 @@ fn facts_with_outer<'a>(
     }
 }
 
-// Of a node that has all properties, if it is no key.
+// Returns the facts about a node that has all properties, unless it is a key.
 fn joined_facts<'a>(
     properties: PlacedProperties<'a>,
     entry: Option<Entry>,
@@ -343,7 +346,7 @@ fn joined_facts<'a>(
     }
 }
 
-// Of a node that has those of its line alone.
+// Returns the facts about a node that has only the properties of its line.
 fn apart_facts<'a>(
     after: &AfterProperties<'a>,
     entry: Option<Entry>,

@@ -36,15 +36,15 @@ use yf_flow::node::{Lead, empty_node};
 use yf_flow::nodes::Ending;
 use yf_lines::basic::skip_whites;
 
-// Where the text of an implicit key begins.
+// The start of the text of an implicit key.
 #[derive(Clone, Copy)]
 enum KeyText {
     At(usize),
-    // None begins after its properties; reading went wrong at the offset.
+    // No text begins after its properties; reading went wrong at the offset.
     Nowhere(usize),
 }
 
-/// The entry that begins at an offset.
+/// Returns the entry that begins at an offset.
 pub(crate) fn entry_at(text: &str, floor: usize, start: usize, colon: Option<usize>) -> Entry
     ensures start { result.start ≡ start }
     ensures colon { result.colon ≡ colon }
@@ -58,7 +58,7 @@ pub(crate) fn entry_at(text: &str, floor: usize, start: usize, colon: Option<usi
     }
 }
 
-/// The event that begins a block collection as the awaited node. Where the collection ends is noted once it has been read.
+/// Returns the event that begins a block collection as the awaited node. The collection's end is set later.
 pub(crate) fn collection_start<'a>(
     alloc: Global,
     kind: CollectionKind,
@@ -70,7 +70,7 @@ pub(crate) fn collection_start<'a>(
     start_with(alloc, kind, at, lead_of(at, wanted.outer, wanted.entry))
 }
 
-/// The same of a node of which that is known.
+/// Like `collection_start`, for a node with a known lead.
 #[inline(always)]
 pub(crate) fn start_with<'a>(
     alloc: Global,
@@ -94,8 +94,8 @@ pub(crate) fn start_with<'a>(
 }
 
 impl<'a> BlockReader<'a> {
-    /// Opens the collection whose first entry begins at the place with its sign, `-`, `?` or `:` (l+block-sequence,
-    /// production 183; l+block-mapping, production 187; in their compact forms productions 186 and 195).
+    /// Opens the collection whose first entry begins at the offset with its sign: `-`, `?` or `:` (l+block-sequence,
+    /// production 183; l+block-mapping, production 187; compact forms: productions 186 and 195).
     #[inline(never)]
     pub(crate) fn open_collection(
         &mut self,
@@ -120,7 +120,7 @@ impl<'a> BlockReader<'a> {
         }
     }
 
-    /// The entry of a sequence whose `-` is there.
+    /// Takes the entry of a sequence at its `-`.
     #[inline(always)]
     pub(crate) fn take_item(
         &mut self,
@@ -139,7 +139,7 @@ impl<'a> BlockReader<'a> {
         Ok(await_node(at, true, false, frame.column, Some(entry), progress))
     }
 
-    /// The entry of a mapping that begins there (ns-l-block-map-entry, production 188).
+    /// Takes the entry of a mapping that begins there (ns-l-block-map-entry, production 188).
     pub(crate) fn take_entry(
         &mut self,
         scope: BlockContext<'a>,
@@ -177,7 +177,8 @@ impl<'a> BlockReader<'a> {
         self.take_key(scope, frame.column, entry)
     }
 
-    /// An implicit key of an open mapping (ns-s-block-map-implicit-key, production 193), from its properties on.
+    /// Takes an implicit key of an open mapping (ns-s-block-map-implicit-key, production 193), from its properties
+    /// on.
     #[inline(always)]
     pub(crate) fn take_key(
         &mut self,
@@ -194,7 +195,8 @@ impl<'a> BlockReader<'a> {
         self.take_key_after(scope, column, key, &None)
     }
 
-    // The same where its first character is that of a property. Kept apart for speed: row `take_held_key` of docs/PERF.md.
+    // Like `take_key`, for a key that begins with a property. Kept apart for speed: row `take_held_key` of
+    // docs/PERF.md.
     #[inline(never)]
     fn take_held_key(
         &mut self,
@@ -209,7 +211,7 @@ impl<'a> BlockReader<'a> {
         self.take_key_after(scope, column, key, &inner)
     }
 
-    // An implicit key whose properties have been read.
+    // Takes an implicit key after its properties.
     #[inline(always)]
     fn take_key_after(
         &mut self,
@@ -249,7 +251,7 @@ impl<'a> BlockReader<'a> {
     }
 }
 
-/// The node that is awaited after an indicator in a collection of that column.
+/// Awaits a node after an indicator in a collection of that column.
 pub(crate) fn await_node<'a>(
     at: usize,
     compact: bool,
@@ -273,7 +275,7 @@ pub(crate) fn await_node<'a>(
     Step::Node(at + 1)
 }
 
-/// The value after the `:` of an implicit key, or of an empty one.
+/// Awaits the value after the `:` of an implicit or empty key.
 pub(crate) fn await_value<'a>(colon: usize, column: usize, progress: &mut BlockCursor<'a>) -> Step
     requires { colon + 1 < 2 ^ 64 }
     ensures { NodeAwaited colon column false true None progress.old progress.new result }
@@ -281,7 +283,7 @@ pub(crate) fn await_value<'a>(colon: usize, column: usize, progress: &mut BlockC
     await_node(colon, false, true, column, None, progress)
 }
 
-// Where the text of a key is after its properties, whose line goes on.
+// Returns the start of a key's text after its properties; their line goes on.
 #[inline(always)]
 fn key_text<'a>(
     scope: BlockContext<'a>,

@@ -1,4 +1,4 @@
-//! The last place at which all open nodes may end: what the reader falls back on where the text goes wrong later.
+//! The last offset at which all open nodes may end. The reader falls back on it if the text goes wrong later.
 ghost use Rattle.std.specs.Prelude.{◌≡◌, ℕ, MatchBool, length, reverse, take};
 ghost use Rattle.std.specs.Str.{IsCharBoundary};
 ghost use Rattle.yf_block.specs.AwaitedColons.{AwaitedColon, AwaitsAt};
@@ -10,7 +10,7 @@ use crate::frame::{BlockCursor, Frames};
 use crate::look::{entry_place, is_sign_at, last_line_start};
 use yf_events::part::Part;
 
-/// How much of a part has been read.
+/// The lengths of a part's lists at some moment.
 #[derive(Clone, Copy)]
 pub(crate) struct Counts {
     pub(crate) events: usize,
@@ -31,7 +31,7 @@ impl Counts {
         }
     }
 
-    /// Cuts a part back to what had been read of it.
+    /// Cuts a part back to these lengths.
     pub(crate) fn cut(self, part: &mut Part)
         ensures events { part.new.events ≡ take self.events part.old.events }
         ensures comments { part.new.comments ≡ take self.comments part.old.comments }
@@ -43,7 +43,7 @@ impl Counts {
     }
 }
 
-// Whether a node that is awaited may be empty: the outermost one has properties at least.
+// Returns whether an awaited node may be empty. The outermost one may not, unless it has properties.
 fn may_be_empty(progress: &BlockCursor, frames: &Frames) -> bool
     ensures { MatchBool result (IsOutermost progress.now.wanted.outer (reverse frames.now.items) → ⊥)
         (IsOutermost progress.now.wanted.outer (reverse frames.now.items)) }
@@ -54,8 +54,8 @@ fn may_be_empty(progress: &BlockCursor, frames: &Frames) -> bool
     frames.len() > 0
 }
 
-// Whether the line at the offset has the `:` of an entry with a `?` that is open: the value of that entry may not be taken
-// to be empty before it. So many of the open collections await one.
+// Returns whether the line at the offset has the `:` of an open entry with a `?`. If so, the value of that entry may
+// not be taken as empty before it. `colons` is the number of open collections that await one.
 fn value_follows(text: &str, at: usize, colons: usize, frames: &Frames) -> bool
     requires { IsCharBoundary text.now at }
     ensures { MatchBool result (AwaitedColon text.now at (reverse frames.now.items))
@@ -76,7 +76,7 @@ fn value_follows(text: &str, at: usize, colons: usize, frames: &Frames) -> bool
     }
 }
 
-// Whether an open mapping awaits a `:` at the column.
+// Returns whether an open mapping awaits a `:` at the column.
 fn awaits_colon_at(frames: &Frames, column: usize) -> bool
     ensures { MatchBool result (AwaitsAt column (reverse frames.now.items)) (AwaitsAt column (reverse frames.now.items) → ⊥) }
 {
@@ -97,7 +97,7 @@ fn awaits_colon_at(frames: &Frames, column: usize) -> bool
     false
 }
 
-/// Notes that the node that is awaited at a line may be empty, or have its properties alone.
+/// Notes that the node awaited at a line may be empty, or have only its properties.
 pub(crate) fn note_empty(text: &str, at: usize, progress: &mut BlockCursor, frames: &Frames)
     requires place { IsCharBoundary text.now at }
     requires progress { ProgressAt text.now progress.old }
@@ -120,7 +120,7 @@ pub(crate) fn note_empty(text: &str, at: usize, progress: &mut BlockCursor, fram
     progress.halt = Some(at);
 }
 
-/// Notes that all may end at the line after a node, which ends at `from`. Of a plain scalar it is known where it begins.
+/// Notes that all nodes may end at the line after a node that ends at `from`. `plain` is the start of a plain scalar.
 #[inline(always)]
 pub(crate) fn note_node(
     text: &str,
@@ -149,7 +149,7 @@ pub(crate) fn note_node(
     progress.halt = Some(at);
 }
 
-/// Notes that all may end before the last line of a plain scalar, if it has several. It is known where it begins and ends.
+/// Notes that all nodes may end before the last line of a plain scalar with several lines. `plain` is its start.
 #[inline(never)]
 pub(crate) fn note_shorter(text: &str, plain: Option<usize>, end: usize, progress: &mut BlockCursor)
     requires plain { MayBoundary text.now plain }

@@ -1,4 +1,4 @@
-//! What is on a line after properties, or where there are none: a flow node or an alias, perhaps a mapping's first key.
+//! Flow nodes, aliases and first keys of mappings on a line, with or without properties before them.
 ghost use Rattle.std.specs.Prelude.{◌≡◌, ℕ, ℤ, ◌+◌, ◌^◌, ◌<◌, ◌≤◌, ◌≤ℤ◌, pos, false, None, IfOk, IfSome, MatchOption, length, true, List, ◌∷◌, ◌++◌, Some, MatchBool};
 ghost use Rattle.std.specs.List.{All};
 ghost use Rattle.std.specs.Str.{IsCharBoundary, IsUtf8};
@@ -37,7 +37,7 @@ use yf_lines::basic::skip_whites;
 use yf_lines::text::Text;
 use yf_props::alias::alias_node;
 
-/// Reads what is there: nothing before a `:`, an alias, which has no properties, or the content of a flow node. `depth`
+/// Reads an empty key before its `:`, an alias (without properties), or the content of a flow node. `depth`
 /// collections are open.
 #[inline(always)]
 pub(crate) fn read_inline<'a>(
@@ -84,7 +84,7 @@ pub(crate) fn read_inline<'a>(
     }
 }
 
-// The offset after the properties that are an empty key, whose `:` is there.
+// Returns the offset after properties that are an empty key, if its `:` is at the offset.
 fn empty_key_end(text: &str, at: usize, inner: &Option<PlacedProperties>) -> Option<usize>
     requires { PropertiesBefore text.now at inner.now }
     ensures reads { MatchOption result (NoEmptyKey text.now at inner.now) (EmptyKeyAt text.now at inner.now) }
@@ -137,10 +137,10 @@ fn inline_end(end: usize, depth: usize) -> Ending
     })
 }
 
-// One more than the largest indentation of a collection, which is more than any text of 1 GiB has columns.
+// One more than the largest indentation of a collection. No text of 1 GiB has as many columns.
 const WIDEST: usize = (1 << 30) + 1;
 
-/// The indentation of that many spaces as a number; past 2^30 + 1 it is 2^30 + 1.
+/// Returns the indentation of that many spaces as a number, at most 2^30 + 1.
 pub(crate) fn flow_indentation(least: usize) -> i32
     ensures same { least ≤ 2 ^ 30 + 1 → result ≡ pos least }
     ensures upper { result ≤ℤ pos (2 ^ 30 + 1) }
@@ -150,7 +150,7 @@ pub(crate) fn flow_indentation(least: usize) -> i32
 }
 
 impl<'a> BlockReader<'a> {
-    /// After a flow node on its line: it is the first key of a mapping, or the end of the line follows.
+    /// Goes on after a flow node on its line: the node is the first key of a mapping, or the line ends.
     #[inline(always)]
     pub(crate) fn finish_inline(
         &mut self,
@@ -216,7 +216,7 @@ impl<'a> BlockReader<'a> {
         Ok(await_value(colon, column, &mut self.progress))
     }
 
-    // The end of the line after a flow node that is no key. Of a plain scalar it is known where it begins.
+    // Reads the end of the line after a flow node that is not a key. `plain` is the start of a plain scalar.
     #[inline(always)]
     fn end_inline(
         &mut self,
@@ -243,7 +243,7 @@ impl<'a> BlockReader<'a> {
     }
 }
 
-// The column of a mapping that begins there with a key whose `:` is at the other place.
+// Returns the column of a mapping if a key of it begins there and ends at the `:`.
 #[inline(always)]
 fn keyed_column(text: &str, node_start: NodeStart, colon: usize) -> Option<usize>
     requires { IsCharBoundary text.now node_start.at }
@@ -262,7 +262,7 @@ fn keyed_column(text: &str, node_start: NodeStart, colon: usize) -> Option<usize
     }
 }
 
-// Whether the properties of lines before are those of the node, if it is no key.
+// Returns whether the properties of earlier lines belong to the node, unless it is a key.
 fn is_joined(belonging: Belonging) -> bool
     ensures { MatchBool result (belonging ≡ Belonging.Joined) (belonging ≡ Belonging.Joined → ⊥) }
 {
@@ -272,7 +272,7 @@ fn is_joined(belonging: Belonging) -> bool
     }
 }
 
-// Of a node without quotes or brackets, the place where it begins.
+// Returns the start of a node without quotes or brackets.
 fn plain_place(node: Node, at: usize) -> Option<usize>
     ensures other { node.json ≡ true → result ≡ None }
     ensures plain { node.json ≡ false → result ≡ Some at }
@@ -280,7 +280,7 @@ fn plain_place(node: Node, at: usize) -> Option<usize>
     if node.json { None } else { Some(at) }
 }
 
-// Puts a mapping's beginning before its first key. Properties of lines before are its own.
+// Puts the event that begins a mapping before its first key. The mapping has the properties of earlier lines.
 #[inline(always)]
 fn begin_mapping<'a>(
     scope: BlockContext<'a>,
@@ -314,7 +314,7 @@ fn begin_mapping<'a>(
     }
 }
 
-// The same where properties are on lines before: a key read with them is read again.
+// Like `begin_mapping`, with properties on earlier lines: a key read with them is read again.
 // Kept apart for speed: row `begin_held_mapping` of docs/PERF.md.
 #[inline(never)]
 fn begin_held_mapping<'a>(
@@ -356,7 +356,8 @@ fn begin_held_mapping<'a>(
     put_before(scope.alloc, facts.before.events, at, lead, entry, part)
 }
 
-// Puts the beginning of a mapping before the event at an index, which begins that entry. Where there is none, nothing is changed.
+// Puts the event that begins a mapping before the event at an index, which begins the entry. Changes nothing if the
+// index has no event.
 #[inline(always)]
 fn put_before<'a>(
     alloc: Global,

@@ -1,5 +1,5 @@
-//! Block nodes (YAML 1.2.2, chapter 8): block collections, block scalars, and flow nodes in block collections, read in one
-//! forward pass.
+//! Block nodes (YAML 1.2.2, chapter 8): block collections, block scalars, and flow nodes in block collections, read
+//! in one forward pass.
 #![tactic(auto)]
 
 pub mod block;

@@ -1,4 +1,4 @@
-//! Nodes where they are awaited: after an indicator, or at the start of a line (s-l+block-node, production 196).
+//! Awaited nodes: after an indicator, or at the start of a line (s-l+block-node, production 196).
 ghost use Rattle.std.specs.Prelude.{◌≡◌, ◌<◌, ◌≤◌, ℕ, IfOk, IfSome, ◌+◌, Some, true, false, ◌⊎◌, MatchBool, MatchOption};
 ghost use Rattle.std.specs.Str.{IsCharBoundary};
 ghost use Rattle.yf_chars.specs.Chain.{Chosen, Stuck};
@@ -44,7 +44,7 @@ pub(crate) fn read_line_end<'a>(
 }
 
 impl<'a> BlockReader<'a> {
-    /// Reads the end of a line, and the comment lines after it, where a node is awaited that may have properties.
+    /// Reads the end of a line and the comment lines after it, before an awaited node that may have properties.
     pub(crate) fn end_line(
         &mut self,
         scope: BlockContext<'a>,
@@ -64,7 +64,7 @@ impl<'a> BlockReader<'a> {
         }
     }
 
-    /// Begins the node that is awaited after an indicator, which ends at the offset.
+    /// Begins the node awaited after an indicator that ends at the offset.
     pub(crate) fn take_node(
         &mut self,
         scope: BlockContext<'a>,
@@ -87,7 +87,7 @@ impl<'a> BlockReader<'a> {
         }
     }
 
-    /// Begins the node that is awaited at the start of a line, if it has anything on that line.
+    /// Begins the node awaited at the start of a line, if it has anything on that line.
     pub(crate) fn take_line(
         &mut self,
         scope: BlockContext<'a>,
@@ -120,7 +120,7 @@ impl<'a> BlockReader<'a> {
         self.take_content(scope, NodeStart { at: place, column })
     }
 
-    // The node that is awaited at a line is empty, or has its properties alone. The outermost one may not be empty.
+    // Ends a node awaited at a line that is empty or has only its properties. The outermost node may not be empty.
     fn end_empty(&mut self, scope: BlockContext<'a>, at: usize) -> Result<Step, AllocError>
         requires { IsReaderReady scope.text.now at self.old }
         ensures { StepPromises AtEmpty CountedAt scope.entry at 1 self.old self.new result }
@@ -150,7 +150,7 @@ impl<'a> BlockReader<'a> {
     }
 }
 
-// The column of a sequence whose `-` is at the place, where a collection may begin at a column.
+// Returns the column of a sequence if its `-` is at the offset.
 fn dashed_column(text: &str, at: usize, column: Option<usize>) -> Option<usize>
     ensures boundary { IfSome result (λ _. IsCharBoundary text.now (at + 1)) }
     ensures dash { MatchOption result ((m : ℕ) → column ≡ Some m → DashAt text.now at → ⊥) (λ m. (column ≡ Some m) × DashAt text.now at) }
@@ -166,8 +166,8 @@ fn dashed_column(text: &str, at: usize, column: Option<usize>) -> Option<usize>
     }
 }
 
-// The column of a collection that may begin on the line of an indicator, which ends at the offset: spaces alone are
-// between.
+// Returns the column of a collection that may begin on the line of an indicator. The indicator ends at `at`, and only
+// spaces are between.
 fn compact_column(text: &str, at: usize, place: usize, wanted: &AwaitedNode) -> Option<usize>
     requires boundary { IsCharBoundary text.now at }
     requires order { at ≤ place }
@@ -182,7 +182,7 @@ fn compact_column(text: &str, at: usize, place: usize, wanted: &AwaitedNode) -> 
     None
 }
 
-// Whether the `-` of a sequence of that column is there, which may be the node that is awaited.
+// Returns whether the awaited node may be a sequence of that column, and its `-` is at the offset.
 fn sequence_begins(text: &str, at: usize, wanted: &AwaitedNode, width: usize) -> bool
     ensures boundary { result ≡ true → IsCharBoundary text.now (at + 1) }
     ensures dash { SequenceBegins text.now at wanted.now width result }
@@ -194,7 +194,7 @@ fn sequence_begins(text: &str, at: usize, wanted: &AwaitedNode, width: usize) ->
     false
 }
 
-// Whether a sequence of that column may be the node that is awaited.
+// Returns whether a sequence of that column may be the awaited node.
 fn may_hold_sequence(wanted: &AwaitedNode, width: usize) -> bool
     ensures { SequenceTied wanted.now width result }
 {
@@ -210,7 +210,7 @@ fn may_hold_sequence(wanted: &AwaitedNode, width: usize) -> bool
     false
 }
 
-// Whether a line is indented as it must be; nothing is asked of the first one.
+// Returns whether a line has the indentation it needs; the first line needs none.
 fn may_begin(progress: &BlockCursor, width: usize) -> bool
     ensures { MatchBool result ((progress.now.wanted.least ≤ width) ⊎ (progress.now.first ≡ true))
         ((width < progress.now.wanted.least) × (progress.now.first ≡ false)) }
@@ -221,7 +221,7 @@ fn may_begin(progress: &BlockCursor, width: usize) -> bool
     progress.first
 }
 
-// The column of a mapping that may begin at the first character of a line, which has so many spaces up to an offset.
+// Returns the column of a mapping that may begin at the first character of a line, after `width` spaces.
 fn line_column(least: usize, width: usize, start: usize, place: usize) -> Option<usize>
     ensures { MatchOption result (place ≡ start → least ≤ width → ⊥) (λ m. (m ≡ width) × (place ≡ start) × (least ≤ width)) }
 {

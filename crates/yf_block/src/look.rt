@@ -1,4 +1,4 @@
-//! Tests of what is at a place of a block node, and walks that read nothing.
+//! Tests at an offset in a block node, and walks that read nothing.
 ghost use Rattle.std.specs.List.{prefix_len};
 ghost use Rattle.std.specs.Prelude.{◌≡◌, ◌≢◌, ◌+◌, ◌-◌, ◌<◌, ◌≤◌, true, false, not, nat_lt, ℕ, IfSome, MatchBool, MatchOption, length, ⊤};
 ghost use Rattle.std.specs.Simd.Lanes.{chunk};
@@ -26,7 +26,7 @@ use yf_lines::basic::{
     mark_ends, next_break, skip_spaces, skip_whites,
 };
 
-/// Whether the `-` of an entry is there (c-l-block-seq-entry, production 184).
+/// Returns whether the `-` of an entry is at the offset (c-l-block-seq-entry, production 184).
 pub(crate) fn is_dash_at(text: &str, at: usize) -> bool
     ensures boundary { result ≡ true → IsCharBoundary text.now (at + 1) }
     ensures cases { MatchBool result (DashAt text.now at) (DashAt text.now at → ⊥) }
@@ -40,7 +40,8 @@ pub(crate) fn is_dash_at(text: &str, at: usize) -> bool
     false
 }
 
-/// Whether that sign of an entry, `?` or `:`, is there, with white, a break or the end of the text after it.
+/// Returns whether the sign of an entry, `?` or `:`, is at the offset, before white space, a break or the end of the
+/// text.
 #[inline(always)]
 pub(crate) fn is_sign_at(text: &str, at: usize, sign: u8) -> bool
     requires { sign < 128 }
@@ -53,7 +54,7 @@ pub(crate) fn is_sign_at(text: &str, at: usize, sign: u8) -> bool
     false
 }
 
-/// Whether an entry begins there with its `?` or its `:`.
+/// Returns whether an entry begins there with its `?` or its `:`.
 #[inline(always)]
 pub(crate) fn is_entry_sign_at(text: &str, at: usize) -> bool
     ensures { MatchBool result (EntrySignAt text.now at) (EntrySignAt text.now at → ⊥) }
@@ -64,7 +65,7 @@ pub(crate) fn is_entry_sign_at(text: &str, at: usize) -> bool
     is_sign_at(text, at, b':')
 }
 
-/// Whether the `:` after an implicit key is there, on the line on which the key starts.
+/// Returns whether the `:` after an implicit key is at the offset, on the line on which the key starts.
 #[inline(always)]
 pub(crate) fn key_ends(text: &str, start: usize, at: usize) -> bool
     requires { IsCharBoundary text.now start }
@@ -80,11 +81,11 @@ pub(crate) fn key_ends(text: &str, start: usize, at: usize) -> bool
     false
 }
 
-// An implicit key may have as many characters, so it may always have as many bytes.
+// The most characters of an implicit key. A key with at most as many bytes is always short enough.
 const SHORT: usize = 1024;
 
-// Whether the bytes between the offsets are all on one line, and no more than a short key has. Where the text ends soon after
-// them, or a tab is among them, it may say no of such bytes too.
+// Returns whether the bytes between the offsets are all on one line, and at most as many as a short key has. May
+// return `false` for such bytes too if the text ends soon after them, or a byte below 14 such as a tab is among them.
 fn is_short_line(text: &str, start: usize, end: usize) -> bool
     requires { IsCharBoundary text.now start }
     ensures { result ≡ true → IsCharBoundary text.now end → KeyLine text.now start end }
@@ -110,7 +111,7 @@ fn is_short_line(text: &str, start: usize, end: usize) -> bool
     true
 }
 
-// How many of the 16 bytes from the offset on are before the first one below 14, as breaks are.
+// Returns how many of the 16 bytes at the offset come before the first byte below 14. Breaks are below 14.
 #[inline(always)]
 fn clear_bytes(bytes: &[u8], at: usize) -> usize
     requires { at + 16 ≤ length bytes.now }
@@ -124,7 +125,7 @@ fn clear_bytes(bytes: &[u8], at: usize) -> usize
     low.trailing_zeros() as usize
 }
 
-/// Whether nothing more is on the line from the offset on; a comment is after a white.
+/// Returns whether nothing more is on the line from the offset on. A comment needs white space before it.
 pub(crate) fn line_ends(text: &str, at: usize, after_white: bool) -> bool
     ensures { MatchBool result (LineEndsAt text.now after_white at) (LineEndsAt text.now after_white at → ⊥) }
 {
@@ -143,7 +144,7 @@ pub(crate) fn line_ends(text: &str, at: usize, after_white: bool) -> bool
     false
 }
 
-/// Whether no line of a node begins there: at the end of the text, a byte order mark or a document marker.
+/// Returns whether no line of a node begins there: at the end of the text, a byte order mark or a document marker.
 #[inline(always)]
 pub fn node_ends(text: &str, at: usize) -> bool
     ensures { MatchBool result (LinesEnd text.now at) (LinesEnd text.now at → ⊥) }
@@ -157,7 +158,7 @@ pub fn node_ends(text: &str, at: usize) -> bool
     is_forbidden_at(text, at)
 }
 
-/// Where the first character other than a space is of the line that begins there, if it can be that of an entry.
+/// Returns the offset of the first character other than a space on the line, if an entry may begin with it.
 #[inline(always)]
 pub(crate) fn entry_place(text: &str, at: usize) -> Option<usize>
     requires { IsCharBoundary text.now at }
@@ -175,8 +176,8 @@ pub(crate) fn entry_place(text: &str, at: usize) -> Option<usize>
     Some(place)
 }
 
-/// Whether, going back from the offset over white space, line breaks and byte order marks, a line of white space alone is met that
-/// begins after the floor, or at it.
+/// Returns whether a walk back from the offset, over white space, line breaks and byte order marks, meets a line of
+/// only white space that begins at or after the floor.
 ///
 /// The walk ends at the first other character, so walks from different entries do not overlap.
 pub fn is_blank_after(text: &str, floor: usize, at: usize) -> bool
@@ -190,8 +191,8 @@ pub fn is_blank_after(text: &str, floor: usize, at: usize) -> bool
     walk_back(text, floor, at)
 }
 
-// Whether after the floor a visible ASCII character is before the offset, and between them spaces alone, or a line feed and
-// then spaces alone.
+// Returns whether a visible ASCII character is before the offset and after the floor, with only spaces between, or a
+// line feed and then only spaces.
 fn follows_text(text: &str, floor: usize, at: usize) -> bool
     ensures { MatchBool result (WalksBack text.now floor at false false) ⊤ }
 {
@@ -209,7 +210,7 @@ fn follows_text(text: &str, floor: usize, at: usize) -> bool
     is_visible(bytes[line - 1])
 }
 
-// Where the spaces begin that are after the floor and end at the offset.
+// Returns the start of the spaces that end at the offset, at or after the floor.
 #[inline(always)]
 fn spaces_start(text: &str, floor: usize, at: usize) -> usize
     requires { at ≤ length text.now }
@@ -227,7 +228,7 @@ fn spaces_start(text: &str, floor: usize, at: usize) -> usize
     place
 }
 
-// Whether the byte is an ASCII character other than a space or a control.
+// Returns whether the byte is an ASCII character other than a space or a control.
 #[inline(always)]
 fn is_visible(byte: u8) -> bool
     ensures { MatchBool result ((32 < byte) × (byte ≤ 126)) ⊤ }
@@ -241,13 +242,13 @@ fn is_visible(byte: u8) -> bool
     true
 }
 
-// Whether a line of white space alone is met going back from the offset.
+// Returns whether a walk back from the offset meets a line of only white space.
 #[inline(never)]
 fn walk_back(text: &str, floor: usize, at: usize) -> bool
     ensures { WalksBack text.now floor at false result }
 {
     let mut place = at;
-    // whether white space alone is between the place and a line break
+    // whether only white space is between the place and a line break
     let mut blank = false;
     'back: while place > floor {
         if is_white_at(text, place - 1) {
@@ -272,7 +273,7 @@ fn walk_back(text: &str, floor: usize, at: usize) -> bool
     blank
 }
 
-// Where the break begins that ends at the offset.
+// Returns the start of the break that ends at the offset.
 fn break_start(text: &str, at: usize) -> usize
     requires { 0 < at }
     ensures earlier { result < at }
@@ -286,7 +287,7 @@ fn break_start(text: &str, at: usize) -> usize
     at.saturating_sub(1)
 }
 
-/// The last place after a line break that begins at the first offset or after it, before the other offset.
+/// Returns the last offset before `end` that is after a line break at or after `from`.
 pub(crate) fn last_line_start(text: &str, from: usize, end: usize) -> Option<usize>
     requires { IsCharBoundary text.now from }
     ensures boundary { IfSome result (λ p. IsCharBoundary text.now p) }
@@ -311,7 +312,7 @@ pub(crate) fn last_line_start(text: &str, from: usize, end: usize) -> Option<usi
     found
 }
 
-/// The offset after so many lines from the start of a line on, or the end of the text.
+/// Returns the offset after `count` lines from the start of a line, or the end of the text.
 pub(crate) fn skip_lines(text: &str, at: usize, count: usize) -> usize
     requires { IsCharBoundary text.now at }
     ensures boundary { IsCharBoundary text.now result }

@@ -25,33 +25,33 @@ use yf_events::part::Part;
 use yf_flow::nodes::new_part;
 use yf_lines::basic::is_line_start;
 
-/// A block node that was found.
+/// A block node in a text.
 #[derive(Clone, Copy)]
 pub struct FoundBlock {
     /// The byte offset after it.
     pub end: usize,
-    /// The furthest byte offset at which the reading went wrong; `end` where it did not.
+    /// The furthest byte offset at which the reading went wrong, or `end` if it did not.
     pub reached: usize,
-    /// The byte offset after the last block scalar in the node, with its kept tail: lines before it are no blank lines.
-    /// 0 where there is none.
+    /// The byte offset after the last block scalar in the node, with its kept tail, or 0 if there is none. Lines
+    /// before it are not blank lines.
     pub floor: usize,
-    /// Whether nothing went wrong: the reading came to the node's end, and no more of the text was read.
+    /// Whether nothing went wrong: the reading came to the node's end, and read no more of the text.
     pub whole: bool,
-    /// Whether it went wrong because the collection that begins at `reached` would be one more than the limit.
+    /// Whether it went wrong because the collection that begins at `reached` would exceed the limit.
     pub too_deep: bool,
 }
 
-/// What a reader of block nodes found.
+/// The outcome of a reader of block nodes.
 #[derive(Clone, Copy)]
 pub enum BlockOutcome {
     Found(FoundBlock),
     /// No block node; the reading went wrong at the byte offset.
     Nothing { reached: usize },
-    /// Nothing within the limit of open collections; the collection at the byte offset would be a further one.
+    /// No node within the limit of open collections; the collection at the byte offset would exceed it.
     TooDeep(usize),
 }
 
-// Why the reader stopped.
+// The reason why the reader stopped.
 #[derive(Clone, Copy)]
 enum Stop {
     // The outermost node has been read; it ends at the offset.
@@ -61,36 +61,37 @@ enum Stop {
     TooDeep(usize),
 }
 
-// The node that is to be read.
+// The node to be read.
 #[derive(Clone, Copy)]
 struct Root {
-    // Where it is read from.
+    // The offset at which reading starts.
     at: usize,
-    // The fewest spaces of its indentation, n + 1.
+    // The least number of spaces of its indentation, n + 1.
     least: usize,
     // Whether its context is block-out.
     out: bool,
 }
 
-// What is left of a run of the reader that stopped.
+// The state of a reader that has stopped.
 #[derive(Clone, Copy)]
 struct Stopped {
     stop: Stop,
-    // The byte offset of the last place at which all open nodes might end.
+    // The last byte offset at which all open nodes might end.
     halt: Option<usize>,
-    // The byte offset after the last block scalar; 0 where there is none.
+    // The byte offset after the last block scalar, or 0 if there is none.
     floor: usize,
 }
 
-/// Reads the longest block node (s-l+block-node(n,c), production 196) from a byte offset on in which no more collections are
-/// open at once than the limit. `n` is the indentation of the collection around it, from -1 to 2^30. Its events, comments and
-/// escapes are added to the part; where there is none, the part is cut back to what was there before.
+/// Reads the longest block node (s-l+block-node(n,c), production 196) at a byte offset that opens no more collections
+/// at once than the limit.
 ///
-/// In other contexts than block-out and block-in there is none.
+/// `n` is the indentation of the collection around it, from -1 to 2^30. Adds its events, comments and escapes to the
+/// part. If there is no node, cuts the part back to its old contents. Contexts other than block-out and block-in have
+/// no block nodes.
 ///
 /// # Errors
 ///
-/// `AllocError` where a growth of memory was refused; what was in the part before may then be gone.
+/// Fails with `AllocError` if the allocator refuses memory; the part may then have lost its old contents.
 pub fn block_node_in<'a>(
     alloc: Global,
     text: &'a str,
@@ -124,7 +125,7 @@ pub fn block_node_in<'a>(
     }
 }
 
-// Whether the context is block-out; `None` where it is none of a block node.
+// Returns whether the context is block-out, or `None` if it is not a context of block nodes.
 fn block_out(ctx: Ctx) -> Option<bool>
     ensures { MatchOption result (is_block ctx ≡ false) (λ out. (is_block ctx ≡ true) × (out ≡ is_out ctx)) }
 {
@@ -135,14 +136,14 @@ fn block_out(ctx: Ctx) -> Option<bool>
     }
 }
 
-// n + 1, the fewest spaces of the indentation.
+// Returns n + 1, the least number of spaces of the indentation.
 fn least_of(n: i32) -> usize
     ensures { (least : ℕ) → pos least ≡ n +ℤ pos 1 → result ≡ least }
 {
     if n < 0 { 0 } else { n as usize + 1 }
 }
 
-// Nothing has been read yet of the text, which is read from an offset on.
+// Returns the cursor before anything is read.
 fn no_progress<'a>(_text: &str, at: usize, least: usize, out: bool) -> BlockCursor<'a>
     ensures progress { ProgressAt _text.now result }
     ensures root { (n : ℤ) → (c : Ctx) → TextTied _text.now → pos least ≡ n +ℤ pos 1 → least ≤ 2 ^ 30 + 1 → out ≡ is_out c
@@ -189,7 +190,7 @@ fn run_from<'a>(
 }
 
 impl<'a> BlockReader<'a> {
-    // Reads the awaited node from an offset on, and adds it to the part, which is swapped into the reader meanwhile.
+    // Reads the awaited node at an offset, and adds it to the part. The part is swapped into the reader meanwhile.
     fn fill(
         &mut self,
         scope: BlockContext<'a>,
@@ -219,7 +220,7 @@ impl<'a> BlockReader<'a> {
         })
     }
 
-    // The first step: at the start of a line, or within one.
+    // Takes the first step: at the start of a line, or within one.
     fn begin(&mut self, scope: BlockContext<'a>, at: usize) -> Result<Step, AllocError>
         requires { IsReaderReady scope.text.now at self.old }
         ensures { StepPromises AtBegin CountedAt scope.entry at 3 self.old self.new result }
@@ -230,7 +231,7 @@ impl<'a> BlockReader<'a> {
         Ok(Step::Node(at))
     }
 
-    // Reads on until the outermost node ends or the text goes wrong.
+    // Reads until the outermost node ends or the text goes wrong.
     fn run(&mut self, scope: BlockContext<'a>, first: Step) -> Result<Stop, AllocError>
         requires ready { StepReady scope.text.now 0 first }
         requires progress { ProgressAt scope.text.now self.old.progress }
@@ -259,7 +260,7 @@ impl<'a> BlockReader<'a> {
     }
 }
 
-// What was found, once the reader stopped; so much had been read before it began.
+// Returns the outcome after the reader stopped. `before` has the counts of the part before it began.
 fn conclude<'a>(
     scope: BlockContext<'a>,
     root: Root,
@@ -311,7 +312,7 @@ fn conclude<'a>(
     }
 }
 
-// Where no node ends: the text goes wrong, or the limit is passed.
+// Returns the outcome if no node ends: the text goes wrong, or opens more collections than the limit.
 fn none_from(stop: Stop) -> BlockOutcome
     ensures { StopsAs stop result }
 {
@@ -322,7 +323,7 @@ fn none_from(stop: Stop) -> BlockOutcome
     }
 }
 
-// Whether the limit is passed.
+// Returns whether the text opens more collections than the limit.
 fn passes_limit(stop: Stop) -> bool
     ensures { result ≡ is_too_deep stop }
 {
@@ -332,7 +333,8 @@ fn passes_limit(stop: Stop) -> bool
     }
 }
 
-// The last place at which all open nodes may end, if a node that ends there has a character: no block node is empty.
+// Returns the last offset at which all open nodes may end, if a node that ends there has a character. No block node
+// is empty.
 fn last_end(at: usize, halt: Option<usize>) -> Option<usize>
     ensures { MatchOption result ((end : ℕ) → halt ≡ Some end → end ≤ at) (λ end. (halt ≡ Some end) × (at < end)) }
 {
@@ -347,7 +349,7 @@ fn last_end(at: usize, halt: Option<usize>) -> Option<usize>
     }
 }
 
-// Whether the outermost node was read whole, and ends at the offset.
+// Returns whether the outermost node was read whole and ends at the offset.
 fn ends_whole(stop: Stop, end: usize) -> bool
     ensures { MatchBool result (stop ≡ Stop.Done end) (stop ≡ Stop.Done end → ⊥) }
 {
@@ -357,8 +359,8 @@ fn ends_whole(stop: Stop, end: usize) -> bool
     }
 }
 
-// Reads the node once more, in the text up to the last place at which all open nodes may end, and adds it to the part: it
-// ends there. The answer is the offset after its last block scalar, or 0; `None` where it did not end there.
+// Reads the node once more, in the text up to `end`, the last offset at which all open nodes may end, and adds it to
+// the part. Returns the offset after its last block scalar, or 0; `None` if the node did not end there.
 fn read_prefix<'a>(
     scope: BlockContext<'a>,
     root: Root,

@@ -20,7 +20,7 @@ use yf_lines::basic::skip_whites;
 use yf_props::properties::{Properties, node_properties};
 use yf_props::props::Props;
 
-/// Properties, from one byte offset to another.
+/// Properties between two byte offsets.
 #[derive(Clone, Copy)]
 pub(crate) struct PlacedProperties<'a> {
     pub(crate) start: usize,
@@ -30,7 +30,7 @@ pub(crate) struct PlacedProperties<'a> {
 }
 
 impl<'a> PlacedProperties<'a> {
-    /// What is known of a node with these properties.
+    /// Returns the lead of a node with these properties.
     pub(crate) fn lead(self, entry: Option<Entry>) -> Lead<'a>
         ensures { result ≡ held_lead self.entry entry }
     {
@@ -43,7 +43,7 @@ impl<'a> PlacedProperties<'a> {
     }
 }
 
-/// What is known of a node at an offset, with properties or none.
+/// Returns the lead of a node at an offset, with or without properties.
 pub(crate) fn lead_of<'a>(
     at: usize,
     properties: Option<PlacedProperties<'a>>,
@@ -90,7 +90,7 @@ pub(crate) fn line_properties<'a>(
     Ok(None)
 }
 
-/// Whether the first character of an anchor or a tag is there.
+/// Returns whether an anchor or a tag begins at the offset.
 pub(crate) fn is_property_at(text: &str, at: usize) -> bool
     ensures { result ≡ begins_properties (code text.now at) }
 {
@@ -100,8 +100,8 @@ pub(crate) fn is_property_at(text: &str, at: usize) -> bool
     is_char_at(text, at, b'!')
 }
 
-/// The place of what is after properties on their line: after white space, or the `:` of an empty key. `None` where
-/// something else follows, or a property of a kind that they have.
+/// Returns the offset of the text after properties on their line: after white space, or at the `:` of an empty key.
+/// Returns `None` if something else follows, or another property.
 pub(crate) fn place_after(text: &str, properties: PlacedProperties) -> Option<usize>
     requires { IsCharBoundary text.now properties.end }
     ensures place { IfSome result (λ p. BoundaryFrom text.now properties.entry.end p) }
@@ -119,7 +119,7 @@ pub(crate) fn place_after(text: &str, properties: PlacedProperties) -> Option<us
     Some(place)
 }
 
-/// Properties of one node that are on several lines; `None` where two are of one kind.
+/// Returns the properties of one node on several lines, or `None` if two are of one kind.
 pub(crate) fn joined<'a>(
     outer: PlacedProperties<'a>,
     inner: PlacedProperties<'a>,
@@ -146,7 +146,7 @@ pub(crate) fn joined<'a>(
     })
 }
 
-/// The same where there need be none before.
+/// Like `joined`, but earlier lines may have no properties.
 pub(crate) fn joined_after<'a>(
     outer: Option<PlacedProperties<'a>>,
     inner: PlacedProperties<'a>,

@@ -1,4 +1,4 @@
-//! After a node, at the start of a line: the next entry of an open collection, or the end of collections.
+//! Steps after a node, at the start of a line: the next entry of an open collection, or the end of collections.
 ghost use Rattle.std.specs.Prelude.{◌≡◌, ℕ, ◌+◌, ◌-◌, ◌<◌, ◌++◌, IfOk, IfSome, MatchOption, reverse, length};
 ghost use Rattle.std.specs.Str.{IsCharBoundary};
 ghost use Rattle.yf_events.specs.Edit.{edited, ended};
@@ -22,20 +22,21 @@ use yf_events::event::NewEvent;
 use yf_events::part::Part;
 use yf_flow::node::{empty_node, unplaced};
 
-// What a line is to an open collection.
+// The relation of a line to an open collection.
 #[derive(Clone, Copy)]
 enum Fit {
     // The next entry of a sequence begins at the offset.
     Item(usize),
-    // The next entry of a mapping, or the `:` of one with a `?`.
+    // The next entry of a mapping begins there, or the `:` of one with a `?`.
     Entry(usize),
-    // It is indented more than the entries are, up to the offset.
+    // The line is indented more than the entries, up to the offset.
     Deeper(usize),
-    // The collection ends before it.
+    // The collection ends before the line.
     EndsBefore,
 }
 
-// The innermost collection that does not end before a line, and what the line is to it. It is no longer on the stack.
+// The innermost collection that doesn't end before a line, and the relation of the line to it. It is no longer on the
+// stack.
 #[derive(Clone, Copy)]
 struct ResumedFrame {
     frame: Frame,
@@ -43,8 +44,8 @@ struct ResumedFrame {
 }
 
 impl<'a> BlockReader<'a> {
-    /// Goes on at the start of a line after a node. Most often a key of the innermost mapping begins there, or an item of the
-    /// innermost sequence.
+    /// Goes on at the start of a line after a node. Usually a key of the innermost mapping begins there, or an item
+    /// of the innermost sequence.
     pub(crate) fn resume(&mut self, scope: BlockContext<'a>, at: usize) -> Result<Step, AllocError>
         requires { IsReaderReady scope.text.now at self.old }
         ensures { StepPromises AtResume CountedAt scope.entry at 0 self.old self.new result }
@@ -66,7 +67,7 @@ impl<'a> BlockReader<'a> {
         }
     }
 
-    // The same for any line; the place is that of its first character, if an entry may begin there.
+    // Like `resume`, for any line. `place` is the offset of its first character, if an entry may begin there.
     fn resume_below(
         &mut self,
         scope: BlockContext<'a>,
@@ -89,7 +90,7 @@ impl<'a> BlockReader<'a> {
         }
     }
 
-    // Ends the collections that end before the line at an offset; `None` where all of them do.
+    // Ends the collections that end before the line at an offset. Returns `None` if all of them do.
     fn end_collections(
         &mut self,
         scope: BlockContext<'a>,
@@ -120,8 +121,8 @@ impl<'a> BlockReader<'a> {
         Ok(None)
     }
 
-    // The next entry of a mapping, or the `:` of an entry with a `?` and the value after it (l-block-map-explicit-value,
-    // production 191).
+    // Takes the next entry of a mapping, or the `:` of an entry with a `?` and the value after it
+    // (l-block-map-explicit-value, production 191).
     fn next_entry(&mut self, scope: BlockContext<'a>, slot: EntryStart) -> Result<Step, AllocError>
         requires { IsReaderReady scope.text.now slot.at self.old }
         ensures { StepPromises (AtPair slot.frame) CountedInside scope.entry slot.at 0 self.old self.new result }
@@ -144,8 +145,8 @@ impl<'a> BlockReader<'a> {
     }
 }
 
-// Where a key of the innermost collection begins on the line at an offset, with no sign before it; the place is that of the
-// first character of the line, if an entry may begin there.
+// Returns the start of a key of the innermost collection on the line at an offset, without a sign before it. `place`
+// is the offset of the line's first character, if an entry may begin there.
 #[inline(always)]
 fn key_below(text: &str, at: usize, place: Option<usize>, frames: &Frames) -> Option<usize>
     requires { MayPlace text.now at place }
@@ -168,7 +169,7 @@ fn key_below(text: &str, at: usize, place: Option<usize>, frames: &Frames) -> Op
     }
 }
 
-// The column of the innermost collection, if it is a mapping that awaits no `:`.
+// Returns the column of the innermost collection, if it is a mapping that awaits no `:`.
 #[inline(always)]
 fn top_mapping(frames: &Frames) -> Option<usize>
     ensures { IfSome result (λ column. TopMapping (reverse frames.now.items) column) }
@@ -188,8 +189,8 @@ fn top_mapping(frames: &Frames) -> Option<usize>
     }
 }
 
-// Where an item of the innermost collection begins on the line at an offset; the place is that of the first character of the
-// line, if an entry may begin there.
+// Returns the start of an item of the innermost collection on the line at an offset. `place` is the offset of the
+// line's first character, if an entry may begin there.
 #[inline(always)]
 fn item_below(text: &str, at: usize, place: Option<usize>, frames: &Frames) -> Option<usize>
     requires { MayPlace text.now at place }
@@ -212,7 +213,7 @@ fn item_below(text: &str, at: usize, place: Option<usize>, frames: &Frames) -> O
     }
 }
 
-// The column of the innermost collection, if it is a sequence.
+// Returns the column of the innermost collection, if it is a sequence.
 #[inline(always)]
 fn top_sequence(frames: &Frames) -> Option<usize>
     ensures { IfSome result (λ column. TopSequence (reverse frames.now.items) column) }
@@ -232,7 +233,7 @@ fn top_sequence(frames: &Frames) -> Option<usize>
     }
 }
 
-// How many of so many collections await a `:` when this one is left out.
+// Returns how many of the collections await a `:` without this one.
 fn colons_without(frame: &Frame, colons: usize) -> usize
     ensures { result ≡ colons - colons_if frame.now.awaits_colon }
 {
@@ -242,7 +243,8 @@ fn colons_without(frame: &Frame, colons: usize) -> usize
     colons
 }
 
-// What the line at an offset is to a collection; the place is that of its first character, if an entry may begin there.
+// Returns the relation of the line at an offset to a collection. `place` is the offset of the line's first character,
+// if an entry may begin there.
 fn fit_of(text: &str, at: usize, place: Option<usize>, frame: &Frame) -> Fit
     requires { MayPlace text.now at place }
     ensures places { FitsAt text.now at result }
@@ -271,7 +273,7 @@ fn fit_of(text: &str, at: usize, place: Option<usize>, frame: &Frame) -> Fit
     }
 }
 
-// Ends a collection whose last node or indicator ends at an offset.
+// Ends a collection; its last node or indicator ends at the offset `last`.
 fn end_collection<'a>(
     alloc: Global,
     frame: Frame,

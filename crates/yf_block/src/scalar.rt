@@ -34,7 +34,7 @@ use yf_flow::node::Lead;
 use yf_lines::text::{OwnedText, Text};
 
 impl<'a> BlockReader<'a> {
-    /// Reads the block scalar whose `|` or `>` is at an offset (s-l+block-scalar, production 199).
+    /// Reads the block scalar that begins with the `|` or `>` at an offset (s-l+block-scalar, production 199).
     #[inline(never)]
     pub(crate) fn take_block_scalar(
         &mut self,
@@ -63,7 +63,7 @@ impl<'a> BlockReader<'a> {
         }
     }
 
-    // Adds a block scalar whose lines have been read from an offset on.
+    // Adds a block scalar after its lines have been read. They begin at the offset.
     fn take_body(
         &mut self,
         scope: BlockContext<'a>,
@@ -92,7 +92,7 @@ impl<'a> BlockReader<'a> {
     }
 }
 
-/// Whether the header of a block scalar begins there.
+/// Returns whether the header of a block scalar begins there.
 pub(crate) fn is_block_scalar_at(text: &str, at: usize) -> bool
     ensures { MatchBool result (ScalarSignAt text.now at) (ScalarSignAt text.now at → ⊥) }
 {
@@ -115,8 +115,8 @@ fn push_comment<'a>(comment: Option<Comment<'a>>, part: &mut Part<'a>) -> Result
     Ok(())
 }
 
-// Reads the lines of a block scalar after its header, which ends at an offset, in a node whose lines are indented by that
-// many spaces at least.
+// Reads the lines of a block scalar after its header, which ends at the offset. The lines of the node have at least
+// `least` spaces.
 fn read_lines<'a>(
     scope: BlockContext<'a>,
     at: usize,
@@ -142,7 +142,7 @@ fn read_lines<'a>(
     }
 }
 
-// The indentation of the collection around a node whose lines are indented by that many spaces at least.
+// Returns the indentation of the collection around a node with lines of at least `least` spaces.
 fn outer_indentation(least: usize) -> i32
     ensures same { least ≤ 2 ^ 30 + 1 → pos least ≡ result +ℤ pos 1 }
     ensures upper { result ≤ℤ pos (2 ^ 30) }
@@ -150,7 +150,7 @@ fn outer_indentation(least: usize) -> i32
     flow_indentation(least) - 1
 }
 
-// How many lines after its header a scalar reaches: to its last content line, or through its kept tail.
+// Returns the number of lines of a scalar after its header: up to its last content line, or through its kept tail.
 fn reach(block: &BlockText) -> usize
     ensures { length block.now.lines + block.now.tail < 2 ^ 64
         → result ≡ reach_of block.now.header.chomp (length block.now.lines) block.now.tail }
@@ -195,7 +195,7 @@ fn push_block<'a>(
     })
 }
 
-// Adds comments after an event, if it could be added.
+// Adds comments after an event, if the event could be added.
 fn add_comments<'a>(
     pushed: Result<(), AllocError>,
     comments: Comments<'a>,
@@ -221,7 +221,7 @@ fn style_of(folded: bool) -> ScalarStyle
     ScalarStyle::Literal
 }
 
-// The lines that are kept of a folded scalar.
+// Returns the lines that are kept of a folded scalar.
 fn kept_lines<'a>(alloc: Global, folded: bool, lines: &Lines<'a>) -> Result<Slices<'a>, AllocError>
     ensures { IfOk result (λ s. s ≡ kept_of folded lines.now) }
 {

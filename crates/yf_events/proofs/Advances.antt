@@ -1,4 +1,4 @@
--- One event of the pass, by what it does to what is awaited.
+-- One event of the pass, by its effect on the awaited state.
 use Rattle.std.proofs.Common.{ℕ, suc, zero, ◌+◌, ◌-◌, ◌<◌, ◌≤◌, ◌≡◌, false, List, [], ◌∷◌, ◌++◌, Option, Some, None, Bool, length, refl, sym, ap, ◌∙◌, arith, length-append, map, drop, ◌==◌}
 use Rattle.std.specs.Prelude.{reverse, slice_get}
 use Rattle.std.proofs.lemmas.Bool.Decides.{nat_tests}

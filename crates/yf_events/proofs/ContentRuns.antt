@@ -1,4 +1,4 @@
--- Lists of items that grow as their sources are passed.
+-- Lists of items that grow as the pass goes over their sources.
 use Rattle.std.proofs.Common.{ℕ, ◌+◌, ◌<◌, ◌≤◌, ◌≡◌, List, [], ◌∷◌, ◌++◌, Option, Some, length, map, drop, drop-cons, get_or, refl, sym, ap, ◌∙◌, append_assoc, add-one, arith}
 use Rattle.std.specs.List.{flat_map, zip}
 use Rattle.std.specs.Prelude.{slice_get}
@@ -17,7 +17,7 @@ use Rattle.yf_events.proofs.PieceRuns.{zip_at, zip_past}
 pub pushed : {A B : Type 0} (f : A → B) (before after : List A) (x : A) → after ≡ before ++ (x ∷ []) → map f after ≡ map f before ++ (f x ∷ [])
 pushed f before after x is = ap (map f) is ∙ map-append f before (x ∷ [])
 
--- what the events from an index on add to the content
+-- the items that the events from an index on add to the content
 unfoldable pub nodes_from : Lists → ℕ → List ContentValue
 nodes_from r i = flat_map (λ e. items_of_event e.0 e.1) (drop i (zip (events_of r) r.resolved))
 
@@ -37,7 +37,7 @@ unfolding nodes_from
 nodes_past r i past =
     ap (flat_map (λ e. items_of_event e.0 e.1)) (zip_past (events_of r) r.resolved i (omega (arith, length-map r.events (λ e. e.event), past)))
 
--- what one event adds
+-- the items that one event adds
 pub event_added : (r : Lists) (i : ℕ) (e : EventValue) (tag : Option (List ℕ)) (x m n t : List ContentValue) → slice_get (events_of r) i ≡ Some e → slice_get r.resolved i ≡ Some tag
     → x ≡ items_of_event e tag → n ≡ m ++ x → m ++ nodes_from r i ≡ t → n ++ nodes_from r (i + 1) ≡ t
 event_added r i e tag x m n t p q one more is =
@@ -58,7 +58,7 @@ document_begins d lent m n e more =
     ap (λ w. w ++ flat_map items_of_directive lent) more ∙ append_assoc m (before_document ∷ []) (flat_map items_of_directive lent)
     ∙ ap (λ w. m ++ (before_document ∷ flat_map items_of_directive w)) e
 
--- what is left is what the next item adds, and then what those after it add
+-- the rest is the items of the next source, and then those of the sources after it
 pub one_added : {A B : Type 0} (f : A → List B) (xs : List A) (i : ℕ) (x : A) (m n t : List B) → i < length xs → x ≡ get_or xs i x → n ≡ m ++ f x
     → m ++ flat_map f (drop i xs) ≡ t → n ++ flat_map f (drop (i + 1) xs) ≡ t
 one_added f xs i x m n t within at more is =

@@ -24,7 +24,7 @@ plain_byte : (c : ℕ) → is_escaped c ≡ false → escaped_byte c ≡ c ∷ [
 unfolding escaped_byte is_escaped
 plain_byte c h = grind (arith, nat_tests)
 
--- a run of bytes that are not escaped is written as it is
+-- a run of bytes that are not escaped is written unchanged
 plain_run : (t : List ℕ) (n : ℕ) → n ≤ length t → ((k : ℕ) → k < n → is_escaped (slice_index t k) ≡ false) → escaped (take n t) ≡ take n t
 plain_run t zero l h = escaped_nil
 plain_run [] (suc n) l h = absurd (omega arith)
@@ -32,7 +32,7 @@ plain_run (c ∷ t) (suc n) l h =
     escaped_cons c (take n t) ∙ ap (λ w. w ++ escaped (take n t)) (plain_byte c (h 0 (omega arith)))
     ∙ ap (λ w. c ∷ w) (plain_run t n (omega arith) (λ k p. h (suc k) (omega arith)))
 
--- a run that is written as it is, and what is left of the text
+-- a run that is written unchanged, and the rest of the text
 run_first : (t : List ℕ) (n : ℕ) → n ≤ length t → ((k : ℕ) → k < n → is_escaped (slice_index t k) ≡ false)
     → escaped t ≡ take n t ++ escaped (drop n t)
 run_first t n l h =
@@ -51,7 +51,7 @@ at_end old new before after text [] p e =
     progress_done old new before after text (subst (Progress old new before after text) escaped_nil p)
 at_end old new before after text (c ∷ y) p e = absurd (omega (arith, e))
 
--- an escape, and what is left after it
+-- an escape, and the rest after it
 pub at_escape : (old new : Option (List ℕ)) (before after : Bool) (text y : List ℕ) → Progress old new before after text (escaped y)
     → 0 < length y → Progress old new before after text (escaped_byte (slice_index y 0) ++ escaped (take (length y - 1) (drop 1 y)))
 at_escape old new before after text [] p l = absurd (omega arith)

@@ -1,4 +1,4 @@
--- A row that is given another form, and the entry of the table that it has then.
+-- A row that gets another form, and its new entry of the table.
 use Rattle.std.proofs.Common.{◌≡◌, ℕ, zero, suc, ◌<◌, ◌≤◌, Bool, true, false, List, [], ◌∷◌, Option, Some, None, length, map, get_or, refl, sym, ap, ◌∙◌, ◌++◌, ◌==◌, slice_get, length-append, subst, arith}
 use Rattle.std.proofs.Math.ListN.{set}
 use Rattle.std.proofs.lemmas.Bool.{eqb-true, false≢true}
@@ -71,7 +71,7 @@ lined_tag false (Some m) = refl
 abbrev placed : EventValue → Option Span → Option ℕ → Option Entry → List (List ℕ) → EventInText
 placed event span tag_offset entry folded = record { event = event; span = span; tag_offset = tag_offset; entry = entry; folded = folded }
 
--- the row with the other shape and with what the table has of it
+-- the row with the other shape and its parts in the table
 row_formed : (flow : Bool) (style : ScalarStyle) (r : PackedEvent) (m : Option More) (n : ℕ) (s : Shape) (keeps : Bool)
     → s ≡ shape_formed flow style r.shape → keeps ≡ is_folded_shape s
     → row_with (record r { shape = s; more = n }) (lined keeps m) ≡ formed flow style (row_with r m)
@@ -98,7 +98,7 @@ row_formed flow style r m n s keeps e k =
       kept : keeps ≡ is_folded after
       kept = k ∙ folded_is s (props_in m) text ∙ ap is_folded formed_event
 
--- the same of the row in the list
+-- the row in the list
 
 set_fits : (more : List More) (xs : List PackedEvent) (i : ℕ) (new : PackedEvent) → new.more ≤ length more → RowsFit more xs → RowsFit more (set xs i new)
 set_fits more [] i new l f = f
@@ -119,7 +119,7 @@ pub number_fits : (more : List More) (rows : List PackedEvent) (vs : List EventI
     → r ≡ get_or rows i r → RowsFit more rows → r.more ≤ length more
 number_fits more rows vs i r seen l is f = fit_at more rows i r (omega (arith, ap length seen, length-map rows (row_value more), l)) is f
 
--- the row at an index is one
+-- the row at an index is unique
 pub one_row : (rows : List PackedEvent) (i : ℕ) (r q : PackedEvent) → i < length rows → r ≡ get_or rows i r → q ≡ get_or rows i q → r ≡ q
 one_row [] i r q l a b = absurd (omega arith)
 one_row (x ∷ rows) zero r q l a b = a ∙ sym b

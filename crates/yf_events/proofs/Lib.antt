@@ -1,6 +1,6 @@
--- The lemmas, each group under the function or the theorem that it serves.
+-- The lemmas, each group under its function or theorem.
 
--- `Reading::build`: it accepts exactly the well nested streams within the limit
+-- `Reading::build`: it accepts a list of events if and only if they are a well nested stream within the limit
 pub mod Nests
 pub mod Rests
 pub mod Advances
@@ -19,6 +19,6 @@ pub mod PackedRows
 pub mod TagLists
 pub mod FormedRows
 pub mod SilentRows
--- trees of events: at most one list of them, and one exactly where the places are those of trees
+-- trees of events: at most one list of them, and one if and only if the offsets are those of trees
 pub mod TreeLemmas
 pub mod TreesExist

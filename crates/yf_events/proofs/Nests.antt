@@ -1,4 +1,4 @@
--- The one-pass test accepts exactly the well nested streams.
+-- The one-pass test accepts a list if and only if it is a well nested stream.
 use Rattle.std.proofs.Common.{ℕ, suc, zero, ◌≤◌, ◌≡◌, Bool, true, List, [], ◌∷◌, ◌++◌, Some, refl, ◌∙◌, append_assoc, arith}
 use Rattle.yf_props.specs.Props.{PropsValue}
 use Rattle.yf_events.specs.Event.{EventValue, stream_starts, stream_ends, document_starts, document_ends, sequence_starts, sequence_ends, mapping_starts, mapping_ends}
@@ -7,7 +7,7 @@ use Rattle.yf_events.specs.Nesting.{after_node, move_at, run, stay_if}
 use Rattle.yf_events.specs.declared.nesting.NestingState.{NestingState}
 use Rattle.yf_events.specs.declared.nesting.NestingState.TheVariants.{Stream, Documents, Root, Closing, Items, Keys, Values}
 
--- Complete: each part is passed over
+-- Complete: the pass goes over each part
 
 abbrev Passes : Shape → ℕ → List EventValue → Type 0
 Passes one_node d x = (room : ℕ) (f g : NestingState) (b : List NestingState) (y : List EventValue) → d ≤ room → after_node f ≡ Some g

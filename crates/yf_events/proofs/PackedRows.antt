@@ -1,4 +1,4 @@
--- Rows and their table: a table that has grown changes nothing of the rows before it.
+-- Rows and their table: a table that has grown changes nothing in the rows before it.
 use Rattle.std.proofs.Common.{◌≡◌, ℕ, zero, suc, ◌+◌, ◌<◌, ◌≤◌, Bool, true, false, List, [], ◌∷◌, ◌++◌, Option, Some, None, length, map, take, drop, get_or, refl, sym, ap, ◌∙◌, subst, arith, append-nil, length-append}
 use Rattle.std.proofs.Math.ListN.{set}
 use Rattle.std.specs.Prelude.{slice_get}
@@ -86,7 +86,7 @@ fits_set more [] i r new l is same f = absurd (omega arith)
 fits_set more (x ∷ xs) zero r new l is same f = (subst (λ k. k ≤ length more) (sym (same ∙ ap (λ w. w.more) is)) f.0, f.1)
 fits_set more (x ∷ xs) (suc i) r new l is same f = (f.0, fits_set more xs i r new (omega arith) is same f.1)
 
--- the same rows, and one more row
+-- unchanged rows, and one more row
 
 pub same_fits : (old new : List More) (rows after : List PackedEvent) → after ≡ rows → TableGrown old new → RowsFit old rows → RowsFit new after
 same_fits old new rows after is g f = subst (RowsFit new) (sym is) (grown_fits old new rows g f)
@@ -165,7 +165,7 @@ with_entry_is (suc i) (v ∷ vs) entry = ap (λ w. v ∷ w) (with_entry_is i vs 
 
 -- the row of an event that is added
 
--- a row, by what it takes from the table
+-- a row, by its parts in the table
 abbrev row_from : PackedEvent → PropsValue → List ℕ → Option ℕ → List (List ℕ) → EventInText
 row_from r props text tag_offset folded =
     record { event = shape_value r.shape props text; span = span_at r.placed r.start r.end; tag_offset = tag_offset; entry = entry_at r.begins r.entry r.colon; folded = folded }
@@ -216,7 +216,7 @@ pub seen_at : {X : Type 0} (part : EventInText → X) (more : List More) (rows :
 seen_at part more rows vs i r l is seen =
     ap (λ w. slice_get (map part w) i) (sym seen) ∙ part_at part more rows i r (omega (arith, ap length seen, length-map rows (row_value more), l)) is
 
--- what was put into the table
+-- the parts that were put into the table
 
 pub got_last : {X : Type 0} (xs : List X) (x : X) → slice_get (xs ++ x ∷ []) (length xs) ≡ Some x
 got_last [] x = refl
@@ -241,7 +241,7 @@ event_seen more lent rows vs i r m e l is seen same at event =
     seen_at (λ w. w.event) more rows vs i r l is seen
     ∙ ap Some (sym (event ∙ ap (λ w. shape_value r.shape (props_in w) (text_in w r.text.now)) (at ∙ ap (λ w. more_at w r.more) same)))
 
--- of a row that has nothing in the table
+-- the event of a row that has nothing in the table
 pub alone_seen : (more : List More) (rows : List PackedEvent) (vs : List EventInText) (i : ℕ) (r : PackedEvent) → i < length vs → r ≡ get_or rows i r
     → map (row_value more) rows ≡ vs → r.more ≡ 0 → slice_get (map (λ w. w.event) vs) i ≡ Some (shape_value r.shape no_props r.text.now)
 alone_seen more rows vs i r l is seen alone =
@@ -261,7 +261,7 @@ pub folded_seen : (more lent : List More) (rows : List PackedEvent) (vs : List E
 folded_seen more lent rows vs i r m lines l is seen same at folded =
     seen_at (λ w. w.folded) more rows vs i r l is seen ∙ ap Some (sym (folded ∙ ap folded_in (at ∙ ap (λ w. more_at w r.more) same)))
 
--- a `:`, an end and an entry in a row
+-- a `:`, an end and an entry of a row
 
 pub keyed_is : (b : Begins) (start colon k : ℕ) → entry_at (keyed b) start k ≡ with_colon k (entry_at b start colon)
 keyed_is Nothing start colon k = refl

@@ -11,7 +11,7 @@ use Rattle.yf_events.specs.Reading.{events_of}
 use Rattle.yf_events.specs.declared.lists.Lists.{Lists}
 use Rattle.yf_lines.proofs.OutputLemmas.{Progress, progress_done}
 
--- what is left is the next item and the ones after it
+-- the rest is the next item and the ones after it
 pub next_item : {X : Type 0} (f : X → List ℕ) (old new : Option (List ℕ)) (before after : Bool) (text : List ℕ) (xs : List X) (i : ℕ) (d : X)
     → i < length xs → Progress old new before after text (flat_map f (drop i xs))
     → Progress old new before after text (f (get_or xs i d) ++ flat_map f (drop (i + 1) xs))
@@ -47,7 +47,7 @@ next_event old new before after text r i e tag p q progress =
     let cut : drop i (zip (events_of r) r.resolved) ≡ (e, tag) ∷ drop (i + 1) (zip (events_of r) r.resolved) = rw add-one (zip_at (events_of r) r.resolved i e tag p q) in
     subst (Progress old new before after text) (ap notation cut) progress
 
--- what is left once the line of the event at an index is written
+-- the rest after the line of the event at an index
 pub there_is_event : (r : Lists) (i : ℕ) → i < length r.events → slice_get (events_of r) i ≡ Some (get_or (events_of r) i stream_starts)
 there_is_event r i l = slice_get-get_or (events_of r) i stream_starts (omega (arith, l, length-map r.events (λ e. e.event)))
 

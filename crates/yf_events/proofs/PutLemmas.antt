@@ -1,4 +1,4 @@
--- Writes with a plain answer.
+-- Writes with a plain `bool` as the result.
 use Rattle.std.proofs.Common.{◌≡◌, ℕ, ◌++◌, Bool, true, false, List, Option, ◌∙◌, subst}
 use Rattle.std.proofs.KnownBytes.{Appends-trans}
 use Rattle.yf_lines.specs.Output.{Wrote}
@@ -16,12 +16,12 @@ puts_second old mid new before between after text more true p q = record {
 }
 puts_second old mid new before between after text more false p q = broke_second old mid new before between after text more p q
 
--- a text that is the same
+-- an equal text
 pub puts_same : (old new : Option (List ℕ)) (before after : Bool) (text same : List ℕ) (done : Bool) → text ≡ same
     → PlainWritten old new before after text done → PlainWritten old new before after same done
 puts_same old new before after text same done e p = subst (λ t. PlainWritten old new before after t done) e p
 
--- the line of an event that is the same
+-- the line of an equal event
 pub puts_line : (old new : Option (List ℕ)) (before after : Bool) (e same : EventValue) (tag : Option (List ℕ)) (done : Bool) → e ≡ same
     → PlainWritten old new before after (event_line e tag) done → PlainWritten old new before after (event_line same tag) done
 puts_line old new before after e same tag done is p = subst (λ w. PlainWritten old new before after (event_line w tag) done) is p

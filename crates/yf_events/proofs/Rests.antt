@@ -1,4 +1,4 @@
--- What the one-pass test accepts is a well nested stream.
+-- The one-pass test accepts only well nested streams.
 use Rattle.std.proofs.Common.{ℕ, suc, zero, ◌≡◌, Bool, true, List, [], ◌∷◌, ◌++◌, Option, Some, None, refl, sym, subst, append_assoc}
 use Rattle.std.proofs.lemmas.Option.{same_Some}
 use Rattle.yf_props.specs.Props.{PropsValue}
@@ -9,7 +9,7 @@ use Rattle.yf_events.specs.declared.event.ScalarStyle.{ScalarStyle}
 use Rattle.yf_events.specs.declared.nesting.NestingState.{NestingState}
 use Rattle.yf_events.specs.declared.nesting.NestingState.TheVariants.{Stream, Documents, Root, Closing, Items, Keys, Values, Nothing}
 
--- what may still come: the rest of what is awaited, and then of what lies around it
+-- the rest of the events: first those awaited here, and then those of the collections around
 data Rest : ℕ → NestingState → List NestingState → List EventValue → Type 0 where
   over : {r : ℕ} → Rest r Nothing [] []
   stream_left : {r : ℕ} {b : List NestingState} {y : List EventValue} → Rest r Documents b y → Rest r Stream b (stream_starts ∷ y)
@@ -35,7 +35,7 @@ more_keys {k = k} {v = v} n m (keys_left {x = w} {y = y} o rest) =
 key_first : {r : ℕ} {b : List NestingState} {x z : List EventValue} → NestsWithin one_node r x → Rest r Values b z → Rest r Keys b (x ++ z)
 key_first n (values_left m rest) = more_keys n m rest
 
--- a node where one is awaited
+-- a node, if one is awaited
 node_first : {r : ℕ} {b : List NestingState} {x y : List EventValue} (f g : NestingState) → NestsWithin one_node r x → after_node f ≡ Some g
     → Rest r g b y → Rest r f b (x ++ y)
 node_first Stream g n h rest = cc
@@ -59,7 +59,7 @@ mapping_first {b = b} f g flow props h (keys_left {r = r} {x = x} {y = y} n rest
     let whole = node_first f g (a_mapping {flow = flow} {props = props} n) h rest in
     rw (append_assoc {A = EventValue} x (mapping_ends ∷ []) y) at whole
 
--- a whole document where one is awaited
+-- a whole document, if one is awaited
 closed_document : {r : ℕ} {b : List NestingState} {x z : List EventValue} (marked closed : Bool) → NestsWithin one_node r x → Rest r Documents b z
     → Rest r Documents b (document_starts marked ∷ (x ++ (document_ends closed ∷ z)))
 closed_document {x = x} marked closed n (documents_left {x = w} {y = y} m rest) =
@@ -86,7 +86,7 @@ over_left r Items b h = cc
 over_left r Keys b h = cc
 over_left r Values b h = cc
 
--- what is known of the events after the first
+-- soundness for the events after the first
 abbrev Sound : List EventValue → Type 0
 Sound es = (r : ℕ) (f : NestingState) (b : List NestingState) → run r f b es ≡ true → Rest r f b es
 

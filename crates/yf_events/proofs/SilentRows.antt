@@ -1,4 +1,4 @@
--- Rows that name nothing stand for events that name nothing.
+-- The events of rows that name nothing name nothing.
 use Rattle.std.proofs.Common.{◌≡◌, ℕ, zero, suc, ◌+◌, ◌≤◌, ◌<◌, Bool, List, [], ◌∷◌, Option, Some, get_or, length, map, slice_get, option_map, refl, sym, ap, ◌∙◌, subst, inl, inr, arith}
 use Rattle.std.specs.Prelude.{MatchBool}
 use Rattle.std.proofs.lemmas.Bool.{cases_lt}
@@ -35,7 +35,7 @@ silent_alone more r b alone is =
     subst (λ n. Tells b (shape_value r.shape (props_in (more_at more n)) (text_in (more_at more n) r.text.now))) (sym alone)
     (subst (λ w. Tells w (shape_value r.shape no_props r.text.now)) (sym is) (shape_told r.shape r.text.now))
 
--- one that has
+-- a row that has parts in the table
 
 pub silent_with : (more : List More) (r : PackedEvent) (m : Option More) (e : EventValue) (b : Bool) → m ≡ more_at more r.more
     → e ≡ shape_value r.shape (props_in m) (text_in m r.text.now) → MatchBool b (NamesNothing e) (NamesNothing e → ⊥)
@@ -43,7 +43,7 @@ pub silent_with : (more : List More) (r : PackedEvent) (m : Option More) (e : Ev
 silent_with more r m e b at is told =
     subst (λ w. Tells b (shape_value r.shape (props_in w) (text_in w r.text.now))) at (subst (Tells b) is told)
 
--- the events that rows stand for
+-- the events of rows
 
 row_there : (more : List More) (rows : List PackedEvent) (k : ℕ) (e : EventValue) → slice_get (map (λ (w : EventInText). w.event) (map (row_value more) rows)) k ≡ Some e
     → NamesNothing e → SilentAt more rows k

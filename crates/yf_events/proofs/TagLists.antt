@@ -1,4 +1,4 @@
--- Tags that are kept for the events that have one, and the list that has for each event its tag or none.
+-- Tags that are kept for the events that have one, and the list with a tag or none for each event.
 use Rattle.std.proofs.Common.{ℕ, zero, suc, ◌+◌, ◌-◌, ◌<◌, ◌≤◌, ◌≡◌, ◌≢◌, ◌==◌, List, [], ◌∷◌, ◌++◌, length, get_or, Option, Some, None, Result, Ok, Err, if◌then◌else◌, inl, inr, refl, sym, ap, ◌∙◌, subst, arith, append-nil, append_assoc, replicate}
 use Rattle.std.specs.Prelude.{slice_get, MatchResult}
 use Rattle.std.specs.List.Sorted.{IsSearchInRange, IsBinarySearchResult, IsNonDecreasingBy}
@@ -41,7 +41,7 @@ listed_before (suc n) ts t l =
     ap (λ w. w ++ tag_at (ts ++ t ∷ []) n ∷ []) (listed_before n ts t (omega (arith, l)))
     ∙ ap (λ w. tags_listed n ts ++ w ∷ []) (tag_before ts t n (λ same. omega (arith, l, same)))
 
--- the list
+-- the list of tags
 
 pub listed_length : (n : ℕ) (ts : List TaggedEvent) → length (tags_listed n ts) ≡ n
 listed_length zero ts = refl
@@ -107,7 +107,7 @@ searched ts i (Err k) rise within parted = absent ts i (λ j l same. elim (cases
   | inr least ↦ let above : i < event_at ts j = ranked _ i _ (sym ((parted (comparisons_rise ts i rise)).1 j no_tag least l)) in omega (arith, above, same)
 ])
 
--- between two tags, the first of which is at the place before
+-- an index between two tags, the first of which is just before it
 module _ (ts : List TaggedEvent) (i place : ℕ) (rise : RisesIn ts) (within : place ≤ length ts) (below : 0 < place → event_at ts (place - 1) < i) where
   before_place : (j : ℕ) → j < place → event_at ts j < i
   before_place j l = elim (cases_lt j (place - 1)) [
@@ -131,7 +131,7 @@ module _ (ts : List TaggedEvent) (i place : ℕ) (rise : RisesIn ts) (within : p
 pub read_event : (ts : List TaggedEvent) (k : ℕ) (t : TaggedEvent) → k < length ts → (get_or ts k t).event ≡ event_at ts k
 read_event ts k t l = ap (λ w. w.event) (sym (get_or_default ts k no_tag t l))
 
--- the tag of an event, found at a place
+-- the tag of an event, found at an index
 
 pub tag_found : (n : ℕ) (ts : List TaggedEvent) (v : List (Option (List ℕ))) (i k : ℕ) (t : TaggedEvent) → tags_listed n ts ≡ v → RisesIn ts → i < length v
     → (k < length ts) × (event_at ts k ≡ i) → t ≡ get_or ts k t → slice_get v i ≡ Some (Some t.tag)
@@ -147,7 +147,7 @@ no_tag_found n ts v i seen l none =
     let inside : i < n = omega (arith, l, ap length seen, listed_length n ts) in
     ap (λ w. slice_get w i) (sym seen) ∙ listed_at n ts i inside ∙ ap Some none
 
--- where no tag is kept
+-- no tags are kept
 pub none_kept : (n : ℕ) (ts : List TaggedEvent) (i : ℕ) → i < length (tags_listed n ts) → length ts ≡ 0 → slice_get (tags_listed n ts) i ≡ Some None
 none_kept n [] i l none = no_tag_found n [] (tags_listed n []) i refl l refl
 none_kept n (t ∷ ts) i l none = absurd (omega (arith, none))

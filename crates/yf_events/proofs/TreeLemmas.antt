@@ -1,11 +1,11 @@
--- A list of events is that of one list of trees at most.
+-- A list of events is that of at most one list of trees.
 use Rattle.std.proofs.Common.{◌≡◌, ℕ, List, [], ◌∷◌, ◌++◌, flat_map, refl, sym, ap, ◌∙◌, append_assoc}
 use Rattle.yf_chars.proofs.Tests.{same_head, same_tail}
 use Rattle.yf_events.specs.Event.{EventValue, EventInText, stream_ends, document_starts, document_ends, sequence_starts, sequence_ends, mapping_starts, mapping_ends, scalar_node, alias_node}
 use Rattle.yf_events.specs.declared.lists.Lists.{Lists}
 use Rattle.yf_events.specs.Tree.{DocumentTree, TreesOf, flat_document, NodeOffsets, Node, scalar, alias, sequence, mapping, Items, no_items, item, Pairs, no_pairs, pair, placed, unplaced, flat, flat_items, flat_pairs}
 
--- what two equal lists have in common at their front
+-- equal lists have equal fronts
 
 pub standing_in : EventInText → NodeOffsets
 standing_in e = record { span = e.span; tag_offset = e.tag_offset; entry = e.entry }
@@ -23,14 +23,14 @@ same_lines d e p = ap (λ x. x.folded) p
 same_first_event : (d e : EventInText) (x y : List EventInText) → d ∷ x ≡ e ∷ y → d.event ≡ e.event
 same_first_event d e x y p = same_event d e (same_head p)
 
--- after the entries of a collection is its end
+-- the end of a collection is after its entries
 pub regrouped : (x : List EventInText) (d : EventInText) (r : List EventInText) → (x ++ (d ∷ [])) ++ r ≡ x ++ (d ∷ r)
 regrouped x d r = append_assoc x (d ∷ []) r
 
 three : (x y z r : List EventInText) → (x ++ (y ++ z)) ++ r ≡ x ++ (y ++ (z ++ r))
 three x y z r = append_assoc x (y ++ z) r ∙ ap (λ w. x ++ w) (append_assoc y z r)
 
--- two trees whose events begin the same list are the same tree
+-- two trees are equal if their events begin equal lists
 mutual
   pub node_unique : (x y : Node) (r s : List EventInText) → flat x ++ r ≡ flat y ++ s → (x ≡ y) × (r ≡ s)
   node_unique (scalar a p st t l) (scalar b q su u m) r s e =

@@ -1,4 +1,4 @@
--- The events of a reading are those of trees, where they have no place and no lines but those that trees have.
+-- The events of a reading are those of trees, if they have no offsets and no lines but those of trees.
 use Rattle.std.proofs.Common.{◌≡◌, ℕ, zero, suc, ◌+◌, Bool, true, false, List, [], ◌∷◌, ◌++◌, length, map, flat_map, refl, sym, ap, subst, ◌∙◌, append_assoc, arith, true≢false}
 use Rattle.std.specs.Prelude.{All, cond, count_by}
 use Rattle.std.proofs.lemmas.List.Sums.{sum_by-append}
@@ -21,7 +21,7 @@ each_of : (es : List EventInText) → All IsWellPlaced es → Each es
 each_of [] a = none
 each_of (e ∷ es) a = each (a 0 e (omega arith)) (each_of es (λ k d l. a (suc k) d (omega arith)))
 
--- What stands for two lists of events, one after the other
+-- The parts of a list of events that are two lists of values, one after the other
 
 record Parts (es : List EventInText) (x y : List EventValue) : Type 0 where
   front : List EventInText
@@ -226,7 +226,7 @@ stream_trees : {d : ℕ} {x : List EventValue} → IsStream d x → (es : List E
     → (ds : List DocumentTree) × (es ≡ flat_stream ds)
 stream_trees (a_stream {x = x} n) = λ es e w. stream_tree x (trees n) es e w
 
--- How many documents begin in the events of trees
+-- The number of documents that begin in the events of trees
 
 begun : List EventInText → ℕ
 begun es = count_by (λ e. begins_document e.event) es

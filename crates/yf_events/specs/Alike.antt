@@ -1,11 +1,11 @@
--- Two trees that differ by nothing but where their nodes are in a text: a node has a part of the text in both or in neither.
+-- Two trees that differ only in the offsets of their nodes: a node has a span in both or in neither.
 use Rattle.std.specs.Prelude.{◌≡◌, ℕ, Bool, is_some, List}
 use Rattle.yf_props.specs.Props.{PropsValue}
 use Rattle.yf_events.specs.declared.event.ScalarStyle.{ScalarStyle}
 use Rattle.yf_events.specs.Tree.{NodeOffsets, Node, scalar, alias, sequence, mapping, Items, no_items, item, Pairs, no_pairs, pair}
 
 mutual
-  -- K tells what a key with its value in the one tree has to do with those in the other
+  -- K relates a key with its value in one tree to those in the other
   pub data Alike (K : Node → Node → Node → Node → Type 0) : Node → Node → Type 0 where
     alike_scalars : {at bt : NodeOffsets} {props : PropsValue} {style : ScalarStyle} {text : List ℕ} {lines : List (List ℕ)}
         → is_some at.span ≡ is_some bt.span → Alike K (scalar at props style text lines) (scalar bt props style text lines)

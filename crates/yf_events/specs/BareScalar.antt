@@ -1,4 +1,4 @@
--- A scalar without properties, with the part of the text that it has, and the entry that it begins.
+-- A scalar without properties, with its span and the entry that it begins.
 use Rattle.std.specs.Prelude.{ℕ, List, [], Option, Some, None}
 use Rattle.yf_props.specs.Props.{no_props}
 use Rattle.yf_events.specs.Event.{EventInText, scalar_node}
@@ -12,6 +12,6 @@ abbrev pub bare_scalar : ScalarStyle → List ℕ → ℕ → ℕ → Option Ent
 bare_scalar style text start end entry =
     record { event = scalar_node no_props style text; span = Some (record { start = start; end = end }); tag_offset = None; entry = entry; folded = [] }
 
--- a row that stands for an event, whatever the table has
+-- a row is this event, with any table
 abbrev pub RowAlone : PackedEvent → EventInText → Type 0
 RowAlone r e = (more : List More) → RowOf more r e

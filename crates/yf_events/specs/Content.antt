@@ -1,4 +1,4 @@
--- The content of a reading: what it says, without styles of collections, markers and places.
+-- The content of a reading, without styles of collections, markers and offsets.
 use Rattle.std.specs.Prelude.{ℕ, Bool, true, false, List, [], ◌∷◌, Option, Some, None, map}
 use Rattle.std.specs.List.{flat_map, zip}
 use Rattle.yf_lines.specs.Steady.{is_steady}
@@ -18,7 +18,8 @@ use Rattle.yf_events.specs.declared.event.ScalarStyle.{ScalarStyle}
 use Rattle.yf_events.specs.declared.event.ScalarStyle.TheVariants.{Plain, Single, Double, Literal, Folded}
 use Rattle.yf_events.specs.declared.lists.Lists.{Lists}
 
--- the resolved tag of a scalar; of one without a tag, whether it is plain and steady, so that a schema may give it a type
+-- the resolved tag of a scalar; for one without a tag, whether it is plain and steady, so that a schema may give it a
+-- type
 pub data KindValue : Type 0 where
   tagged : List ℕ → KindValue
   plain_and_steady : KindValue
@@ -47,7 +48,7 @@ kind_of None Double text = untagged
 kind_of None Literal text = untagged
 kind_of None Folded text = untagged
 
--- what one event adds, with the resolved tag of the node that it begins
+-- the items that one event adds, with the resolved tag of the node that it begins
 abbrev pub items_of_event : EventValue → Option (List ℕ) → List ContentValue
 items_of_event stream_starts tag = []
 items_of_event stream_ends tag = []
@@ -60,7 +61,7 @@ items_of_event mapping_ends tag = end_of_mapping ∷ []
 items_of_event (scalar_node props style text) tag = a_scalar props.anchor (kind_of tag style text) text ∷ []
 items_of_event (alias_node name) tag = an_alias name ∷ []
 
--- what is before the documents: a directive is followed by its words
+-- the text before the documents: a directive is followed by its words
 pub data BeforeValue : Type 0 where
   before_document : BeforeValue
   a_directive : BeforeValue
@@ -72,7 +73,7 @@ items_of_directive d = a_directive ∷ map (λ word. a_word word) d.words
 abbrev pub items_of_document : Doc → List BeforeValue
 items_of_document d = before_document ∷ flat_map items_of_directive d.directives
 
--- of all documents the words of their directives, and the nodes in order
+-- the words of the directives of all documents, and the nodes in order
 pub record ContentOf : Type 0 where
   pub directives : List BeforeValue
   pub nodes : List ContentValue
@@ -83,7 +84,7 @@ nodes_of r = flat_map (λ e. items_of_event e.0 e.1) (zip (events_of r) r.resolv
 unfoldable pub content_of : Lists → ContentOf
 content_of r = record { directives = flat_map items_of_document r.documents; nodes = nodes_of r }
 
--- what an item of the code's list is
+-- the value of an item of the code's list
 
 abbrev pub kind_value : ScalarType → KindValue
 kind_value (Tagged tag) = tagged tag.now
@@ -99,7 +100,7 @@ item_value SequenceEnd = end_of_sequence
 item_value (Mapping anchor tag) = a_mapping (name_value anchor) (name_value tag)
 item_value MappingEnd = end_of_mapping
 
--- an item that may be missing
+-- an optional item
 abbrev pub items_listed : Option ContentItem → List ContentValue
 items_listed None = []
 items_listed (Some item) = item_value item ∷ []

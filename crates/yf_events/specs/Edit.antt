@@ -4,7 +4,7 @@ use Rattle.yf_events.specs.Event.{EventInText}
 use Rattle.yf_events.specs.declared.event.Entry.{Entry}
 use Rattle.yf_events.specs.declared.event.Span.{Span}
 
--- the event at the index changed; past the end none is
+-- the list with the event at the index changed; past the end nothing changes
 abbrev pub edited : (EventInText → EventInText) → ℕ → List EventInText → List EventInText
 edited f i [] = []
 edited f zero (e ∷ es) = f e ∷ es

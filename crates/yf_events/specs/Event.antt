@@ -1,4 +1,4 @@
--- What an event is to a contract: its names and texts are lists of bytes, wherever in memory they lie.
+-- The value of an event in a contract. Its names and texts are lists of bytes.
 use Rattle.std.specs.Prelude.{ℕ, zero, suc, Bool, List, [], ◌∷◌, Option, Some, map}
 use Rattle.yf_lines.specs.Text.{text_bytes}
 use Rattle.yf_props.specs.Props.{PropsValue, no_props, props_value}
@@ -45,7 +45,7 @@ event_value MapEnd = mapping_ends
 event_value (Scalar props style text) = scalar_node (props_value props) style text.now
 event_value (Alias name) = alias_node name.now
 
--- the same of an event that is to be added
+-- the value of an event to be added
 abbrev pub new_event_value : NewEvent → EventValue
 new_event_value New.StreamStart = stream_starts
 new_event_value New.StreamEnd = stream_ends
@@ -58,12 +58,12 @@ new_event_value New.MapEnd = mapping_ends
 new_event_value (New.Scalar props style text) = scalar_node (props_value props) style (text_bytes text)
 new_event_value (New.Alias name) = alias_node name.now
 
--- an event with where it is
+-- an event with its offsets
 pub record EventInText : Type 0 where
   pub event : EventValue
   -- the node's text with its properties
   pub span : Option Span
-  -- where its tag begins
+  -- the start of its tag
   pub tag_offset : Option ℕ
   -- the entry that it begins, as its item or key
   pub entry : Option Entry
@@ -78,7 +78,7 @@ abbrev pub view_value : View → EventInText
 view_value v =
     record { event = event_value v.event; span = v.span; tag_offset = v.tag_offset; entry = v.entry; folded = map (λ line. line.now) v.folded.now }
 
--- the events, of which the one at an index begins this entry
+-- the events, with this entry for the event at an index
 abbrev pub with_entry : List EventInText → ℕ → Entry → List EventInText
 with_entry [] i entry = []
 with_entry (e ∷ es) zero entry = record e { entry = Some entry } ∷ es

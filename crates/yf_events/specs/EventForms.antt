@@ -1,4 +1,4 @@
--- An event with other brackets round its collection, or its scalar in another style. Only a folded scalar has lines.
+-- An event with other brackets around its collection, or its scalar in another style. Only a folded scalar has lines.
 use Rattle.std.specs.Prelude.{ℕ, ◌≡◌, ◌≤◌, Bool, true, false, List, [], Option, Some, None, length}
 use Rattle.yf_events.specs.Event.{EventValue, EventInText, sequence_starts, mapping_starts, scalar_node}
 use Rattle.yf_events.specs.Packed.{more_at}
@@ -26,7 +26,7 @@ abbrev pub formed : Bool → ScalarStyle → EventInText → EventInText
 formed flow style e =
     record e { event = with_form flow style e.event; folded = lines_if (is_folded (with_form flow style e.event)) e.folded }
 
--- the same of what a row has
+-- the form of a row's parts
 
 abbrev pub shape_formed : Bool → ScalarStyle → Shape → Shape
 shape_formed flow style (Scalar _) = Scalar style
@@ -44,7 +44,7 @@ lined true m = m
 lined false None = None
 lined false (Some m) = Some (record m { folded = [] })
 
--- the number of the same entry of a table, without lines unless they are kept
+-- the number of the entry of a table, without lines unless they are kept
 pub record LinesDropped (old new : List More) (keeps : Bool) (number n : ℕ) : Type 0 where
   pub fits : n ≤ length new
   pub is : more_at new n ≡ lined keeps (more_at old number)

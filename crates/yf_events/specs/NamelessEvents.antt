@@ -1,4 +1,4 @@
--- Events that name nothing: they begin no document, and no node with an anchor or a tag, and are no alias.
+-- Events that name nothing: they begin no document, no node with an anchor or a tag, and are not aliases.
 use Rattle.std.specs.Prelude.{◌≡◌, ℕ, Bool, true, false, List, Some, map, slice_get}
 use Rattle.yf_props.specs.Props.{no_props}
 use Rattle.yf_events.specs.Event.{EventValue, EventInText, stream_starts, stream_ends, document_starts, document_ends, sequence_starts, sequence_ends, mapping_starts, mapping_ends, scalar_node, alias_node}
@@ -20,13 +20,13 @@ NamesNothing mapping_ends = Unit {0}
 NamesNothing (scalar_node props style text) = props ≡ no_props
 NamesNothing (alias_node name) = ⊥
 
--- the event at an index is one of these
+-- the event at an index names nothing
 pub record NothingAt (es : List EventInText) (i : ℕ) : Type 0 where
   pub event : EventValue
   pub there : slice_get (map (λ e. e.event) es) i ≡ Some event
   pub names : NamesNothing event
 
--- the same of a shape, where the node that it begins has no properties
+-- whether a shape names nothing, if its node has no properties
 abbrev pub names_nothing : Shape → Bool
 names_nothing StreamStart = true
 names_nothing StreamEnd = true
@@ -39,7 +39,7 @@ names_nothing MapEnd = true
 names_nothing (Scalar style) = true
 names_nothing Alias = false
 
--- the same of a row
+-- a row names nothing
 abbrev pub SilentRow : List More → PackedEvent → Type 0
 SilentRow more r = NamesNothing (shape_value r.shape (props_in (more_at more r.more)) (text_in (more_at more r.more) r.text.now))
 

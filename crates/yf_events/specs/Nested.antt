@@ -1,18 +1,18 @@
--- When events are well nested: each collection's end is after its nodes, a mapping holds pairs, each document one
--- root node, and no more collections than a limit are open at once.
+-- Well nested events: each collection's end is after its nodes, a mapping holds pairs, each document has one root
+-- node, and no more collections than a limit are open at once.
 use Rattle.std.specs.Prelude.{ℕ, suc, Bool, List, [], ◌∷◌, ◌++◌}
 use Rattle.yf_props.specs.Props.{PropsValue}
 use Rattle.yf_events.specs.declared.event.ScalarStyle.{ScalarStyle}
 use Rattle.yf_events.specs.Event.{EventValue, stream_starts, stream_ends, document_starts, document_ends, sequence_starts, sequence_ends, mapping_starts, mapping_ends, scalar_node, alias_node}
 
--- what a list of events stands for
+-- the part of a stream that a list of events is
 pub data Shape : Type 0 where
   one_node : Shape
   many_nodes : Shape
   many_pairs : Shape
   many_documents : Shape
 
--- the events of such a part, in which as many collections are open at once as the limit allows
+-- the events of such a part, with at most as many collections open at once as the limit
 pub data NestsWithin : Shape → ℕ → List EventValue → Type 0 where
   a_scalar : {d : ℕ} {props : PropsValue} {style : ScalarStyle} {text : List ℕ}
       → NestsWithin one_node d (scalar_node props style text ∷ [])

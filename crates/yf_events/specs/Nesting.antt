@@ -1,4 +1,4 @@
--- The test whether events are well nested, as one pass with a stack of what is awaited after the open collections.
+-- The test whether events are well nested: one pass with a stack of the states awaited after the open collections.
 use Rattle.std.specs.Prelude.{ℕ, suc, zero, ◌-◌, ◌≡◌, Bool, true, false, List, [], ◌∷◌, Option, Some, None, length, reverse}
 use Rattle.yf_events.specs.Event.{EventValue, stream_starts, stream_ends, document_starts, document_ends, sequence_starts, sequence_ends, mapping_starts, mapping_ends, scalar_node, alias_node}
 use Rattle.yf_events.specs.declared.nesting.NestingState.{NestingState}
@@ -6,7 +6,7 @@ use Rattle.yf_events.specs.declared.nesting.NestingState.TheVariants.{Stream, Do
 use Rattle.yf_events.specs.declared.nesting.Move.{Move}
 use Rattle.yf_events.specs.declared.nesting.Move.TheVariants.{Refuse, Stay, Open, Close}
 
--- what is awaited after a node
+-- the state awaited after a node
 abbrev pub after_node : NestingState → Option NestingState
 after_node Stream = None
 after_node Documents = None
@@ -57,12 +57,12 @@ move_at top mapping_ends = at_keys top
 move_at top (scalar_node props style text) = stay_if (after_node top)
 move_at top (alias_node name) = stay_if (after_node top)
 
--- one more collection, where there is room for it
+-- one more collection, if there is room for it
 abbrev pub enter : ℕ → (ℕ → Bool) → Bool
 enter zero rest = false
 enter (suc room) rest = rest room
 
--- the end of a collection, where one is open
+-- the end of a collection, if one is open
 abbrev pub leave : List NestingState → (NestingState → List NestingState → Bool) → Bool
 leave [] rest = false
 leave (top ∷ below) rest = rest top below
@@ -77,12 +77,13 @@ abbrev pub is_over : NestingState → List NestingState → Bool
 is_over Nothing [] = true
 is_over _ _ = false
 
--- with so much room for further collections, this awaited here, and those after the open collections, innermost first
+-- the run with room for further collections, the state awaited here, and the states after the open collections,
+-- innermost first
 unfoldable pub run : ℕ → NestingState → List NestingState → List EventValue → Bool
 run room top below [] = is_over top below
 run room top below (e ∷ es) = follow (move_at top e) room below (λ r t b. run r t b es)
 
--- one event was passed, where `below` has the innermost collection last: what is left to come is told from the new state
+-- the run after one event, with the innermost collection last in `below`: it goes on from the new state
 abbrev pub runs_on : Option NestingState → ℕ → List NestingState → List EventValue → Bool
 runs_on None room below es = false
 runs_on (Some top) room below es = run room top below es

@@ -13,7 +13,7 @@ use Rattle.yf_events.specs.declared.lists.Lists.{Lists}
 unfoldable pub hex_digit : ℕ → ℕ
 hex_digit n = if nat_lt n 10 then 48 + n else 55 + n
 
--- one byte of a text or a tag; those of a character above x7F are none of the bytes escaped
+-- one byte of a text or a tag; no byte of a character above x7F is escaped
 unfoldable pub escaped_byte : ℕ → List ℕ
 escaped_byte c =
     if c == BACKSLASH then codes "\\\\" else
@@ -47,7 +47,7 @@ style_sign Double = codes "\""
 style_sign Literal = codes "|"
 style_sign Folded = codes ">"
 
--- a part that is there only if the test holds
+-- a part, if the test holds
 abbrev pub part_if : Bool → List ℕ → List ℕ
 part_if true part = part
 part_if false part = []

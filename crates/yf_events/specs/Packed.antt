@@ -1,4 +1,4 @@
--- Events in rows of forty bytes, with a table of what most nodes lack: what a row stands for.
+-- Events in rows of forty bytes, with a table of the parts that most nodes lack: the values of the rows.
 use Rattle.std.specs.Prelude.{ℕ, zero, suc, ◌+◌, ◌≡◌, ◌≤◌, Bool, true, false, List, [], ◌∷◌, ◌++◌, Option, Some, None, length, slice_get}
 use Rattle.std.specs.Borrow.{Bor}
 use Rattle.yf_props.specs.Props.{PropsValue, props_value, no_props}
@@ -12,7 +12,7 @@ use Rattle.yf_events.specs.declared.packed.PackedEvent.{PackedEvent}
 use Rattle.yf_events.specs.declared.packed.Shape.{Shape}
 use Rattle.yf_events.specs.declared.packed.Shape.TheVariants.{StreamStart, StreamEnd, DocStart, DocEnd, SeqStart, SeqEnd, MapStart, MapEnd, Scalar, Alias}
 
--- what the table has at a number; none at 0
+-- the parts in the table at a number; none at 0
 abbrev pub more_at : List More → ℕ → Option More
 more_at more zero = None
 more_at more (suc k) = slice_get more k
@@ -37,7 +37,7 @@ abbrev pub props_in : Option More → PropsValue
 props_in None = no_props
 props_in (Some m) = props_value m.props
 
--- the text of one's own, or else the slice
+-- the text of its own, or the slice otherwise
 abbrev pub text_or : List ℕ → Option (List ℕ) → List ℕ
 text_or part None = part
 text_or part (Some text) = text
@@ -82,7 +82,7 @@ row_with r m = record {
   folded = folded_in m;
 }
 
--- what a row stands for
+-- the value of a row
 abbrev pub row_value : List More → PackedEvent → EventInText
 row_value more r = row_with r (more_at more r.more)
 
@@ -91,7 +91,7 @@ abbrev pub RowsFit : List More → List PackedEvent → Type 0
 RowsFit more [] = 0 ≤ length more
 RowsFit more (r ∷ rows) = (r.more ≤ length more) × RowsFit more rows
 
--- the row whose number is moved on, where it has one
+-- a row's number after more entries before it in the table, if it has one
 abbrev pub moved_on : ℕ → ℕ → ℕ
 moved_on by zero = zero
 moved_on by (suc k) = suc k + by
@@ -104,19 +104,19 @@ pub record TableGrown (old new : List More) : Type 0 where
   pub added : List More
   pub is : new ≡ old ++ added
 
--- nothing that a row could not tell by itself
+-- the parts that a row can do without
 pub record Lacks (m : More) : Type 0 where
   pub props : props_value m.props ≡ no_props
   pub tag_offset : m.tag_offset ≡ None
   pub text : m.text ≡ None
   pub folded : m.folded ≡ []
 
--- where the table has this, if it has to be there
+-- the number of these parts in the table, or 0 if a row can do without them
 pub data InTable (more : List More) : ℕ → More → Type 0 where
   kept_none : {m : More} → Lacks m → InTable more 0 m
   kept_at : {k : ℕ} {m : More} → slice_get more k ≡ Some m → InTable more (suc k) m
 
--- a row that stands for an event
+-- a row with the value of an event
 pub record RowOf (more : List More) (r : PackedEvent) (e : EventInText) : Type 0 where
   pub fits : r.more ≤ length more
   pub is : row_value more r ≡ e

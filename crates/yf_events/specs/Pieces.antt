@@ -1,4 +1,4 @@
--- The pieces that a line of the notation is written in.
+-- The pieces of a line of the notation.
 use Rattle.std.specs.Prelude.{ℕ, List, ◌∷◌, [], ◌++◌, Option, codes}
 use Rattle.std.specs.List.{concat}
 use Rattle.yf_props.specs.Props.{name_value}
@@ -14,7 +14,7 @@ piece_bytes (Escaped text) = escaped text.now
 piece_bytes (Anchor anchor) = anchor_part (name_value anchor)
 piece_bytes (Tag tag) = tag_part (name_value tag)
 
--- what the line of a scalar without properties begins with
+-- the start of the line of a scalar without properties
 abbrev pub bare_head : ScalarStyle → List ℕ
 bare_head PlainStyle = codes "=VAL :"
 bare_head Single = codes "=VAL '"

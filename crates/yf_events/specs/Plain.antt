@@ -1,4 +1,4 @@
--- Bytes that are in the notation as they are.
+-- Bytes that the notation has unchanged.
 use Rattle.std.specs.Prelude.{◌≡◌, ℕ, ◌<◌, ◌≤◌, List, false, slice_index}
 use Rattle.yf_events.specs.Notation.{is_escaped}
 

@@ -1,4 +1,4 @@
--- What writing a text does, told by a plain answer.
+-- The effect of writing a text, with a plain `bool` as the result.
 use Rattle.std.specs.Prelude.{ℕ, List, Bool, Option}
 use Rattle.std.specs.Bool.{MatchBool}
 use Rattle.yf_lines.specs.Output.{Wrote, Broke}

@@ -1,4 +1,4 @@
--- The resolved tags of events, which are kept for those events alone that have one.
+-- The resolved tags of events, kept only for events that have one.
 use Rattle.std.specs.Prelude.{ℕ, zero, suc, ◌<◌, ◌==◌, List, [], ◌∷◌, ◌++◌, length, slice_index_or, Option, Some, None, if◌then◌else◌}
 use Rattle.yf_props.specs.Props.{TagValue}
 use Rattle.yf_events.specs.Event.{EventValue, scalar_node, sequence_starts, mapping_starts}
@@ -9,16 +9,16 @@ abbrev pub tag_at : List TaggedEvent → ℕ → Option (List ℕ)
 tag_at [] i = None
 tag_at (t ∷ ts) i = if t.event == i then Some t.tag else tag_at ts i
 
--- for each of so many events its tag or none
+-- the tag or none of each of the first events
 abbrev pub tags_listed : ℕ → List TaggedEvent → List (Option (List ℕ))
 tags_listed zero ts = []
 tags_listed (suc n) ts = tags_listed n ts ++ tag_at ts n ∷ []
 
--- the event that the tag at an index is kept for
+-- the event of the tag at an index
 abbrev pub event_at : List TaggedEvent → ℕ → ℕ
 event_at ts k = let t = slice_index_or ts k (record { event = 0; tag = [] }) in t.event
 
--- the tags are in the order of their events, which are among the first so many
+-- the tags are in the order of their events, which are among the first `count`
 pub record TagsInOrder (count : ℕ) (ts : List TaggedEvent) : Type 0 where
   pub rise : (j k : ℕ) → j < k → k < length ts → event_at ts j < event_at ts k
   pub within : (k : ℕ) → k < length ts → event_at ts k < count

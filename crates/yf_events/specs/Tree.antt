@@ -1,4 +1,4 @@
--- A reading as trees: one node for each document, and each node with where it is in the text.
+-- A reading as trees: one node for each document, and each node with its offsets in the text.
 use Rattle.std.specs.Prelude.{◌≡◌, ℕ, Bool, false, true, not, is_some, List, [], ◌∷◌, ◌++◌, map, flat_map, length, Option, Some, None}
 use Rattle.yf_props.specs.Props.{PropsValue, no_props}
 use Rattle.yf_events.specs.Event.{EventValue, EventInText, stream_starts, stream_ends, document_starts, document_ends, sequence_starts, sequence_ends, mapping_starts, mapping_ends, scalar_node, alias_node}
@@ -7,16 +7,16 @@ use Rattle.yf_events.specs.declared.event.ScalarStyle.{ScalarStyle}
 use Rattle.yf_events.specs.declared.event.Span.{Span}
 use Rattle.yf_events.specs.declared.lists.Lists.{Lists}
 
--- where a node is: its text with its properties, where its tag begins, and the entry that it begins
+-- the offsets of a node: its text with its properties, the start of its tag, and the entry that it begins
 pub record NodeOffsets : Type 0 where
   pub span : Option Span
   pub tag_offset : Option ℕ
   pub entry : Option Entry
 
 mutual
-  -- the flag of a collection says whether it is a flow collection
+  -- the flag of a collection is whether it is a flow collection
   pub data Node : Type 0 where
-    -- properties, style, text, and of a folded scalar its lines
+    -- properties, style, text, and the lines of a folded scalar
     scalar : NodeOffsets → PropsValue → ScalarStyle → List ℕ → List (List ℕ) → Node
     alias : NodeOffsets → List ℕ → Node
     sequence : NodeOffsets → Bool → PropsValue → Items → Node
@@ -37,7 +37,7 @@ pub record DocumentTree : Type 0 where
   pub closed : Bool
   pub root : Node
 
--- an event that stands for no text of its own
+-- an event without a text of its own
 abbrev pub unplaced : EventValue → EventInText
 unplaced event = record { event = event; span = None; tag_offset = None; entry = None; folded = [] }
 
@@ -71,7 +71,7 @@ pub record TreesOf (r : Lists) (ds : List DocumentTree) : Type 0 where
   pub events : r.events ≡ flat_stream ds
   pub documents : length r.documents ≡ length ds
 
--- where a node is, and its properties; an alias has none
+-- the offsets of a node, and its properties; an alias has none
 abbrev pub standing : Node → NodeOffsets
 standing (scalar at props style text lines) = at
 standing (alias at name) = at
@@ -84,7 +84,7 @@ props_of (alias at name) = no_props
 props_of (sequence at flow props items) = props
 props_of (mapping at flow props pairs) = props
 
--- the offset at which the entry begins that a node begins
+-- the start of the entry that a node begins
 abbrev pub starts_of_entry : Option Entry → List ℕ
 starts_of_entry None = []
 starts_of_entry (Some entry) = entry.start ∷ []
@@ -92,7 +92,7 @@ starts_of_entry (Some entry) = entry.start ∷ []
 abbrev pub entry_start : Node → List ℕ
 entry_start x = starts_of_entry (standing x).entry
 
--- the part of the text that a leaf with characters has; an empty node has none
+-- the span of a leaf with characters; an empty node has none
 abbrev pub spans_of_leaf : Option Span → List Span
 spans_of_leaf None = []
 spans_of_leaf (Some span) = span ∷ []
@@ -154,7 +154,7 @@ is_sequence (alias at name) = false
 is_sequence (sequence at flow props items) = true
 is_sequence (mapping at flow props pairs) = false
 
--- the beginnings of the leaves with characters in a node, and of the entries in it, in order
+-- the starts of the leaves with characters in a node, and of the entries in it, in order
 abbrev mutual
   pub items_in : Node → List ℕ
   items_in (scalar at props style text lines) = map (λ s. s.start) (spans_of_leaf at.span)

@@ -1,3 +1,3 @@
-//! The list of comments of a reading, which is that of the readers of comments.
+//! The list of a reading's comments: that of the readers of comments.
 
 pub use yf_comments::comments::Comments;

@@ -1,4 +1,4 @@
-//! The content of a reading: what it says, whatever its styles, markers and places.
+//! The content of a reading, whatever its styles, markers and offsets.
 ghost use Rattle.std.specs.Prelude.{◌≡◌, ◌++◌, map, IfOk, MatchResult};
 ghost use Rattle.std.specs.List.{flat_map};
 ghost use Rattle.yf_events.specs.Content.{before_value, content_of, content_value, item_value, items_listed, items_of_directive, items_of_document, items_of_event, kind_of, kind_value, nodes_of};
@@ -14,14 +14,14 @@ use yf_lines::fault::Fault;
 use yf_lines::steady::is_steady;
 use yf_props::resolved::ResolvedTag;
 
-/// What is known of a scalar's type.
+/// The facts about a scalar's type.
 #[derive(Clone, Copy, PartialEq, Eq)]
 pub enum ScalarType<'r> {
     /// It has this resolved tag.
     Tagged(&'r ResolvedTag<'r>),
-    /// It has no tag, is plain, and may stay plain on one line, so that a schema may take it for a number or the like.
+    /// It has no tag, is plain, and may stay plain on one line, so a schema may take it for a number or another type.
     PlainAndSteady,
-    /// It has no tag, and is none of those.
+    /// It has no tag, and is not such a plain scalar.
     Untagged,
 }
 
@@ -50,7 +50,7 @@ pub enum ContentItem<'r> {
     MappingEnd,
 }
 
-/// One item of what is before the documents.
+/// One item of the text before the documents.
 #[derive(Clone, Copy, PartialEq, Eq)]
 pub enum DirectiveItem<'r> {
     /// The directives of the next document follow.
@@ -61,9 +61,9 @@ pub enum DirectiveItem<'r> {
     Word(&'r str),
 }
 
-/// The content of a reading: its documents, each with the words of its directives and its tree. Of a node it keeps the
-/// kind, the anchor, the resolved tag, and the text, the name, the items or the pairs; of a scalar without a tag also
-/// whether it is plain and steady.
+/// The content of a reading: its documents, each with the words of its directives and its tree. It keeps the kind of
+/// a node, the anchor, the resolved tag, and the text, the name, the items or the pairs, and for a scalar without a
+/// tag also whether it is plain and steady.
 #[derive(Drop, PartialEq, Eq)]
 pub struct Content<'r> {
     directives: Vec<DirectiveItem<'r>>,
@@ -94,7 +94,7 @@ fn scalar_kind<'r>(
     }
 }
 
-/// What an event adds to the content, with the resolved tag of the node that it begins.
+/// Returns the item that an event adds to the content, with the resolved tag of the node that it begins.
 fn item<'r>(event: Event<'r>, tag: Option<&'r ResolvedTag<'r>>) -> Option<ContentItem<'r>>
     ensures { items_listed result ≡ items_of_event (event_value event.entry) (name_value tag.entry) }
 {
@@ -187,8 +187,8 @@ fn directives<'r>(
 }
 
 impl<'a> Reading<'a> {
-    /// What the reading says, whatever its styles, markers and places. Answers `Fault::Memory` where a growth of memory
-    /// was refused.
+    /// Returns the content of the reading, whatever its styles, markers and offsets. Fails with `Fault::Memory` if
+    /// the allocator refuses memory.
     pub fn content<'r>(&'r self, alloc: Global) -> Result<Content<'r>, Fault>
         ensures { MatchResult result (λ content. content_value content ≡ content_of self.now) (λ fault. fault ≡ Fault.Memory) }
     {

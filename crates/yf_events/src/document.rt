@@ -3,10 +3,10 @@
 use crate::directive::Directives;
 use crate::values::Values;
 
-/// Where a document begins, and the directives before it.
+/// The start of a document, and the directives before it.
 #[derive(Drop)]
 pub struct Doc<'a> {
-    /// The byte offset of the `---`, or of the first character of content where none is written.
+    /// The byte offset of the `---`, or of the first character of content if there is none.
     pub start: usize,
     pub directives: Directives<'a>,
 }

@@ -1,4 +1,4 @@
-//! Texts with escapes, as the notation of events spells them.
+//! Texts with the escapes of the notation of events.
 ghost use Rattle.std.specs.Prelude.{◌≡◌, ◌/◌, ◌%◌, ◌<◌, ◌≤◌, ℕ, true, false, [], ◌∷◌, length, slice_index};
 ghost use Rattle.yf_chars.specs.Signs.{BACKSLASH};
 ghost use Rattle.yf_events.specs.Notation as Notation;
@@ -9,7 +9,7 @@ use yf_lines::fault::Fault;
 use yf_lines::output::write_text;
 use yf_lines::watched::Sink;
 
-/// Whether a byte is escaped.
+/// Returns whether a byte is escaped.
 #[inline(always)]
 #[tactic(auto, unfolding(crate::specs::Notation::is_escaped))]
 pub fn is_escaped(byte: u8) -> bool
@@ -18,7 +18,7 @@ pub fn is_escaped(byte: u8) -> bool
     byte == b'\\' || byte < 0x20
 }
 
-/// A hexadecimal digit, with upper-case letters.
+/// Returns a hexadecimal digit, with upper-case letters.
 #[tactic(auto, unfolding(crate::specs::Notation::hex_digit))]
 fn hex_digit(value: u8) -> u8
     requires { value < 16 }
@@ -31,7 +31,7 @@ fn hex_digit(value: u8) -> u8
     }
 }
 
-/// How many bytes from the front on are not escaped.
+/// Returns how many bytes from the start on are not escaped.
 fn plain_len(bytes: &[u8]) -> usize
     ensures within { result ≤ length bytes.now }
     ensures plain { (k : ℕ) → k < result → Notation.is_escaped (slice_index bytes.now k) ≡ false }

@@ -1,10 +1,10 @@
-//! The events of a stream (YAML 1.2.2, section 3.1.1 "Dump", the serialization events), each with its place.
+//! The events of a stream (YAML 1.2.2, section 3.1.1 "Dump", the serialization events), each with its offsets.
 
 use crate::slices::Slices;
 use yf_lines::text::Text;
 use yf_props::props::Props;
 
-/// How a scalar is written (YAML 1.2.2, sections 7.3 and 8.1).
+/// The style of a scalar (YAML 1.2.2, sections 7.3 and 8.1).
 #[derive(Clone, Copy, PartialEq, Eq)]
 pub enum ScalarStyle {
     Plain,
@@ -14,8 +14,8 @@ pub enum ScalarStyle {
     Folded,
 }
 
-/// One event, as a list of them tells it. `explicit` says whether `---` or `...` is written, `flow` whether the collection
-/// is a flow collection (a single pair is one).
+/// One event, as a list of events returns it. `explicit` is whether `---` or `...` is written, `flow` whether the
+/// collection is a flow collection (a single pair is one).
 #[derive(Clone, Copy)]
 pub enum Event<'r> {
     StreamStart,
@@ -46,7 +46,7 @@ pub enum Event<'r> {
     },
 }
 
-/// One event that is to be added to a list, with its text.
+/// One event to be added to a list, with its text.
 #[derive(Drop)]
 pub enum NewEvent<'a> {
     StreamStart,
@@ -87,20 +87,20 @@ pub struct Span {
 /// An entry of a collection.
 #[derive(Clone, Copy)]
 pub struct Entry {
-    /// The byte offset of its `-` or `?`, else of its item or key, else of the `:` of an empty key.
+    /// The byte offset of its `-` or `?`, or else of its item or key, or else of the `:` of an empty key.
     pub start: usize,
-    /// The byte offset of its `:`, where it has one.
+    /// The byte offset of its `:`, if it has one.
     pub colon: Option<usize>,
-    /// Whether a blank line is before it, with nothing but white space and line breaks between.
+    /// Whether a blank line is before it, with only white space and line breaks between.
     pub blank_before: bool,
 }
 
-/// An event that is to be added to a list, with where it is in the text.
+/// An event to be added to a list, with its offsets in the text.
 #[derive(Drop)]
 pub struct PlacedEvent<'a> {
     pub event: NewEvent<'a>,
-    /// The text of the node with its properties, at the event that begins it. An empty node has none, and neither has
-    /// any other event.
+    /// The text of the node with its properties, for the event that begins it. Empty nodes and other events have
+    /// none.
     pub span: Option<Span>,
     /// The byte offset of the `!` of the node's tag.
     pub tag_offset: Option<usize>,
@@ -110,7 +110,7 @@ pub struct PlacedEvent<'a> {
     pub folded: Slices<'a>,
 }
 
-/// The same of an event in a list, by value.
+/// An event in a list with its offsets, by value.
 #[derive(Clone, Copy)]
 pub struct View<'r> {
     pub event: Event<'r>,

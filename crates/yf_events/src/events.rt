@@ -13,7 +13,7 @@ use std::marker::Model;
 use yf_lines::packed_lines::narrow;
 use yf_props::props::Tag;
 
-/// Events in order. In a contract it is the list of what they are.
+/// Events in order. In a contract it is the list of their values.
 #[derive(Drop)]
 pub struct Events<'a> {
     rows: Vec<PackedEvent<'a>>,
@@ -61,8 +61,8 @@ impl<'a> Events<'a> {
         Ok(())
     }
 
-    /// Adds a scalar without properties at the end, whose text is a slice of the source, with the part of the text that it has, and the
-    /// entry that it begins.
+    /// Adds a scalar without properties at the end, with its span and the entry that it begins. Its text is a slice
+    /// of the source.
     #[inline(always)]
     pub fn push_scalar(
         &mut self,
@@ -86,7 +86,7 @@ impl<'a> Events<'a> {
         self.rows.len()
     }
 
-    /// The event at an index, with where it is.
+    /// Returns the event at an index, with its offsets.
     #[inline(always)]
     pub fn at(&self, i: usize) -> View<'_>
         requires { i < length self.now }
@@ -96,7 +96,7 @@ impl<'a> Events<'a> {
         view_of(row, more_in(self.more.as_slice(), row.more))
     }
 
-    /// The event at an index.
+    /// Returns the event at an index.
     #[inline(always)]
     pub fn event(&self, i: usize) -> Event<'_>
         requires { i < length self.now }
@@ -106,7 +106,7 @@ impl<'a> Events<'a> {
         event_of(row, more_in(self.more.as_slice(), row.more))
     }
 
-    /// The kind of the event at an index and its text, where it has nothing in the table.
+    /// Returns the kind of the event at an index and its text, if the table has nothing of it.
     #[inline(always)]
     pub(crate) fn alone(&self, i: usize) -> Option<(Shape, &str)>
         requires { i < length self.now }
@@ -119,8 +119,8 @@ impl<'a> Events<'a> {
         None
     }
 
-    /// The event at an index, where the table has nothing of it: it begins no node with properties, and its text is a slice of the
-    /// source.
+    /// Returns the event at an index, if the table has nothing of it: it begins no node with properties, and its text
+    /// is a slice of the source.
     #[inline(always)]
     pub fn bare_event(&self, i: usize) -> Option<Event<'_>>
         requires { i < length self.now }
@@ -133,7 +133,7 @@ impl<'a> Events<'a> {
         None
     }
 
-    /// The tag of the node that the event at an index begins, as it is written.
+    /// Returns the tag of the node that the event at an index begins, as it is written.
     #[inline(always)]
     pub fn tag(&self, i: usize) -> Option<Tag<'a>>
         requires { i < length self.now }
@@ -143,7 +143,7 @@ impl<'a> Events<'a> {
         tag_of(row, more_in(self.more.as_slice(), row.more))
     }
 
-    /// The part of the text that the event at an index has.
+    /// Returns the span of the event at an index.
     #[inline(always)]
     pub fn span(&self, i: usize) -> Option<Span>
         requires { i < length self.now }
@@ -152,7 +152,7 @@ impl<'a> Events<'a> {
         span_of(&self.rows[i])
     }
 
-    /// The entry that the event at an index begins.
+    /// Returns the entry that the event at an index begins.
     #[inline(always)]
     pub fn entry(&self, i: usize) -> Option<Entry>
         requires { i < length self.now }
@@ -161,7 +161,7 @@ impl<'a> Events<'a> {
         entry_of(&self.rows[i])
     }
 
-    /// The lines of the scalar at an index, where it was read as a folded one; else none.
+    /// Returns the lines of the scalar at an index if it was read as a folded one, and none otherwise.
     #[inline(always)]
     pub fn folded(&self, i: usize) -> &[&str]
         requires { i < length self.now }
@@ -170,8 +170,9 @@ impl<'a> Events<'a> {
         folded_of(more_in(self.more.as_slice(), self.rows[i].more))
     }
 
-    /// The first index from `start` on whose event names something, or how many events there are. An event that begins a document, or a
-    /// node with an anchor or a tag, names something, and so does an alias.
+    /// Returns the first index from `start` on with an event that names something, or the number of events. These
+    /// events name something: one that begins a document, one that begins a node with an anchor or a tag, and an
+    /// alias.
     #[inline(always)]
     pub fn naming_from(&self, start: usize) -> usize
         requires { start ≤ length self.now }
@@ -203,7 +204,7 @@ impl<'a> Events<'a> {
         Ok(())
     }
 
-    /// Keeps the first events alone.
+    /// Keeps only the first `count` events.
     pub fn truncate(&mut self, count: usize)
         ensures { self.new ≡ take count self.old }
     {
@@ -223,8 +224,8 @@ impl<'a> Events<'a> {
         Ok(())
     }
 
-    /// Sets where the node ends that the event at an index begins. A node without a place, as an empty one, stays so.
-    /// Past the end nothing is changed, here and below.
+    /// Sets the end of the node that the event at an index begins. A node without a span, such as an empty one, stays
+    /// so. Here and below, changes nothing if the index is past the end.
     pub fn set_end(&mut self, i: usize, end: usize) -> Result<(), AllocError>
         ensures edited { self.new ≡ (if is_ok result then edited (ended end) i self.old else self.old) }
         ensures len { length self.new ≡ length self.old }
@@ -236,7 +237,7 @@ impl<'a> Events<'a> {
         Ok(())
     }
 
-    /// Sets where the `:` is of the entry that the event at an index begins, if it begins one.
+    /// Sets the offset of the `:` in the entry that the event at an index begins, if it begins one.
     pub fn set_colon(&mut self, i: usize, colon: usize) -> Result<(), AllocError>
         ensures len { length self.new ≡ length self.old }
         ensures edited { self.new ≡ (if is_ok result then edited (coloned colon) i self.old else self.old) }
@@ -250,8 +251,8 @@ impl<'a> Events<'a> {
         Ok(())
     }
 
-    /// Gives the event at an index this style where it is a scalar, and these brackets or none where it begins a collection. Only a
-    /// folded scalar keeps its lines.
+    /// Gives the event at an index this style if it is a scalar, and brackets or none if it begins a collection. Only
+    /// a folded scalar keeps its lines.
     #[inline(always)]
     pub fn set_form(
         &mut self,

@@ -22,7 +22,7 @@ fn ends_after(events: &Events, i: usize) -> bool
     false
 }
 
-/// Whether the event begins a leaf, where the next event ends a collection or not.
+/// Returns whether the event begins a leaf. `ends_next` is whether the next event ends a collection.
 fn begins(event: &Event, ends_next: bool) -> bool
     ensures { result ≡ Reading.leaf_if (event_value event.now) ends_next }
 {
@@ -33,7 +33,7 @@ fn begins(event: &Event, ends_next: bool) -> bool
     }
 }
 
-/// Whether the event at an index begins a leaf.
+/// Returns whether the event at an index begins a leaf.
 pub fn begins_leaf(events: &Events, i: usize) -> bool
     requires { i < length events.now }
     ensures { result ≡ Reading.first_begins_leaf (drop i events.now) }
@@ -41,7 +41,7 @@ pub fn begins_leaf(events: &Events, i: usize) -> bool
     begins(&events.event(i), ends_after(events, i))
 }
 
-/// Whether the event at an index begins a leaf with characters, and before the offset.
+/// Returns whether the event at an index begins a leaf with characters before the offset.
 fn begins_before(events: &Events, i: usize, offset: usize) -> bool
     requires { i < length events.now }
     ensures { result ≡ Reading.first_begins_before offset (drop i events.now) }
@@ -61,7 +61,7 @@ fn one_if(test: bool) -> usize
     if test { 1 } else { 0 }
 }
 
-/// How many leaves with characters begin before the offset.
+/// Returns how many leaves with characters begin before the offset.
 pub fn leaves_before(events: &Events, offset: usize) -> usize
     ensures { result ≡ count_by (λ start. nat_lt start offset) (Reading.leaf_starts events.now) }
 {

@@ -1,4 +1,4 @@
-//! Readings: the flat list of events with their places, its notation and its content.
+//! Readings: the flat list of events with their offsets, its notation and its content.
 #![tactic(auto)]
 
 pub mod comments;

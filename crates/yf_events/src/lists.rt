@@ -1,4 +1,4 @@
-//! The lists that a reading is made of.
+//! The lists of a reading.
 ghost use Rattle.std.specs.Prelude.{◌≡◌, [], ◌∷◌, ◌++◌, IfOk};
 
 use crate::comments::Comments;
@@ -11,19 +11,18 @@ use std::alloc::{AllocError, Global};
 use yf_comments::comment::Comment;
 use yf_props::resolved::ResolvedTag;
 
-/// What was read of a stream, in order of the text.
+/// The parts of a stream, in the order of the text.
 #[derive(Drop)]
 pub struct Lists<'a> {
     /// All events of the stream.
     pub events: Events<'a>,
-    /// For each event the resolved tag of the node that it begins, where a tag is written (section 6.9.1).
+    /// For each event, the resolved tag of the node that it begins, if it has a tag (YAML 1.2.2, section 6.9.1).
     pub resolved: Tags<'a>,
     pub comments: Comments<'a>,
-    /// For each comment, whether it is on the line on which the last leaf with characters that begins before it
-    /// ends.
+    /// For each comment, whether it is on the line on which the last leaf with characters before it ends.
     pub on_leaf_line: Values<bool>,
     pub documents: Documents<'a>,
-    /// The byte offsets of the escapes that are no character.
+    /// The byte offsets of the escapes that are not characters.
     pub escapes: Values<usize>,
 }
 
@@ -32,7 +31,7 @@ impl<'a> Lists<'a> {
     ghost use Rattle.yf_events.specs.Event.{placed_value};
     ghost use Rattle.yf_events.specs.Reading.{ListsFit};
 
-    /// Empty lists.
+    /// Returns empty lists.
     pub fn new(alloc: Global) -> Lists<'a>
         ensures { result ≡ record { events = []; resolved = []; comments = []; on_leaf_line = []; documents = []; escapes = [] } }
     {
@@ -46,8 +45,8 @@ impl<'a> Lists<'a> {
         }
     }
 
-    /// Adds an event at the end, with the resolved tag of the node that it begins. After a refused growth the event
-    /// may be there without its tag.
+    /// Adds an event at the end, with the resolved tag of the node that it begins. If memory is refused, the event
+    /// may be in the list without its tag.
     pub fn push_event(
         &mut self,
         event: PlacedEvent<'a>,
@@ -63,7 +62,8 @@ impl<'a> Lists<'a> {
         self.resolved.push(tag)
     }
 
-    /// Adds a comment at the end, with its note. After a refused growth the comment may be there without its note.
+    /// Adds a comment at the end, with its note. If memory is refused, the comment may be in the list without its
+    /// note.
     pub fn push_comment(
         &mut self,
         comment: Comment<'a>,

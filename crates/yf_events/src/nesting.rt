@@ -1,4 +1,4 @@
-//! The test whether events are a well nested stream, in one pass.
+//! Tests in one pass whether events are a well nested stream.
 ghost use Rattle.std.specs.Prelude.{◌≡◌, ◌+◌, ◌≤◌, [], map, IfOk, MatchOption, vec_len};
 ghost use Rattle.yf_events.specs.Event.{event_value};
 ghost use Rattle.yf_events.specs.Nesting as Nesting;
@@ -7,7 +7,7 @@ use crate::event::Event;
 use crate::events::Events;
 use std::alloc::{AllocError, Global};
 
-/// What may come next.
+/// The events that may come next.
 #[derive(Clone, Copy)]
 pub enum NestingState {
     /// The start of the stream.
@@ -28,23 +28,23 @@ pub enum NestingState {
     Nothing,
 }
 
-/// What an event does to what is awaited.
+/// The effect of an event on the awaited events.
 #[derive(Clone, Copy)]
 pub enum Move {
-    /// It may not come here.
+    /// The event may not come here.
     Refuse,
-    /// This is awaited next.
+    /// This state is awaited next.
     Stay(NestingState),
-    /// It opens a collection, in which `within` is awaited, and `follows` once the collection has ended.
+    /// The event opens a collection, with `within` awaited in it and `follows` after its end.
     Open {
         follows: NestingState,
         within: NestingState,
     },
-    /// It ends the innermost collection.
+    /// The event ends the innermost collection.
     Close,
 }
 
-/// What is awaited after a node, if one may be here.
+/// Returns the state awaited after a node, if a node may come here.
 fn after_node(top: NestingState) -> Option<NestingState>
     ensures { result ≡ Nesting.after_node top }
 {
@@ -106,8 +106,8 @@ fn move_at(top: NestingState, event: &Event) -> Move
     }
 }
 
-/// Goes past one event: what is awaited after it, or None where it may not come. `below` holds what is awaited after
-/// each open collection, the innermost last.
+/// Passes one event. Returns the state awaited after it, or `None` if it may not come. `below` has the state awaited
+/// after each open collection, the innermost last.
 fn advance(
     top: NestingState,
     below: &mut Vec<NestingState>,
@@ -135,7 +135,7 @@ fn advance(
     }
 }
 
-/// Whether the events are a well nested stream with no more collections open at once than the limit.
+/// Returns whether the events are a well nested stream, with at most `limit` collections open at once.
 pub fn is_stream(alloc: Global, events: &Events, limit: usize) -> Result<bool, AllocError>
     ensures { IfOk result (λ b. b ≡ Nesting.run limit NestingState.Stream [] (map (λ e. e.event) events.now)) }
 {

@@ -99,7 +99,7 @@ fn put_pieces<W: Sink>(writer: &mut W, pieces: &[Piece]) -> bool
     }
 }
 
-/// The sign of a scalar's style.
+/// Returns the sign of a scalar's style.
 fn style_sign(style: ScalarStyle) -> &'static str
     ensures { result.now ≡ Notation.style_sign style }
 {
@@ -112,14 +112,14 @@ fn style_sign(style: ScalarStyle) -> &'static str
     }
 }
 
-/// The part, if it is to be there; else nothing.
+/// Returns the part if `is_there`, and an empty text otherwise.
 fn part_if<'s>(is_there: bool, part: &'s str) -> &'s str
     ensures { result.now ≡ Notation.part_if is_there part.now }
 {
     if is_there { part } else { "" }
 }
 
-// What the line of a scalar without properties begins with.
+// Returns the start of the line of a scalar without properties.
 fn bare_head(style: ScalarStyle) -> &'static str
     ensures { result.now ≡ bare_head style }
 {
@@ -213,7 +213,8 @@ fn put_parts<'x, W: Sink>(writer: &mut W, first: &'x str, second: &'x str) -> bo
     put_texts(writer, &[first, second, "\n"])
 }
 
-/// Writes the line of an event, with the resolved tag of the node that it begins, and tells whether that was done.
+/// Writes the line of an event, with the resolved tag of the node that it begins. Returns whether the write
+/// succeeded.
 #[inline(never)]
 #[tactic(auto, unfolding(crate::specs::Notation::event_line))]
 fn put_event<'x, W: Sink>(
@@ -250,8 +251,8 @@ fn put_event<'x, W: Sink>(
     }
 }
 
-// Writes the line of an event of this kind with this text and without properties, as most are, by the writes by which `put_event`
-// does.
+// Writes the line of an event of this kind with this text and without properties, as most are, with the writes of
+// `put_event`.
 #[inline(always)]
 #[tactic(auto, unfolding(crate::specs::Notation::event_line))]
 fn put_alone<W: Sink>(writer: &mut W, shape: Shape, text: &str) -> bool
@@ -292,10 +293,10 @@ fn put_at<W: Sink>(writer: &mut W, events: &Events, i: usize, tag: Option<&Resol
     put_event(writer, events.event(i), tag)
 }
 
-/// Writes the notation of all events of a reading.
+/// Writes the notation of all events of a reading. Allocates no memory.
 ///
-/// Answers `Fault::WriteFailed` where a write fails or takes no bytes; a prefix of the notation has then been written.
-/// Takes no memory.
+/// Fails with `Fault::WriteFailed` if a write fails or takes no bytes; a prefix of the notation has then been
+/// written.
 pub fn write_events<W: Sink>(reading: &Reading, writer: &mut W) -> Result<(), Fault>
     ensures { TextWritten (W.contents writer.old) (W.contents writer.new) (W.has_failed writer.old) (W.has_failed writer.new)
         (Notation.notation_of reading.now) result }

@@ -1,4 +1,5 @@
-//! Events in rows of forty bytes, with a table of what most nodes lack: properties, texts of their own, folded lines.
+//! Events in rows of forty bytes, with a table of the parts that most nodes lack: properties, texts of their own,
+//! folded lines.
 ghost use Rattle.std.specs.Prelude.{◌≡◌, ℕ, ◌≤◌, ◌<◌, length, map, IfOk, MatchBool};
 ghost use Rattle.yf_events.specs.Event.{event_value, view_value};
 ghost use Rattle.yf_events.specs.Packed.{entry_at, folded_in, more_at, more_value, props_in, row_with, shape_value, shifted, span_at, text_in};
@@ -19,7 +20,7 @@ pub const NO_PROPS: Props<'static> = Props {
     tag: None,
 };
 
-/// What kind of event it is.
+/// The kind of an event.
 #[derive(Clone, Copy)]
 pub enum Shape {
     StreamStart,
@@ -44,24 +45,24 @@ pub enum Begins {
     KeyedAfterBlank,
 }
 
-/// An event: its kind, its place, and its text or name where that is a slice of the source.
+/// An event: its kind, its offsets, and its text or name if that is a slice of the source.
 #[derive(Clone, Copy)]
 pub struct PackedEvent<'a> {
     pub shape: Shape,
-    /// Whether it has a part of the text, from `start` to `end`.
+    /// Whether it has a span, from `start` to `end`.
     pub placed: bool,
     pub begins: Begins,
     pub start: u32,
     pub end: u32,
-    /// Where the entry begins that it begins, and where its `:` is.
+    /// The offsets of its entry and of the entry's `:`.
     pub entry: u32,
     pub colon: u32,
-    /// The number in the table of what the row has no room for, counted from 1; 0 where it has nothing there.
+    /// The number in the table of the parts without room in the row, counted from 1; 0 if there are none.
     pub more: u32,
     pub text: &'a str,
 }
 
-/// What most nodes lack.
+/// The parts that most nodes lack.
 #[derive(Drop)]
 pub struct More<'a> {
     pub props: Props<'a>,
@@ -70,7 +71,7 @@ pub struct More<'a> {
     pub folded: Slices<'a>,
 }
 
-/// The same entry with a `:`.
+/// Returns the entry with a `:`.
 pub fn keyed(begins: Begins) -> Begins
     ensures { result ≡ Packed.keyed begins }
 {
@@ -83,7 +84,7 @@ pub fn keyed(begins: Begins) -> Begins
     }
 }
 
-/// What the table has at a number.
+/// Returns the parts in the table at a number.
 #[inline(always)]
 pub fn more_in<'r, 'a>(list: &'r [More<'a>], number: u32) -> Option<&'r More<'a>>
     ensures { more_value result ≡ more_at list.now number }
@@ -94,7 +95,7 @@ pub fn more_in<'r, 'a>(list: &'r [More<'a>], number: u32) -> Option<&'r More<'a>
     list.get(number as usize - 1)
 }
 
-/// The event of a row.
+/// Returns the event of a row.
 #[inline(always)]
 pub fn event_of<'r>(row: &'r PackedEvent<'r>, more: Option<&'r More<'r>>) -> Event<'r>
     ensures { event_value result ≡ shape_value row.now.shape (props_in (more_value more.entry))
@@ -137,7 +138,7 @@ fn text_of<'r>(row: &'r PackedEvent<'r>, more: Option<&'r More<'r>>) -> &'r str
     }
 }
 
-/// The part of the text that a row has.
+/// Returns the span of a row.
 #[inline(always)]
 pub fn span_of(row: &PackedEvent) -> Option<Span>
     ensures { result ≡ span_at row.now.placed row.now.start row.now.end }
@@ -151,7 +152,7 @@ pub fn span_of(row: &PackedEvent) -> Option<Span>
     None
 }
 
-/// The entry that a row begins.
+/// Returns the entry that a row begins.
 #[inline(always)]
 pub fn entry_of(row: &PackedEvent) -> Option<Entry>
     ensures { result ≡ entry_at row.now.begins row.now.entry row.now.colon }
@@ -171,7 +172,7 @@ pub fn entry_of(row: &PackedEvent) -> Option<Entry>
     })
 }
 
-/// The tag of the node that a row begins, as it is written.
+/// Returns the tag of the node that a row begins, as it is written.
 #[inline(always)]
 pub fn tag_of<'a>(row: &PackedEvent<'a>, more: Option<&More<'a>>) -> Option<Tag<'a>>
     ensures { optional_tag_value result ≡ written_tag (shape_value row.now.shape (props_in (more_value more.entry))
@@ -192,7 +193,7 @@ pub fn tag_of<'a>(row: &PackedEvent<'a>, more: Option<&More<'a>>) -> Option<Tag<
     }
 }
 
-/// Where the tag begins.
+/// Returns the start of the tag.
 #[inline(always)]
 pub fn tag_offset_of(more: Option<&More>) -> Option<usize>
     ensures { result ≡ Packed.tag_offset_in (more_value more.entry) }
@@ -203,7 +204,7 @@ pub fn tag_offset_of(more: Option<&More>) -> Option<usize>
     }
 }
 
-/// The lines of a folded scalar.
+/// Returns the lines of a folded scalar.
 #[inline(always)]
 pub fn folded_of<'r>(more: Option<&'r More<'r>>) -> &'r [&'r str]
     ensures { map (λ line. line.now) result.now ≡ folded_in (more_value more.entry) }
@@ -214,7 +215,7 @@ pub fn folded_of<'r>(more: Option<&'r More<'r>>) -> &'r [&'r str]
     }
 }
 
-/// The event of a row, with where it is.
+/// Returns the event of a row, with its offsets.
 #[inline(always)]
 pub fn view_of<'r>(row: &'r PackedEvent<'r>, more: Option<&'r More<'r>>) -> View<'r>
     ensures { view_value result ≡ row_with row.now (more_value more.entry) }
@@ -228,7 +229,7 @@ pub fn view_of<'r>(row: &'r PackedEvent<'r>, more: Option<&'r More<'r>>) -> View
     }
 }
 
-/// Moves the numbers of the rows on. After a refusal the rows are of no use.
+/// Adds `by` to the numbers of the rows. If memory is refused, the rows are of no use.
 pub fn shift(rows: &mut Vec<PackedEvent>, by: u32) -> Result<(), AllocError>
     ensures { IfOk result (λ _. rows.new.items ≡ map (shifted by) rows.old.items) }
 {
@@ -238,7 +239,7 @@ pub fn shift(rows: &mut Vec<PackedEvent>, by: u32) -> Result<(), AllocError>
     Ok(())
 }
 
-/// The number of a row, where that many are in the table before; 0 stays.
+/// Returns the number of a row after `by` more entries before it in the table; 0 stays 0.
 fn moved_on(number: u32, by: u32) -> Result<u32, AllocError>
     ensures { IfOk result (λ n. n ≡ Packed.moved_on by number) }
 {
@@ -251,7 +252,7 @@ fn moved_on(number: u32, by: u32) -> Result<u32, AllocError>
     }
 }
 
-// Whether an event of this shape names nothing, where the node that it begins has no properties.
+// Returns whether an event of this shape names nothing, if its node has no properties.
 #[inline(always)]
 fn names_nothing(shape: Shape) -> bool
     ensures { result ≡ Silent.names_nothing shape }
@@ -269,7 +270,7 @@ fn names_nothing(shape: Shape) -> bool
     }
 }
 
-// Whether neither an anchor nor a tag is written.
+// Returns whether neither an anchor nor a tag is written.
 fn are_none(props: &Props) -> bool
     ensures { MatchBool result (props_value props.now ≡ no_props) (props_value props.now ≡ no_props → ⊥) }
 {
@@ -279,7 +280,7 @@ fn are_none(props: &Props) -> bool
     props.tag.is_none()
 }
 
-// Whether an event names nothing.
+// Returns whether an event names nothing.
 fn is_bare(event: &Event) -> bool
     ensures { MatchBool result (NamesNothing (event_value event.now)) (NamesNothing (event_value event.now) → ⊥) }
 {
@@ -296,7 +297,7 @@ fn is_bare(event: &Event) -> bool
     }
 }
 
-// Whether the event of a row names nothing, where the table may have something of it.
+// Returns whether the event of a row names nothing, for a row that may have parts in the table.
 #[inline(never)]
 fn is_silent_with(row: &PackedEvent, table: &[More]) -> bool
     ensures { MatchBool result (SilentRow table.now row.now) (SilentRow table.now row.now → ⊥) }
@@ -304,7 +305,7 @@ fn is_silent_with(row: &PackedEvent, table: &[More]) -> bool
     is_bare(&event_of(row, more_in(table, row.more)))
 }
 
-// Whether the event of a row names nothing. Most rows have nothing in the table.
+// Returns whether the event of a row names nothing. Most rows have nothing in the table.
 #[inline(always)]
 fn is_silent(row: &PackedEvent, table: &[More]) -> bool
     ensures { MatchBool result (SilentRow table.now row.now) (SilentRow table.now row.now → ⊥) }
@@ -315,7 +316,7 @@ fn is_silent(row: &PackedEvent, table: &[More]) -> bool
     is_silent_with(row, table)
 }
 
-/// The first index from `start` on whose row names something, or how many rows there are.
+/// Returns the first index from `start` on with a row that names something, or the number of rows.
 pub fn naming_from(rows: &[PackedEvent], table: &[More], start: usize) -> usize
     requires { start ≤ length rows.now }
     ensures within { (start ≤ result) × (result ≤ length rows.now) }

@@ -13,7 +13,7 @@ use yf_lines::packed_lines::narrow;
 use yf_lines::text::{OwnedText, Text};
 use yf_props::props::Props;
 
-/// An event without its place, taken apart.
+/// An event without its offsets, taken apart.
 #[derive(Drop)]
 struct Taken<'a> {
     shape: Shape,
@@ -29,7 +29,7 @@ struct Stretch {
     end: u32,
 }
 
-/// What a row keeps of an entry.
+/// The parts of an entry that a row keeps.
 #[derive(Clone, Copy)]
 pub struct Beginning {
     pub begins: Begins,
@@ -59,7 +59,7 @@ fn narrow_span(span: Option<Span>) -> Result<Stretch, AllocError>
     }
 }
 
-/// What a row keeps of the entry that an event begins.
+/// Returns the parts that a row keeps of the entry that an event begins.
 #[inline(always)]
 pub fn narrow_entry(entry: Option<Entry>) -> Result<Beginning, AllocError>
     ensures { IfOk result (λ b. entry_at b.begins b.start b.colon ≡ entry) }
@@ -173,7 +173,7 @@ fn taken_apart<'a>(event: NewEvent<'a>) -> Taken<'a>
     }
 }
 
-/// Whether a row can do without it.
+/// Returns whether a row can do without these parts.
 #[inline(always)]
 fn lacks(more: &More) -> bool
     ensures { MatchBool result (Lacks more.now) (Unit {0}) }
@@ -193,7 +193,7 @@ fn lacks(more: &More) -> bool
     more.folded.as_slice().is_empty()
 }
 
-/// Puts it into the table if a row can't do without it, and answers its number.
+/// Puts the parts into the table if a row needs them. Returns their number.
 #[inline(always)]
 fn kept<'a>(list: &mut Vec<More<'a>>, more: More<'a>) -> Result<u32, AllocError>
     ensures grown { TableGrown list.old.items list.new.items }
@@ -206,7 +206,7 @@ fn kept<'a>(list: &mut Vec<More<'a>>, more: More<'a>) -> Result<u32, AllocError>
     narrow(list.len())
 }
 
-/// The row of an event, whose properties and the like are put into the table.
+/// Returns the row of an event. Its properties and other rare parts go into the table.
 #[inline(always)]
 pub fn row_of<'a>(
     list: &mut Vec<More<'a>>,
@@ -253,7 +253,7 @@ pub fn row_of<'a>(
     })
 }
 
-/// The row of a scalar without properties whose text is a slice of the source, and which needs no table.
+/// Returns the row of a scalar without properties. Its text is a slice of the source, so it needs no table.
 #[inline(always)]
 pub fn scalar_row<'a>(
     style: ScalarStyle,

@@ -1,10 +1,10 @@
-//! What the readers of nodes give.
+//! The results of the readers of nodes.
 
 use crate::comments::Comments;
 use crate::events::Events;
 use crate::values::Values;
 
-/// One node: its events, the comments in it, and the byte offsets of the escapes in it that are no character.
+/// One node: its events, its comments, and the byte offsets of its escapes that are not characters.
 #[derive(Drop)]
 pub struct Part<'a> {
     pub events: Events<'a>,

@@ -1,4 +1,4 @@
-//! Whether a text is in the notation as it is. Two loads that overlap cover a short text.
+//! Whether the notation has a text unchanged. Two loads that overlap cover a short text.
 ghost use Rattle.std.specs.Prelude.{◌+◌, ◌≤◌, length};
 ghost use Rattle.std.specs.Bool.{OnTrue};
 ghost use Rattle.yf_events.specs.Plain.{PlainBetween};
@@ -68,7 +68,7 @@ fn plain_long(text: &[u8]) -> bool
     plain_16(text, text.len() - 16)
 }
 
-/// How many bytes from the front on are surely not escaped: whole runs of sixteen.
+/// Returns how many bytes from the start on are surely not escaped: whole runs of sixteen.
 pub fn plain_runs(text: &[u8]) -> usize
     ensures within { result ≤ length text.now }
     ensures plain { PlainBetween text.now 0 result }
@@ -83,7 +83,7 @@ pub fn plain_runs(text: &[u8]) -> usize
     at
 }
 
-/// Whether no byte of it is escaped.
+/// Returns whether no byte of the text is escaped.
 #[inline(always)]
 pub fn is_plain(text: &[u8]) -> bool
     ensures { OnTrue result (PlainBetween text.now 0 (length text.now)) }

@@ -1,4 +1,4 @@
-//! Texts that are written, with a plain answer: a fault is larger than most of them.
+//! Writes of texts that return a plain `bool`: a fault is larger than most texts.
 ghost use Rattle.yf_events.specs.Notation as Notation;
 ghost use Rattle.yf_events.specs.PlainWrites.{PlainWritten};
 ghost use Rattle.yf_lines.specs.Output.{texts};
@@ -8,7 +8,7 @@ use crate::plain::is_plain;
 use yf_lines::output::{write_text, write_texts};
 use yf_lines::watched::Sink;
 
-/// Writes all the bytes, and tells whether that was done.
+/// Writes all the bytes. Returns whether the write succeeded.
 #[inline(always)]
 pub fn put_text<W: Sink>(writer: &mut W, bytes: &[u8]) -> bool
     ensures { PlainWritten (W.contents writer.old) (W.contents writer.new) (W.has_failed writer.old) (W.has_failed writer.new) bytes.now result }
@@ -19,7 +19,7 @@ pub fn put_text<W: Sink>(writer: &mut W, bytes: &[u8]) -> bool
     }
 }
 
-/// Writes the texts one after another, and tells whether that was done.
+/// Writes the texts one after another. Returns whether the write succeeded.
 pub fn put_texts<W: Sink>(writer: &mut W, parts: &[&str]) -> bool
     ensures { PlainWritten (W.contents writer.old) (W.contents writer.new) (W.has_failed writer.old) (W.has_failed writer.new) (texts parts.now) result }
 {
@@ -29,7 +29,8 @@ pub fn put_texts<W: Sink>(writer: &mut W, parts: &[&str]) -> bool
     }
 }
 
-/// Writes a text with its escapes, and tells whether that was done. Most texts have none, and are written as they are.
+/// Writes a text with its escapes. Returns whether the write succeeded. Most texts have no escapes, and are written
+/// unchanged.
 #[inline(always)]
 pub fn put_escaped<W: Sink>(writer: &mut W, text: &str) -> bool
     ensures { PlainWritten (W.contents writer.old) (W.contents writer.new) (W.has_failed writer.old) (W.has_failed writer.new)
@@ -41,7 +42,7 @@ pub fn put_escaped<W: Sink>(writer: &mut W, text: &str) -> bool
     put_runs(writer, text)
 }
 
-// The same for a text with escapes.
+// Like `put_escaped`, for a text with escapes.
 #[inline(never)]
 fn put_runs<W: Sink>(writer: &mut W, text: &str) -> bool
     ensures { PlainWritten (W.contents writer.old) (W.contents writer.new) (W.has_failed writer.old) (W.has_failed writer.new)

@@ -12,14 +12,14 @@ use yf_comments::comment::Comment;
 use yf_lines::fault::Fault;
 use yf_props::resolved::ResolvedTag;
 
-/// How many collections may be open at once. A single pair of a flow sequence counts as a mapping.
+/// The most collections that may be open at once. A single pair of a flow sequence counts as a mapping.
 pub const DEPTH: usize = 1024;
 
-/// The most bytes that a text may have of which a reading is made: 1 GiB. A reading keeps offsets in 32 bits, and no column is larger.
+/// The most bytes of a text with a reading: 1 GiB. A reading keeps offsets in 32 bits, and no column is larger.
 pub const LONGEST: usize = 1 << 30;
 
-/// What a stream of YAML says: its events, comments and documents, each with its place. The events are well nested,
-/// and at most `DEPTH` collections are open at once. In a contract it is the lists that it was made of.
+/// A stream of YAML: its events, comments and documents, each with its offsets. The events are well nested, and at
+/// most `DEPTH` collections are open at once. In a contract it is the lists from which it was made.
 #[derive(Drop)]
 pub struct Reading<'a> {
     lists: Lists<'a>,
@@ -44,9 +44,9 @@ impl<'a> Reading<'a> {
     ghost use Rattle.yf_events.specs.Nested.{IsStream};
     ghost use Rattle.yf_events.specs.Reading.{ListsFit, documents_before, leaves_before, entries_of, events_of, folded_of, spans_of, place_at};
 
-    /// The reading that the lists make; None where the events are no well nested stream, or more than `DEPTH`
-    /// collections are open at once. Each event has its resolved tag or none, and each comment its note (conditions).
-    /// Answers `Fault::Memory` where a growth of memory was refused.
+    /// Returns the reading of the lists, or `None` if the events are not a well nested stream or open more than
+    /// `DEPTH` collections at once. The lists must have a resolved tag or none for each event, and a note for each
+    /// comment. Fails with `Fault::Memory` if the allocator refuses memory.
     pub fn build(alloc: Global, lists: Lists<'a>) -> Result<Option<Reading<'a>>, Fault>
         requires { ListsFit lists }
         ensures { MatchResult result (λ o. MatchOption o (IsStream DEPTH (events_of lists.entry) → ⊥)
@@ -65,8 +65,9 @@ impl<'a> Reading<'a> {
         }
     }
 
-    /// The reading that the lists make whose events are known to be a well nested stream with at most `DEPTH` collections open at once, so
-    /// that they aren't tested (conditions). Each event has its resolved tag or none, and each comment its note, as in `build`.
+    /// Returns the reading of the lists without a test. The events must be a well nested stream with at most `DEPTH`
+    /// collections open at once. As for `build`, the lists must have a resolved tag or none for each event, and a
+    /// note for each comment.
     pub fn of_stream(lists: Lists<'a>) -> Reading<'a>
         requires fits { ListsFit lists }
         requires nested { IsStream DEPTH (events_of lists) }
@@ -75,7 +76,7 @@ impl<'a> Reading<'a> {
         Reading { lists }
     }
 
-    /// The lists that the reading was made of.
+    /// Returns the lists from which the reading was made.
     #[inline(always)]
     pub fn lists(&self) -> &Lists<'a>
         ensures same { result.now ≡ self.now }
@@ -85,7 +86,7 @@ impl<'a> Reading<'a> {
         &self.lists
     }
 
-    /// The lists themselves, for a reading that is no longer wanted.
+    /// Returns the lists by value, and drops the reading.
     #[inline(always)]
     pub fn into_lists(self) -> Lists<'a>
         ensures same { result ≡ self.entry }
@@ -95,7 +96,7 @@ impl<'a> Reading<'a> {
         self.lists
     }
 
-    /// How many events there are, `StreamStart` and `StreamEnd` counted.
+    /// Returns the number of events, including `StreamStart` and `StreamEnd`.
     #[inline(always)]
     pub fn len(&self) -> usize
         ensures { result ≡ length self.now.events }
@@ -103,7 +104,7 @@ impl<'a> Reading<'a> {
         self.lists.events.len()
     }
 
-    /// The event at an index; `StreamStart` is event 0.
+    /// Returns the event at an index; `StreamStart` is event 0.
     #[inline(always)]
     pub fn event(&self, i: usize) -> Event<'_>
         requires { i < length self.now.events }
@@ -112,8 +113,8 @@ impl<'a> Reading<'a> {
         self.lists.events.event(i)
     }
 
-    /// The same, where it begins no node with properties and its text is a slice of the source, as of most events. `None` where it is
-    /// not told so.
+    /// Returns the event at an index if it begins no node with properties and its text is a slice of the source, like
+    /// most events. May return `None` for other such events.
     #[inline(always)]
     pub fn bare_event(&self, i: usize) -> Option<Event<'_>>
         requires { i < length self.now.events }
@@ -122,7 +123,7 @@ impl<'a> Reading<'a> {
         self.lists.events.bare_event(i)
     }
 
-    /// The part of the text that the node has which the event begins, with its properties. An empty node has none.
+    /// Returns the span of the node that the event begins, with its properties. An empty node has none.
     #[inline(always)]
     pub fn span(&self, i: usize) -> Option<Span>
         requires { i < length self.now.events }
@@ -131,7 +132,7 @@ impl<'a> Reading<'a> {
         self.lists.events.span(i)
     }
 
-    /// The entry that the event begins, as its item or key.
+    /// Returns the entry that the event begins, as its item or key.
     #[inline(always)]
     pub fn entry(&self, i: usize) -> Option<Entry>
         requires { i < length self.now.events }
@@ -140,7 +141,7 @@ impl<'a> Reading<'a> {
         self.lists.events.entry(i)
     }
 
-    /// The lines of the scalar that the event is, where it was read as a folded one; else none.
+    /// Returns the lines of the scalar at an index if it was read as a folded one, and none otherwise.
     pub fn folded_lines(&self, i: usize) -> &[&str]
         requires { i < length self.now.events }
         ensures { slice_get (folded_of self.now) i ≡ Some (map (λ line. line.now) result.now) }
@@ -148,7 +149,7 @@ impl<'a> Reading<'a> {
         self.lists.events.folded(i)
     }
 
-    /// The resolved tag of the node that the event begins, where one is written.
+    /// Returns the resolved tag of the node that the event begins, if it has a tag.
     #[inline(always)]
     pub fn resolved(&self, i: usize) -> Option<&ResolvedTag<'a>>
         requires { i < length self.now.events }
@@ -157,8 +158,8 @@ impl<'a> Reading<'a> {
         self.lists.resolved.at(i)
     }
 
-    /// The same in a pass over the events: `cursor` is as the call for an event before it left it, at first 0. It only makes the search
-    /// short.
+    /// Like `resolved`, in a pass over the events. `cursor` is the result of the call for an earlier event, and 0 at
+    /// first. It only makes the search short.
     #[inline(always)]
     pub fn resolved_at_cursor(&self, i: usize, cursor: &mut usize) -> Option<&ResolvedTag<'a>>
         requires { i < length self.now.events }
@@ -167,21 +168,21 @@ impl<'a> Reading<'a> {
         self.lists.resolved.at_cursor(i, cursor)
     }
 
-    /// The comments, in order of the text.
+    /// Returns the comments, in the order of the text.
     pub fn comments(&self) -> &[Comment<'a>]
         ensures { map comment_value result.now ≡ self.now.comments }
     {
         self.lists.comments.as_slice()
     }
 
-    /// The documents, in order of the text.
+    /// Returns the documents, in the order of the text.
     pub fn documents(&self) -> &[Doc<'a>]
         ensures { result.now ≡ self.now.documents }
     {
         self.lists.documents.as_slice()
     }
 
-    /// Whether a comment is on the line on which the last leaf with characters that begins before it ends.
+    /// Returns whether a comment is on the line on which the last leaf with characters before it ends.
     pub fn on_leaf_line(&self, k: usize) -> bool
         requires { k < length self.now.comments }
         ensures { slice_get self.now.on_leaf_line k ≡ Some result }
@@ -189,7 +190,7 @@ impl<'a> Reading<'a> {
         *self.lists.on_leaf_line.at(k)
     }
 
-    /// The place of a comment: how many documents begin before it, and how many leaves with characters.
+    /// Returns the place of a comment: how many documents begin before it, and how many leaves with characters.
     pub fn place_of(&self, k: usize) -> (usize, usize)
         requires { k < length self.now.comments }
         ensures { place_at self.now k ≡ Some result }
@@ -201,7 +202,8 @@ impl<'a> Reading<'a> {
     }
 }
 
-// Lists that are no reading are dropped here, since a drop of each part is long where it is written out at each exit.
+// Drops lists that are not a reading. This function exists because the drop of each part is long if it is inlined at
+// each exit.
 fn leave(_lists: Lists) {}
 
 fn documents_before(documents: &[Doc], offset: usize) -> usize

@@ -11,7 +11,7 @@ use std::alloc::{AllocError, Global};
 use yf_lines::packed_lines::narrow;
 use yf_lines::text::OwnedText;
 
-/// The same kind of event, with these brackets or none round its collection, or with its scalar in this style.
+/// Returns the kind of an event with brackets or none around its collection, or with its scalar in this style.
 #[inline(always)]
 pub fn formed(shape: Shape, flow: bool, style: ScalarStyle) -> Shape
     ensures { result ≡ shape_formed flow style shape }
@@ -30,7 +30,7 @@ pub fn formed(shape: Shape, flow: bool, style: ScalarStyle) -> Shape
     }
 }
 
-/// Whether the event is a folded scalar.
+/// Returns whether the event is a folded scalar.
 #[inline(always)]
 pub fn is_folded(shape: Shape) -> bool
     ensures { result ≡ is_folded_shape shape }
@@ -43,8 +43,8 @@ pub fn is_folded(shape: Shape) -> bool
     }
 }
 
-/// The number of the same entry of the table, without lines unless they are kept. Rows may share an entry, so one with lines is
-/// left as it is, and another one added.
+/// Returns the number of the entry of the table, without lines unless they are kept. Rows may share an entry, so an
+/// entry with lines stays unchanged, and another one is added.
 #[inline(always)]
 pub fn relined<'a>(
     alloc: Global,
@@ -70,7 +70,7 @@ pub fn relined<'a>(
     narrow(list.len())
 }
 
-/// The same without lines.
+/// Returns the entry without lines.
 fn without_lines<'a>(alloc: Global, more: &More<'a>) -> Result<More<'a>, AllocError>
     ensures { IfOk result (λ bare. bare ≡ record more.now { folded = [] }) }
 {

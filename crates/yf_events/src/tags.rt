@@ -14,8 +14,8 @@ pub struct TaggedEvent<'a> {
     tag: ResolvedTag<'a>,
 }
 
-/// For each event the resolved tag of the node that it begins, where a tag is written (section 6.9.1). An event without
-/// a tag takes no memory. In a contract it is the list that has for each event its tag or none.
+/// For each event, the resolved tag of the node that it begins, if it has a tag (YAML 1.2.2, section 6.9.1). An event
+/// without a tag takes no memory. In a contract it is the list that has a tag or none for each event.
 #[derive(Drop)]
 pub struct Tags<'a> {
     count: usize,
@@ -43,14 +43,14 @@ impl<'a> Tags<'a> {
         }
     }
 
-    /// For how many events it tells.
+    /// Returns the number of events.
     pub fn len(&self) -> usize
         ensures { result ≡ length self.now }
     {
         self.count
     }
 
-    /// Adds what the next event has.
+    /// Adds the tag of the next event, or none.
     pub fn push(&mut self, tag: Option<ResolvedTag<'a>>) -> Result<(), AllocError>
         ensures { self.new ≡ (if is_ok result then self.old ++ tag.entry ∷ [] else self.old) }
     {
@@ -65,7 +65,7 @@ impl<'a> Tags<'a> {
         Ok(())
     }
 
-    /// Adds that so many further events have none.
+    /// Adds `count` events without a tag.
     #[inline(always)]
     pub fn push_none(&mut self, count: usize) -> Result<(), AllocError>
         ensures { self.new ≡ (if is_ok result then self.old ++ replicate count None else self.old) }
@@ -77,7 +77,7 @@ impl<'a> Tags<'a> {
         Ok(())
     }
 
-    /// The resolved tag of the event at an index.
+    /// Returns the resolved tag of the event at an index.
     #[inline(always)]
     pub fn at(&self, i: usize) -> Option<&ResolvedTag<'a>>
         requires { i < length self.now }
@@ -87,8 +87,8 @@ impl<'a> Tags<'a> {
         self.at_cursor(i, &mut cursor)
     }
 
-    /// The same in a pass over the events: `cursor` is as the call for an event before it left it, at first 0. It only makes the search
-    /// short. In most texts no tag is written.
+    /// Like `at`, in a pass over the events. `cursor` is the result of the call for an earlier event, and 0 at first.
+    /// It only makes the search short. Most texts have no tags.
     #[inline(always)]
     #[tactic(auto, using(crate::proofs::TagLists::none_kept))]
     pub fn at_cursor(&self, i: usize, cursor: &mut usize) -> Option<&ResolvedTag<'a>>
@@ -101,7 +101,7 @@ impl<'a> Tags<'a> {
         self.found(i, cursor)
     }
 
-    // The same, looked for among those that are kept.
+    // Returns the resolved tag of the event at an index from the kept tags.
     #[inline(never)]
     fn found(&self, i: usize, cursor: &mut usize) -> Option<&ResolvedTag<'a>>
         requires { i < length self.now }
@@ -119,7 +119,7 @@ impl<'a> Tags<'a> {
         }
     }
 
-    /// The same tags, which share the texts of these.
+    /// Returns the tags, sharing their texts.
     pub fn lent(&self, alloc: Global) -> Result<Tags<'_>, AllocError>
         ensures { IfOk result (λ copy. copy ≡ self.now) }
     {
@@ -130,7 +130,8 @@ impl<'a> Tags<'a> {
     }
 }
 
-// Whether the tags before a place are of events before this one, and those from the place on of later ones.
+// Returns whether the tags before an index belong to events before this one, and those from the index on to later
+// events.
 #[inline(always)]
 fn has_none_around(tagged: &[TaggedEvent], place: usize, event: usize) -> bool
     requires { (j k : ℕ) → j < k → k < length tagged.now → event_at tagged.now j < event_at tagged.now k }
@@ -150,7 +151,7 @@ fn has_none_around(tagged: &[TaggedEvent], place: usize, event: usize) -> bool
     true
 }
 
-// The place after that one where the tag there is of an event before this one, which wasn't asked for.
+// Returns the next index if the tag at this one belongs to an event before this one, because no call asked for it.
 #[inline(always)]
 fn past_earlier(tagged: &[TaggedEvent], place: usize, event: usize) -> usize {
     if place < tagged.len() {
@@ -161,7 +162,8 @@ fn past_earlier(tagged: &[TaggedEvent], place: usize, event: usize) -> usize {
     place
 }
 
-// Where the tag of an event is, or that it has none: known at once where it is at the cursor or the place after it, or would be there.
+// Returns the index of an event's tag, or an error if it has none. Needs no search if the tag is, or would be, at the
+// cursor or the index after it.
 #[inline(always)]
 fn tag_from(tagged: &[TaggedEvent], event: usize, cursor: usize) -> Result<usize, usize>
     requires { (j k : ℕ) → j < k → k < length tagged.now → event_at tagged.now j < event_at tagged.now k }
@@ -179,7 +181,7 @@ fn tag_from(tagged: &[TaggedEvent], event: usize, cursor: usize) -> Result<usize
     place_of(tagged, event)
 }
 
-// The same by halving.
+// Like `tag_from`, by halving.
 fn place_of(tagged: &[TaggedEvent], event: usize) -> Result<usize, usize>
     requires { (j k : ℕ) → j < k → k < length tagged.now → event_at tagged.now j < event_at tagged.now k }
     ensures { MatchResult result (λ k. (k < length tagged.now) × (event_at tagged.now k ≡ event)) (λ _. tag_at tagged.now event ≡ None) }

@@ -1,4 +1,4 @@
--- `read_content`: what is found where a node is awaited
+-- `read_content`: the beginning of an awaited node
 pub mod BareLeads
 pub mod BegunLemmas
 pub mod NodeBegunLemmas

@@ -1,4 +1,4 @@
--- what all functions rest on: ends, looks ahead, open collections and notes
+-- lemmas that all functions use: ends, looks ahead, open collections and notes
 pub mod Forward
 pub mod LookLemmas
 pub mod LeafLemmas

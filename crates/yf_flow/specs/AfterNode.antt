@@ -1,5 +1,5 @@
--- After a node of a flow collection: before the `:` of a single pair whose key it is, after the key of a mapping, before a value,
--- and after an entry.
+-- The state after a node of a flow collection: before the `:` of a single pair with the node as its key, after the
+-- key of a mapping, before a value, and after an entry.
 use Rattle.std.specs.Prelude.{◌≡◌, ℕ, ℤ, Bool, List}
 use Rattle.yf_chars.specs.declared.context.Ctx.{Ctx}
 use Rattle.yf_events.specs.declared.part.Part.{Part}

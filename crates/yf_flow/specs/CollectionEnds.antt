@@ -1,4 +1,4 @@
--- How the outermost collection ends: it has been read, or none is derived there.
+-- The end of the outermost collection: it has been read, or none is derived there.
 use Rattle.std.specs.Prelude.{◌≡◌, ℕ, ℤ, List, []}
 use Rattle.yf_chars.specs.declared.context.Ctx.{Ctx}
 use Rattle.yf_events.specs.declared.part.Part.{Part}
@@ -14,14 +14,14 @@ EndTied t n base (End node) part = AtDone t n base node part
 EndTied t n base Nothing part = NoBase t n base
 EndTied t n base (TooDeep p) part = NoBase t n base
 
--- what has begun: of a collection, its entries are awaited
+-- the beginning of a node; a collection awaits its entries
 abbrev pub BegunTied : List ℕ → ℤ → Ctx → ℕ → Base → Begun → Part → Type 0
 BegunTied t n d limit base (Leaf node) part = Unit {0}
 BegunTied t n d limit base (Opened f) part = Reading t d limit base × AtEntry t n d base [] f f.entry part
 BegunTied t n d limit base NoneBegun part = Unit {0}
 BegunTied t n d limit base (TooDeepAt p) part = Unit {0}
 
--- and how it ends
+-- and its end
 abbrev pub EndsAs : List ℕ → ℤ → Base → Begun → Part → Part → Ending → Type 0
 EndsAs t n base (Leaf node) old new e = (e ≡ End node) × (new ≡ old)
 EndsAs t n base (Opened f) old new e = EndTied t n base e new

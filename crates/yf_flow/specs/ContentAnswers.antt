@@ -1,5 +1,5 @@
--- What the reader of what is after properties answers, in terms of the recursive reader: content that was written after what a part
--- had, with what is known of the node before it; or that there is none within so many further collections.
+-- The results of the reader of content after properties, by the recursive reader: content written after the contents
+-- of a part, with the lead of the node; or none within the limit of further collections.
 use Rattle.std.specs.Prelude.{◌≡◌, ℕ, ◌+◌, ℤ, false, List, ◌∷◌, Option, Some, None}
 use Rattle.yf_chars.specs.declared.context.Ctx.{Ctx}
 use Rattle.yf_props.specs.Props.{PropsValue, no_props, props_value}
@@ -15,8 +15,8 @@ use Rattle.yf_flow.specs.declared.nodes.Ending.TheVariants.{End, Nothing as NoEn
 use Rattle.yf_flow.specs.NodeStarts.{PartGrown, ContentAt, is_lined, lead_event}
 use Rattle.yf_flow.specs.StackMeaning.{NotesFilled}
 
--- a meaning is written after what a part had: its first event, which ends there, has the properties, the start and the entry that were
--- known; the others have their notes
+-- a meaning is written after the contents of a part: its first event, which ends there, has the properties, the start
+-- and the entry of the lead; the others have their notes
 pub record WrittenWith (t : List ℕ) (lead : Lead) (x : Meaning) (span : Option Span) (end : ℕ) (old new : Part) : Type 0 where
   pub event : EventValue
   pub others : List EventInText

@@ -1,5 +1,5 @@
--- How deep the open collections are: of each of them as many openers have been read as were open in it at once, so these and the
--- openers that are ahead are no more than a total.
+-- The depths of the open collections: of each, and of the deepest one within it so far. Each depth and the openers
+-- ahead are at most a total.
 use Rattle.std.specs.Prelude.{ℕ, ◌+◌, ◌<◌, ◌≤◌, List, drop}
 use Rattle.std.specs.List.{All}
 use Rattle.std.specs.Str.{IsUtf8}
@@ -20,18 +20,18 @@ pub record DepthCounted (t : List ℕ) (total i : ℕ) (f : Frame) : Type 0 wher
   pub depth : f.depth + openers_from t i ≤ total
   pub deepest : f.deepest + openers_from t i ≤ total
 
--- the innermost collection and those round it
+-- the innermost collection and those around it
 pub record AllCounted (t : List ℕ) (total i : ℕ) (frames : List Frame) (top : Frame) : Type 0 where
   pub utf8 : IsUtf8 t
   pub innermost : DepthCounted t total i top
   pub others : All (DepthCounted t total i) frames
 
--- a node that has been read
+-- a node after reading
 pub record NodeCounted (t : List ℕ) (total deepest i : ℕ) (frames : List Frame) (top : Frame) : Type 0 where
   pub collections : AllCounted t total i frames top
   pub node : deepest + openers_from t i ≤ total
 
--- what comes next
+-- the next step
 abbrev pub StepCounted : List ℕ → ℕ → ℕ → List Frame → Frame → Step → Type 0
 StepCounted t limit total frames top (Node p) = AllCounted t total p frames top
 StepCounted t limit total frames top (Entry p) = AllCounted t total p frames top
@@ -40,7 +40,7 @@ StepCounted t limit total frames top (Done node) = node.deepest + openers_from t
 StepCounted t limit total frames top Failed = Unit {0}
 StepCounted t limit total frames top (TooDeep p) = limit < total
 
--- what has begun, and how it ends
+-- the beginning of a node, and its end
 abbrev pub BegunCounted : List ℕ → ℕ → ℕ → Begun → Type 0
 BegunCounted t limit total (Leaf node) = node.deepest + openers_from t node.end ≤ total
 BegunCounted t limit total (Opened f) = DepthCounted t total f.entry f

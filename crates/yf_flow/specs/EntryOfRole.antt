@@ -1,4 +1,5 @@
--- The entry that a node begins in its role: none where it is a value, else one at the offset, without a colon yet, with its note.
+-- The entry that a node begins in its role: none for a value; otherwise one at the offset, without a colon yet, with
+-- its note.
 use Rattle.std.specs.Prelude.{◌≡◌, ◌≢◌, ℕ, List, Option, Some, None}
 use Rattle.yf_chars.specs.Text.{code}
 use Rattle.yf_events.specs.declared.event.Entry.{Entry}

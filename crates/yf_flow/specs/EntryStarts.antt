@@ -1,4 +1,4 @@
--- The beginning of an entry of a flow collection: before its first node or sign, and once its `?` or `:` has been read.
+-- The beginning of an entry of a flow collection: before its first node or sign, and after its `?` or `:`.
 use Rattle.std.specs.Prelude.{◌≡◌, ◌≢◌, ℕ, suc, ◌+◌, ℤ, Bool, false, List, [], length, Option, Some, None}
 use Rattle.yf_chars.specs.declared.context.Ctx.{Ctx}
 use Rattle.yf_chars.specs.Text.{code}
@@ -26,7 +26,7 @@ abbrev pub QuestionMark : List ℕ → ℤ → Ctx → ℕ → List CommentValue
 QuestionMark t n d s old new (Some j) = (code t s ≡ 63) × SeparatedTo t n d (s + 1) j old new
 QuestionMark t n d s old new None = QuestionOrNot t n d s old new
 
--- a sign at s, with the comments after it; what it awaits is at the second offset, which is that of the `:` itself
+-- a sign at s, with the comments after it; the awaited part is at the second offset, which is that of the `:` itself
 pub data SignAt (t : List ℕ) (n : ℤ) (d : Ctx) (s : ℕ) : List CommentValue → ℕ → Type 0 where
   question_there : {k : ℕ} {cs : List CommentValue} → code t s ≡ 63 → Chosen (Separate t n d (s + 1)) k cs → SignAt t n d s cs k
   colon_there : ColonAt t false d s → SignAt t n d s [] s
@@ -49,7 +49,7 @@ pub record AtFirst (t : List ℕ) (n : ℤ) (d : Ctx) (base : Base) (frames : Li
   pub index : top.entry_event ≡ length part.events
   pub written : PartSoFar t (first_events base) (noting (entries_written before begin known) cs) part
 
--- the same in the mapping that it belongs to, which in a sequence is a single pair
+-- the entry begins in its mapping, which is a single pair in a sequence
 pub record AtSign (t : List ℕ) (n : ℤ) (d : Ctx) (base : Base) (frames : List Frame) (top : Frame) (cs : List CommentValue) (part : Part) : Type 0 where
   pub layer : InEntry
   pub mapping : layer.pair ≡ layer.sequence
@@ -59,7 +59,7 @@ pub record AtSign (t : List ℕ) (n : ℤ) (d : Ctx) (base : Base) (frames : Lis
   pub index : top.entry_event ≡ length part.events
   pub written : PartSoFar t (first_events base) (written_in layer (noting (only [] 0) cs)) part
 
--- what a value without a key is to its entry
+-- the value of an entry without a key is awaited
 abbrev pub AloneAwaited : List ℕ → ℤ → Ctx → InEntry → List CommentValue → ℕ → Type 0
 AloneAwaited t n d l cs v = ValueAwaited t l.limit l.sequence n d l.pair l.start false 0 (noting (only [] 0) cs ⊕ entering l.start (Some v) (empty_node v)) v
 

@@ -1,4 +1,5 @@
--- The `:` of a value after a node that began on its line, no more than so many characters before: the node is the key of a single pair.
+-- The `:` of a value after a node that began on its line within the limit of characters: the node is the key of a
+-- single pair.
 use Rattle.std.specs.Prelude.{ℕ, Bool, List}
 use Rattle.yf_chars.specs.declared.context.Ctx.{Ctx}
 use Rattle.yf_grammar.specs.FlowReader.Parser.{ColonAt}

@@ -1,4 +1,4 @@
--- A node without nodes in it has ended once it has begun: what had begun, by how it ended.
+-- A node without nodes in it ends when it begins: its beginning, by its end.
 use Rattle.yf_flow.specs.declared.node.Begun.{Begun}
 use Rattle.yf_flow.specs.declared.node.Begun.TheVariants.{Leaf, Nothing as NoneBegun, TooDeep as TooDeepAt}
 use Rattle.yf_flow.specs.declared.nodes.Ending.{Ending}

@@ -1,4 +1,4 @@
--- What the readers of the parts without nodes give: the longest part of each production, with its value.
+-- The results of the readers of parts without nodes: the longest part of each production, with its value.
 use Rattle.std.specs.Prelude.{◌≡◌, ℕ, ◌≤◌, ℤ, true, false, List, ◌++◌}
 use Rattle.yf_chars.specs.declared.context.Ctx.{Ctx}
 use Rattle.yf_chars.specs.Chain.{Stuck, Chosen}
@@ -20,7 +20,7 @@ pub record SeparationOrNot (t : List ℕ) (n : ℤ) (c : Ctx) (i : ℕ) (old new
   pub none : Stuck (Separate t n c i)
   pub same : new ≡ old
 
--- the same where there need be none
+-- the longest separation, or none
 pub data GapRead (t : List ℕ) (n : ℤ) (c : Ctx) (i : ℕ) (old new : List CommentValue) : FlowGap → Type 0 where
   gap_read : {j : ℕ} → SeparatedTo t n c i j old new → GapRead t n c i old new (record { end = j; is_separation = true })
   gap_missing : SeparationOrNot t n c i old new → GapRead t n c i old new (record { end = i; is_separation = false })
@@ -31,7 +31,7 @@ IsClosing Sequence x = x ≡ 93
 IsClosing Mapping x = x ≡ 125
 IsClosing Pair x = ⊥
 
--- the characters of an implicit key: on one line, and not too many
+-- the characters of an implicit key: on one line, and within the limit
 pub record KeyLine (t : List ℕ) (i j : ℕ) : Type 0 where
   pub line : OnOneLine t i j
   pub short : characters_between t i j ≤ KEY_LIMIT

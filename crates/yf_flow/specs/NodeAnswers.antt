@@ -1,5 +1,5 @@
--- What the readers of a node within a limit answer, in terms of the recursive reader: how a node ends that was written after what was
--- written before it, and the node with its part alone.
+-- The results of the readers of a node within a limit, by the recursive reader: the end of a node written after
+-- earlier events, and the node as a part of its own.
 use Rattle.std.specs.Prelude.{◌≡◌, ℕ, ◌+◌, ◌<◌, ℤ, false, List, Some, None}
 use Rattle.std.specs.Str.{IsCharBoundary}
 use Rattle.yf_chars.specs.declared.context.Ctx.{Ctx}
@@ -42,7 +42,7 @@ NodeAnswers t n c limit i part (NodeThere end) = NodeFound t n c limit i part en
 NodeAnswers t n c limit i part NoNode = Parses t limit (ANode n c i) None
 NodeAnswers t n c limit i part (TooDeepHere p) = Parses t limit (ANode n c i) None × (limit < openers_from t i)
 
--- the places of what was found
+-- the offsets of an outcome are boundaries
 abbrev pub OutcomeAt : List ℕ → ℕ → FlowOutcome → Type 0
 OutcomeAt t at (NodeThere end) = BoundaryFrom t (at + 1) end
 OutcomeAt t at NoNode = Unit {0}

@@ -1,4 +1,4 @@
--- What begins where a node is awaited, and where content is.
+-- The beginnings of an awaited node, and of content.
 use Rattle.std.specs.Prelude.{◌≡◌, ℕ, ◌+◌, ◌≤◌, Bool, true, false, List, [], ◌∷◌, ◌++◌, length, Option, MatchOption, encode_utf8_all}
 use Rattle.std.specs.List.{All}
 use Rattle.std.specs.Str.{IsCharBoundary}
@@ -29,19 +29,19 @@ CursorBegun cursor entry old new b = NodeBegun cursor.scene.text.now cursor.scen
 abbrev pub CursorContent : FlowCursor → Lead → Part → Part → Begun → Type 0
 CursorContent cursor lead old new b = ContentBegun cursor.scene.text.now cursor.scene.indentation cursor.scene.context cursor.at cursor.depth cursor.scene.limit lead old new b
 
--- a place between characters, where the bad escapes that were noted begin between characters too
+-- the offset is a boundary, and so are the starts of the bad escapes so far
 pub record NodeIsAwaited (cursor : FlowCursor) (old : Part) : Type 0 where
   pub boundary : IsCharBoundary cursor.scene.text.now cursor.at
   pub escapes : All (IsCharBoundary cursor.scene.text.now) old.escapes
 
--- what has begun in that sense, after some events or with none
+-- the beginning of a node in the sense of `HasBegun`, with its events
 pub record Begins (HasBegun : Part → Part → Begun → Type 0) (cursor : FlowCursor) (old new : Part) (b : Begun) : Type 0 where
   pub exact : HasBegun old new b
   pub begun : BegunAt cursor.scene.text.now cursor.at (length old.events) (length new.events) b
   pub grows : length old.events ≤ length new.events
   pub escapes : All (IsCharBoundary cursor.scene.text.now) new.escapes
 
--- the longest properties and the longest plain scalar there, or that there are none
+-- the longest properties and the longest plain scalar at the offset, or none
 abbrev pub PropertiesRead : FlowContext → ℕ → Option Properties → Type 0
 PropertiesRead scene at o = MatchOption o (Stuck (Names.Properties scene.text.now scene.indentation scene.context at))
     (λ p. Chosen (Names.Properties scene.text.now scene.indentation scene.context at) p.end (properties_value p))

@@ -1,5 +1,5 @@
--- What was found where a node is awaited: a node without nodes in it, the bracket of a collection after the properties of a node,
--- nothing, or a bracket that may not be opened.
+-- The beginning of an awaited node: a node without nodes in it, the bracket of a collection after the node's
+-- properties, nothing, or a bracket that would exceed the limit.
 use Rattle.std.specs.Prelude.{◌≡◌, ℕ, ◌+◌, ◌<◌, ◌≤◌, ℤ, Bool, true, false, List, [], ◌∷◌, ◌++◌, length, Option, Some, None}
 use Rattle.yf_chars.specs.declared.context.Ctx.{Ctx}
 use Rattle.yf_chars.specs.Text.{code}
@@ -35,7 +35,7 @@ abbrev pub comments_before : Before → List CommentValue
 comments_before Bare = []
 comments_before (Propertied p cs i g) = p.comments ++ cs
 
--- the event that begins the collection of the bracket at k, while its end is not known
+-- the event that begins the collection of the bracket at k, before its end is set
 abbrev pub opened_event : ℕ → Before → Option Entry → Bool → ℕ → EventInText
 opened_event i b entry sequence k = record {
   event = event_with (props_before b) (start_of sequence true);
@@ -72,7 +72,7 @@ pub record NodeOpened (t : List ℕ) (n : ℤ) (c : Ctx) (i depth limit : ℕ) (
   pub room : depth < limit
   pub added : PartGrown old new (opened_event i before entry (is_sequence f.kind) content ∷ []) (comments_before before) []
 
--- no node, or no content after what is before it
+-- no node, or no content after the properties
 pub data NodeMissing (t : List ℕ) (n : ℤ) (c : Ctx) (i : ℕ) : Type 0 where
   no_node : ((e : ℕ) → Parses t e (ANode n c i) None) → NodeMissing t n c i
   no_content : {k : ℕ} {b : Before} → NodeOver t n c i k b → ((e : ℕ) → Parses t e (AContent n c k) None) → NodeMissing t n c i

@@ -1,5 +1,5 @@
--- What was found where a node is awaited: a node without nodes in it, with what it adds to the part; the bracket of a
--- collection, and what was read before it; nothing; or a bracket that may not be opened.
+-- The beginning of an awaited node: a node without nodes in it, with its additions to the part; the bracket of a
+-- collection, and the text before it; nothing; or a bracket that would exceed the limit.
 use Rattle.std.specs.Prelude.{◌≡◌, ℕ, ◌+◌, ◌<◌, ◌≤◌, ℤ, Bool, true, false, List, [], ◌∷◌, ◌++◌, length, Option, Some, None}
 use Rattle.yf_chars.specs.declared.context.Ctx.{Ctx}
 use Rattle.yf_chars.specs.Text.{code}
@@ -26,7 +26,7 @@ use Rattle.yf_flow.specs.declared.node.Lead.{Lead}
 abbrev pub bare_lead : ℕ → Option Entry → Lead
 bare_lead i entry = record { start = i; props = record { anchor = None; tag = None }; tag_offset = None; entry = entry }
 
--- the event that begins a node with what is known of it, which ends at an offset; and of a scalar
+-- the event that begins a node with its lead and its end; and the event of a scalar
 abbrev pub lead_event : Lead → EventValue → ℕ → EventInText
 lead_event lead event j =
     record { event = event; span = Some (record { start = lead.start; end = j }); tag_offset = lead.tag_offset; entry = lead.entry; folded = [] }
@@ -34,17 +34,17 @@ lead_event lead event j =
 abbrev pub leaf_event : Lead → ScalarStyle → List ℕ → ℕ → EventInText
 leaf_event lead style text j = lead_event lead (scalar_node (props_value lead.props) style text) j
 
--- an event without a place, which may begin an entry
+-- an event without a span, which may begin an entry
 abbrev pub entry_event : EventValue → Option Entry → EventInText
 entry_event event entry = record { event = event; span = None; tag_offset = None; entry = entry; folded = [] }
 
--- what a part has more: events, comments and bad escapes
+-- the additions to a part: events, comments and bad escapes
 pub record PartGrown (old new : Part) (es : List EventInText) (cs : List CommentValue) (bad : List ℕ) : Type 0 where
   pub events : new.events ≡ old.events ++ es
   pub comments : new.comments ≡ old.comments ++ cs
   pub escapes : new.escapes ≡ old.escapes ++ bad
 
--- the outcome at a place of content or a plain scalar
+-- the outcome for content or a plain scalar at an offset
 pub data ContentAt (t : List ℕ) (e : ℕ) (n : ℤ) (c : Ctx) (i : ℕ) : Option ParsedNode → Type 0 where
   content_there : {o : Option ParsedNode} → begins_content (code t i) ≡ true → Parses t e (AContent n c i) o → ContentAt t e n c i o
   plain_there : {j : ℕ} {x : List ℕ} → begins_content (code t i) ≡ false → Chosen (Plain t n c i) j x
@@ -78,7 +78,7 @@ is_sequence Sequence = true
 is_sequence Mapping = false
 is_sequence Pair = false
 
--- a collection was opened by the bracket at i, after comments that were read before it
+-- a collection was opened by the bracket at i, after the comments before it
 pub record OpenedAt (t : List ℕ) (i depth limit : ℕ) (lead : Lead) (cs : List CommentValue) (old new : Part) (f : Frame) : Type 0 where
   pub bracket : IsOpening f.kind (code t i)
   pub entry : f.entry ≡ i + 1
@@ -88,7 +88,7 @@ pub record OpenedAt (t : List ℕ) (i depth limit : ℕ) (lead : Lead) (cs : Lis
   pub room : depth < limit
   pub added : PartGrown old new (lead_event lead (event_with (props_value lead.props) (start_of (is_sequence f.kind) true)) (i + 1) ∷ []) cs []
 
--- a bracket is there where no further collection may be opened
+-- a bracket is at the offset, and its collection would exceed the limit
 pub record FullAt (t : List ℕ) (i depth limit : ℕ) : Type 0 where
   pub kind : CollectionKind
   pub bracket : IsOpening kind (code t i)

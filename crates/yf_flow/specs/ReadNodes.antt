@@ -1,4 +1,4 @@
--- A node that has been read after what was written before it; and one whose content is not derived.
+-- A node read after earlier events, and a node without derived content.
 use Rattle.std.specs.Prelude.{◌≡◌, ℕ, ℤ, List, length, Some, None}
 use Rattle.yf_chars.specs.declared.context.Ctx.{Ctx}
 use Rattle.yf_events.specs.declared.part.Part.{Part}

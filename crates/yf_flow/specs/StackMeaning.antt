@@ -1,5 +1,5 @@
--- What ties the reader's stack to the recursive reader: of each open collection, what has been read of it and what its outcome will
--- be, once the outcome of what is awaited is known; and the flat lists of events, comments and escapes that have been written so far.
+-- The tie between the reader's stack and the recursive reader: for each open collection, its contents so far and its
+-- outcome after that of the awaited part; and the flat lists of events, comments and escapes written so far.
 use Rattle.std.specs.Prelude.{◌≡◌, ◌≢◌, ℕ, suc, max, ◌+◌, ℤ, Bool, true, false, List, [], ◌∷◌, ◌++◌, length, Option, Some, None}
 use Rattle.yf_chars.specs.declared.context.Ctx.{Ctx}
 use Rattle.yf_chars.specs.Text.{code}
@@ -35,7 +35,7 @@ pub record NoteFilled (t : List ℕ) (e f : EventInText) : Type 0 where
   pub no_lines : is_lined e.event ≡ false
   pub note : NoteOf t e f
 
--- events with the notes of their entries filled in, after so many that are kept as they are
+-- events with the notes of their entries filled in, after a number of unchanged ones
 pub data NotesFilled (t : List ℕ) : ℕ → List EventInText → List EventInText → Type 0 where
   no_events : NotesFilled t 0 [] []
   kept_before : {kept : ℕ} {e : EventInText} {x y : List EventInText} → NotesFilled t kept x y → NotesFilled t (suc kept) (e ∷ x) (e ∷ y)
@@ -47,7 +47,7 @@ pub record EntryNoted (t : List ℕ) (s : ℕ) (colon : Option ℕ) (entry : The
   pub colon_there : entry.colon ≡ colon
   pub note : NotedSince t 0 s entry.blank_before
 
--- what has been written so far, after so many events that are kept as they are
+-- the meaning written so far, after a number of unchanged events
 pub record PartSoFar (t : List ℕ) (kept : ℕ) (w : Meaning) (part : Part) : Type 0 where
   pub events : NotesFilled t kept w.events part.events
   pub comments : part.comments ≡ w.comments
@@ -57,7 +57,7 @@ pub record PartSoFar (t : List ℕ) (kept : ℕ) (w : Meaning) (part : Part) : T
 abbrev pub one : EventInText → Meaning
 one e = record { events = e ∷ []; comments = []; escapes = []; finish = 0 }
 
--- an event without a place, which may begin an entry; the entry of a node that is awaited
+-- an event without a span, which may begin an entry; the entry of an awaited node
 abbrev pub entry_from : ℕ → TheEntry.Entry
 entry_from s = record { start = s; colon = None; blank_before = false }
 
@@ -69,7 +69,7 @@ abbrev pub in_role : Role → ℕ → Meaning → Meaning
 in_role Value s x = x
 in_role _ s x = entering s None x
 
--- the event that begins a single pair, while its end is not known, before what is read of it
+-- the event that begins a single pair, before its end is set, and before the pair's contents
 abbrev pub pair_event : ℕ → EventInText
 pair_event s = record { event = mapping_starts true no_props; span = Some (record { start = s; end = s }); tag_offset = None; entry = Some (entry_from s); folded = [] }
 
@@ -77,7 +77,7 @@ abbrev pub ahead : Bool → ℕ → Meaning → Meaning
 ahead false s y = y
 ahead true s y = record y { events = pair_event s ∷ y.events }
 
--- what is written when so much is known of the entries of a collection, and of its present one
+-- the meaning written with these entries of a collection, and with its present one
 abbrev pub entries_written : Meaning → EventInText → Meaning → Meaning
 entries_written w begin x = w ⊕ one begin ⊕ x
 
@@ -88,7 +88,7 @@ abbrev pub kind_of : Bool → CollectionKind
 kind_of true = Sequence
 kind_of false = Mapping
 
--- the frame of a collection in which e more may be opened and at most h were open at once, and whose first event has the index m
+-- the frame of a collection with room for e more and at most h open at once; its first event has the index m
 pub record CollectionFrame (limit e h m : ℕ) (sequence : Bool) (f : Frame) : Type 0 where
   pub kind : f.kind ≡ kind_of sequence
   pub event : f.event ≡ m
@@ -101,7 +101,7 @@ pub record PairFrame (limit e g m : ℕ) (f : Frame) : Type 0 where
   pub room : f.depth + e ≡ limit
   pub deepest : f.deepest ≡ f.depth + g
 
--- the frames of the present entry's collection: a single pair has one of its own on that of its sequence
+-- the frames of the present entry's collection: a single pair has its own frame on that of its sequence
 pub data FramesOfEntry (limit : ℕ) : Bool → Bool → ℕ → ℕ → ℕ → ℕ → ℕ → Frame → List Frame → Type 0 where
   of_collection : {sequence : Bool} {e h g m k : ℕ} {f : Frame} → CollectionFrame limit e (max h g) m sequence f → FramesOfEntry limit sequence false e h g m k f []
   of_pair : {e h g m k : ℕ} {f s : Frame} → PairFrame limit e g k f → CollectionFrame limit (suc e) h m true s → FramesOfEntry limit true true e h g m k f (s ∷ [])
@@ -114,8 +114,8 @@ pub data NodeIn (t : List ℕ) (n : ℤ) (d : Ctx) (s : ℕ) : Role → Bool →
   value_in : {sequence pair : Bool} {e p h : ℕ} {x : Meaning} → ValueNodeAwaited t e sequence n d pair s h x p → is_entry_end (code t p) ≡ false
       → NodeIn t n d s Value sequence e pair p h x
 
--- the outermost collection: its bracket, its context, how many collections may be opened, it and those in it, and how many with those
--- round it, and what was written before
+-- the outermost collection: its bracket, its context, the limit for it and those in it, the limit with those around
+-- it, and the earlier meaning
 pub record Base : Type 0 where
   pub sequence : Bool
   pub place : ℕ
@@ -125,7 +125,7 @@ pub record Base : Type 0 where
   pub written : Meaning
   pub event : EventInText
 
--- the events before the outermost collection and the one that begins it are kept as they are
+-- the events before the outermost collection and the one that begins it stay unchanged
 abbrev pub first_events : Base → ℕ
 first_events base = suc (length base.written.events)
 
@@ -137,7 +137,7 @@ pub record IsBase (base : Base) (sequence : Bool) (i : ℕ) (c : Ctx) (e : ℕ) 
   pub written : w ≡ base.written
   pub event : begin ≡ base.event
 
--- the collections round one whose bracket is at i, the innermost first; so many may be opened, it and those in it
+-- the collections around one with its bracket at i, the innermost first, with the limit for it and those in it
 pub data Below (t : List ℕ) (n : ℤ) (d : Ctx) (base : Base) : List Frame → Bool → ℕ → Ctx → ℕ → Meaning → EventInText → Type 0 where
   outermost : {sequence : Bool} {i e : ℕ} {c : Ctx} {w : Meaning} {begin : EventInText} → IsBase base sequence i c e w begin → Below t n d base [] sequence i c e w begin
   inside : {frames rest all : List Frame} {top : Frame} {i h s g p k e : ℕ} {c : Ctx} {w x y : Meaning} {begin : EventInText} {sequence pair inner : Bool} {role : Role} {b : Before}
@@ -153,7 +153,7 @@ pub data Below (t : List ℕ) (n : ℤ) (d : Ctx) (base : Base) : List Frame →
       → all ≡ top ∷ (rest ++ frames)
       → Below t n d base all inner k d e (noting (entry_written w begin x pair s y) (comments_before b)) (opened_event p b (entry_of role s) inner k)
 
--- entries of the collection that is read now are awaited
+-- the present collection awaits entries
 pub record AtEntry (t : List ℕ) (n : ℤ) (d : Ctx) (base : Base) (frames : List Frame) (top : Frame) (at : ℕ) (part : Part) : Type 0 where
   pub sequence : Bool
   pub place : ℕ
@@ -168,7 +168,7 @@ pub record AtEntry (t : List ℕ) (n : ℤ) (d : Ctx) (base : Base) (frames : Li
   pub frame : CollectionFrame base.total limit high (length before.events) sequence top
   pub written : PartSoFar t (first_events base) (entries_written before begin known) part
 
--- the same once the separation has been read: an entry begins at k, or the bracket is there
+-- after the separation, an entry begins at k, or the bracket is at k
 pub record AtPlace (t : List ℕ) (n : ℤ) (d : Ctx) (base : Base) (frames : List Frame) (top : Frame) (k : ℕ) (part : Part) : Type 0 where
   pub sequence : Bool
   pub place : ℕ
@@ -183,7 +183,7 @@ pub record AtPlace (t : List ℕ) (n : ℤ) (d : Ctx) (base : Base) (frames : Li
   pub frame : CollectionFrame base.total limit high (length before.events) sequence top
   pub written : PartSoFar t (first_events base) (entries_written before begin known) part
 
--- the collection is closed by the bracket at k
+-- the bracket at k closes the collection
 pub record AtClosing (t : List ℕ) (n : ℤ) (d : Ctx) (base : Base) (frames : List Frame) (top : Frame) (k : ℕ) (part : Part) : Type 0 where
   pub sequence : Bool
   pub place : ℕ
@@ -221,7 +221,7 @@ pub record AtEntryEnd (t : List ℕ) (n : ℤ) (d : Ctx) (base : Base) (frames :
   pub frame : CollectionFrame base.total limit (max high height) (length before.events) sequence top
   pub written : PartSoFar t (first_events base) (entries_written before begin (known ⊕ noting meaning comments)) part
 
--- what is known of the present entry and its collection
+-- the present entry and its collection
 pub record InEntry : Type 0 where
   pub sequence : Bool
   pub place : ℕ
@@ -235,7 +235,7 @@ pub record InEntry : Type 0 where
   pub start : ℕ
   pub under : List Frame
 
--- the present entry is tied to the frames: g collections were open at once in what is read of it
+-- the present entry is tied to the frames: g collections were open at once in it so far
 pub record EntryTied (t : List ℕ) (n : ℤ) (d : Ctx) (base : Base) (frames : List Frame) (top : Frame) (g : ℕ) (l : InEntry) : Type 0 where
   pub rest : List Frame
   pub below : Below t n d base l.under l.sequence l.place l.context (suc (with_pair l.pair l.limit)) l.before l.begin
@@ -316,11 +316,11 @@ pub record AtDone (t : List ℕ) (n : ℤ) (base : Base) (node : TheNode.Node) (
   pub deepest : node.deepest + base.limit ≡ base.total + suc high
   pub written : PartSoFar t (first_events base) (entries_written base.written (ended (bracket + 1) base.event) known ⊕ one (plain_event (end_of base.sequence) None)) part
 
--- none is derived there
+-- no outermost collection is derived
 abbrev pub NoBase : List ℕ → ℤ → Base → Type 0
 NoBase t n base = Parses t base.limit (AContent n base.context base.place) None
 
--- what comes next
+-- the state for each next step
 abbrev pub StepTied : List ℕ → ℤ → Ctx → Base → List Frame → Frame → Step → Part → Type 0
 StepTied t n d base frames top (Node p) part = AtNode t n d base frames top p part
 StepTied t n d base frames top (Entry p) part = AtEntry t n d base frames top p part

@@ -1,4 +1,4 @@
--- A step of the reader: what it is on, what it is tied to and how many collections are open there, and what it answers.
+-- A step of the reader: its input, its ties, the number of open collections, and its result.
 use Rattle.std.specs.Prelude.{◌≡◌, ℕ, ◌+◌, ◌-◌, ◌*◌, ◌<◌, ◌≤◌, ℤ, Bool, List, length, reverse, MatchBool}
 use Rattle.std.specs.List.{All}
 use Rattle.std.specs.Str.{IsCharBoundary}
@@ -19,28 +19,29 @@ use Rattle.yf_flow.specs.Machine.{EntryIsNext, EndingAt, EntryIsIn, StepReady, l
 use Rattle.yf_flow.specs.StepTerms.{Reading}
 use Rattle.yf_flow.specs.StackMeaning.{AtEntry, Base, NoBase, StepTied}
 
--- a place between characters, and open collections whose events are there: those of the innermost one in that sense
+-- the offset is a boundary, and the events of the open collections exist, for the innermost one in the sense of
+-- `IsThere`
 pub record IsReaderReady (IsThere : List ℕ → ℕ → Frame → Type 0) (t : List ℕ) (at : ℕ) (r : FlowReader) : Type 0 where
   pub boundary : IsCharBoundary t at
   pub innermost : IsThere t (length r.part.events) r.top
   pub others : All (EntryIsIn t (length r.part.events)) r.below.items
 
--- of m events, the one is there that begins the collection
+-- the event that begins the collection is among the first m
 abbrev pub EventThere : List ℕ → ℕ → Frame → Type 0
 EventThere t m f = f.event < m
 
--- what comes next, from an offset on
+-- the next step is at or after an offset
 pub record Ready (t : List ℕ) (at : ℕ) (r : FlowReader) (s : Step) : Type 0 where
   pub below : All (EntryIsIn t (length r.part.events)) r.below.items
   pub step : StepReady t at (length r.part.events) r.top s
 
--- and that it leads on, and notes no bad escapes
+-- the step leads on, and adds no bad escapes
 pub record StepPromises (t : List ℕ) (at : ℕ) (escapes : List ℕ) (new : FlowReader) (s : Step) : Type 0 where
   pub ready : Ready t at new s
   pub moves : left (length t) s ≤ 2 * (length t - at) + 1
   pub same_escapes : new.part.escapes ≡ escapes
 
--- what is read, as the recursive reader has it; what was read before an offset, a node or the like; and what comes next
+-- the input, as the recursive reader has it; the state before an offset, a node and so on; and the next step
 abbrev pub SceneRead : FlowContext → Base → Type 0
 SceneRead scene base = Reading scene.text.now scene.context scene.limit base
 
@@ -50,7 +51,8 @@ At IsAt scene r x base = IsAt scene.text.now scene.indentation scene.context bas
 abbrev pub ReaderTied : FlowContext → Base → FlowReader → Step → Type 0
 ReaderTied scene base r s = StepTied scene.text.now scene.indentation scene.context base (reverse r.below.items) r.top s r.part
 
--- how many collections are open: before an offset, after a node, after a `?`, before the `:` of a pair; and at what comes next
+-- the number of open collections: before an offset, after a node, after a `?`, before the `:` of a pair; and at the
+-- next step
 abbrev pub Room : FlowContext → FlowReader → ℕ → ℕ → Type 0
 Room scene r at total = AllCounted scene.text.now total at r.below.items r.top
 
@@ -70,13 +72,13 @@ pub record PairRoom (scene : FlowContext) (r : FlowReader) (node : Node) (colon 
 abbrev pub ReaderCounted : FlowContext → ℕ → FlowReader → Step → Type 0
 ReaderCounted scene total r s = StepCounted scene.text.now scene.limit total r.below.items r.top s
 
--- what a step answers from an offset on, where it is tied and has room as told
+-- the result of a step from an offset on, if it is tied and has room
 pub record StepLeads (IsTied : Base → Type 0) (HasRoom : ℕ → Type 0) (scene : FlowContext) (at : ℕ) (old new : FlowReader) (s : Step) : Type 0 where
   pub tied : (base : Base) → SceneRead scene base → IsTied base → ReaderTied scene base new s
   pub counted : (total : ℕ) → HasRoom total → ReaderCounted scene total new s
   pub stepped : StepPromises scene.text.now at old.part.escapes new s
 
--- whether a mapping is there for an entry with a sign
+-- whether an entry with a sign has a mapping
 pub record InMapping (scene : FlowContext) (old new : FlowReader) (there : Bool) : Type 0 where
   pub tied : (base : Base) → SceneRead scene base → (p : ℕ) → (cs : List CommentValue) → SignAt scene.text.now scene.indentation scene.context old.top.entry cs p
       → At AtFirst scene old cs base → MatchBool there (At AtSign scene new cs base) (NoBase scene.text.now scene.indentation base)
@@ -86,7 +88,7 @@ pub record InMapping (scene : FlowContext) (old new : FlowReader) (there : Bool)
   pub entry : new.top.entry ≡ old.top.entry
   pub escapes : new.part.escapes ≡ old.part.escapes
 
--- how a collection ends whose entries are awaited at an offset
+-- the end of a collection that awaits entries at an offset
 pub record CollectionEnds (scene : FlowContext) (at : ℕ) (old new : FlowReader) (e : Ending) : Type 0 where
   pub tied : (base : Base) → SceneRead scene base → At AtEntry scene old at base → EndTied scene.text.now scene.indentation base e new.part
   pub counted : (total : ℕ) → Room scene old at total → EndCounted scene.text.now scene.limit total e

@@ -1,4 +1,4 @@
--- What the steps of the reader rest on: what is read, the role of an entry's first node, and a frame with a node in it.
+-- The terms of the reader's steps: the input, the role of an entry's first node, and a frame with a node in it.
 use Rattle.std.specs.Prelude.{◌≡◌, ℕ, max, false, List}
 use Rattle.std.specs.Str.{IsUtf8}
 use Rattle.yf_chars.specs.declared.context.Ctx.{Ctx}
@@ -11,7 +11,7 @@ use Rattle.yf_flow.specs.declared.frame.Role.{Role}
 use Rattle.yf_flow.specs.declared.frame.Role.TheVariants.{Item, Key}
 use Rattle.yf_flow.specs.StackMeaning.{Base}
 
--- what is read: a text, in a context within brackets, and so many collections may be open
+-- the input: a text, a context within brackets, and the limit of open collections
 pub record Reading (t : List ℕ) (d : Ctx) (limit : ℕ) (base : Base) : Type 0 where
   pub utf8 : IsUtf8 t
   pub inner : in_flow d ≡ d
@@ -24,7 +24,7 @@ first_role Sequence = Item
 first_role Mapping = Key
 first_role Pair = Key
 
--- the frame of a collection with a node in it in which so many collections were open
+-- the frame of a collection after a node in it that reached the depth `high`
 pub record FrameWithNode (first : Frame) (high : ℕ) (o : Frame) : Type 0 where
   pub kind : o.kind ≡ first.kind
   pub event : o.event ≡ first.event

@@ -1,5 +1,5 @@
-//! The steps that begin and read the entries of a flow collection: keys, values and single pairs. Each step leads on to a
-//! later place of the text, and none goes back.
+//! The steps that begin and read the entries of a flow collection: keys, values and single pairs. Each step leads on
+//! to a later offset of the text, and none goes back.
 ghost use Rattle.std.specs.Prelude.{◌≢◌, ℕ, ◌+◌, ◌-◌, ◌*◌, ◌<◌, length, IfOk, IfSome};
 ghost use Rattle.std.specs.List.{All};
 ghost use Rattle.std.specs.Str.{IsCharBoundary};
@@ -23,7 +23,7 @@ use yf_events::event::{Entry, NewEvent, PlacedEvent, Span};
 use yf_events::slices::Slices;
 use yf_props::props::Props;
 
-// The entry that the node begins which is read now, if it begins one.
+// Returns the entry that the present node begins, if it begins one.
 fn entry_begun(text: &str, top: Frame) -> Option<Entry>
     ensures { EntryBegun text.now top.entry top.role result }
 {
@@ -33,7 +33,7 @@ fn entry_begun(text: &str, top: Frame) -> Option<Entry>
     }
 }
 
-/// The entry that begins at the offset, with its note.
+/// Returns the entry that begins at the offset, with its note.
 pub(crate) fn entry_at(text: &str, start: usize, colon: Option<usize>) -> Entry
     ensures { code text.now start ≢ 10 → EntryNoted text.now start colon result }
 {
@@ -44,7 +44,7 @@ pub(crate) fn entry_at(text: &str, start: usize, colon: Option<usize>) -> Entry
     }
 }
 
-/// The event that begins a single pair. Where the pair ends is noted once it has been read.
+/// Returns the event that begins a single pair. The pair's end is set after it has been read.
 pub(crate) fn pair_start<'a>(alloc: Global, text: &str, start: usize) -> PlacedEvent<'a>
     ensures { code text.now start ≢ 10 → NoteFilled text.now (pair_event start) (placed_value result) }
 {
@@ -63,7 +63,8 @@ pub(crate) fn pair_start<'a>(alloc: Global, text: &str, start: usize) -> PlacedE
     }
 }
 
-// The `?` of an entry at the offset and the separation after it, if both are there: where that ends.
+// Reads the `?` of an entry at the offset and the separation after it. Returns the end of the separation, if both are
+// there.
 fn read_question<'a>(
     alloc: Global,
     scene: FlowContext<'a>,
@@ -85,7 +86,7 @@ fn read_question<'a>(
 }
 
 impl<'a> FlowReader<'a> {
-    /// Begins the node that is awaited at the offset.
+    /// Begins the node awaited at the offset.
     pub(crate) fn take_node(
         &mut self,
         scene: FlowContext<'a>,
@@ -118,7 +119,7 @@ impl<'a> FlowReader<'a> {
         }
     }
 
-    /// Begins the entry that is awaited, or closes the collection (ns-s-flow-seq-entries, production 138;
+    /// Begins the awaited entry, or closes the collection (ns-s-flow-seq-entries, production 138;
     /// ns-s-flow-map-entries, production 141).
     pub(crate) fn start_entry(
         &mut self,
@@ -146,7 +147,7 @@ impl<'a> FlowReader<'a> {
         Ok(Step::Node(place))
     }
 
-    // What is after the `?` of an entry and its separation (ns-flow-map-explicit-entry, production 143).
+    // Reads on after the `?` of an entry and its separation (ns-flow-map-explicit-entry, production 143).
     fn explicit_entry(&mut self, scene: FlowContext<'a>, at: usize) -> Result<Step, AllocError>
         requires { IsReaderReady EntryIsNext scene.text.now at self.old }
         ensures { IfOk result (StepLeads (At AtQuestioned scene.entry self.old at) (QuestionRoom scene.entry self.old at) scene.entry at self.old self.new) }
@@ -166,8 +167,8 @@ impl<'a> FlowReader<'a> {
         Ok(Step::TooDeep(self.top.entry))
     }
 
-    // Goes over to the mapping that an entry with `?` or `:` belongs to: in a sequence that is a single pair, which begins
-    // with the entry. Whether it may be opened.
+    // Goes over to the mapping of an entry with `?` or `:`. In a sequence that is a single pair, which begins with
+    // the entry. Returns whether the limit allows it.
     fn in_mapping(&mut self, scene: FlowContext<'a>) -> Result<bool, AllocError>
         requires { IsReaderReady EntryIsNext scene.text.now self.old.top.entry self.old }
         ensures { IfOk result (InMapping scene.entry self.old self.new) }

@@ -1,6 +1,5 @@
-//! The steps after a node of a flow collection: what its end makes of it, the value of its entry, the end of that, and the
-//! closing bracket.
-//! Each step leads on to a later place of the text, and none goes back.
+//! The steps after a node of a flow collection: the effect of its end, the value of its entry, the end of that, and
+//! the closing bracket. Each step leads on to a later offset of the text, and none goes back.
 ghost use Rattle.std.specs.Prelude.{◌≡◌, ◌+◌, IfOk};
 ghost use Rattle.yf_events.specs.Event.{new_event_value};
 ghost use Rattle.yf_flow.specs.AfterNode.{AtEntryDoneFrom, AtKeyEnd, AtPairKey, AtValueOf};
@@ -19,7 +18,7 @@ use yf_chars::text::is_char_at;
 use yf_events::event::NewEvent;
 use yf_lines::basic::skip_whites;
 
-// The event that ends a collection.
+// Returns the event that ends a collection.
 #[tactic(auto, unfolding(crate::specs::StackMeaning::end_event))]
 fn collection_end<'a>(kind: CollectionKind) -> NewEvent<'a>
     ensures { new_event_value result ≡ end_event kind }
@@ -32,8 +31,8 @@ fn collection_end<'a>(kind: CollectionKind) -> NewEvent<'a>
 }
 
 impl<'a> FlowReader<'a> {
-    /// Goes on after a node of the collection. Where a `:` follows an item of a sequence on its line, the item is the key of a
-    /// single pair (ns-flow-pair-entry, production 151).
+    /// Goes on after a node of the collection. If a `:` follows an item of a sequence on its line, the item is the
+    /// key of a single pair (ns-flow-pair-entry, production 151).
     pub(crate) fn finish_node(
         &mut self,
         scene: FlowContext<'a>,
@@ -62,7 +61,7 @@ impl<'a> FlowReader<'a> {
         }
     }
 
-    // The item that was read last becomes the key of a single pair, whose `:` is at the offset.
+    // Makes the last item the key of a single pair, with its `:` at the offset.
     fn pair_of_key(
         &mut self,
         scene: FlowContext<'a>,
@@ -93,7 +92,7 @@ impl<'a> FlowReader<'a> {
         self.await_value(scene, at, node.json)
     }
 
-    // After the key of an entry of a mapping, or of a single pair with `?`.
+    // Goes on after the key of an entry of a mapping, or of a single pair with `?`.
     fn after_key(&mut self, scene: FlowContext<'a>, node: Node) -> Result<Step, AllocError>
         requires { IsReaderReady EntryIsIn scene.text.now node.end self.old }
         ensures { IfOk result (StepLeads (At AtKeyEnd scene.entry self.old node) (Room scene.entry self.old node.end) scene.entry node.end self.old self.new) }
@@ -107,7 +106,8 @@ impl<'a> FlowReader<'a> {
         self.end_entry(scene, node.end, place)
     }
 
-    /// The empty key of an entry, and its value from the `:` on (c-ns-flow-map-empty-key-entry, production 146).
+    /// Reads the empty key of an entry, and its value from the `:` on (c-ns-flow-map-empty-key-entry, production
+    /// 146).
     pub(crate) fn keyless_value(
         &mut self,
         scene: FlowContext<'a>,
@@ -121,8 +121,9 @@ impl<'a> FlowReader<'a> {
         self.await_value(scene, at, false)
     }
 
-    // What is after the `:` at an offset: a node, or nothing. After a key that is not like JSON's, separation must
-    // come before the node (c-ns-flow-map-separate-value, production 147; c-ns-flow-map-adjacent-value, production 149).
+    // Reads on after the `:` at an offset: a node is awaited, or there is none. After a key that is not like JSON's,
+    // separation must come before the node (c-ns-flow-map-separate-value, production 147;
+    // c-ns-flow-map-adjacent-value, production 149).
     #[inline(always)]
     fn await_value(
         &mut self,
@@ -148,8 +149,8 @@ impl<'a> FlowReader<'a> {
         Ok(Step::Failed)
     }
 
-    /// An entry has been read whose last node or indicator ends at `finish`; what follows is read from `at` on. A single pair
-    /// ends with it, and what follows belongs to its sequence.
+    /// Ends an entry with its last node or indicator up to `finish`; reading goes on at `at`. A single pair ends with
+    /// it, and the text after it belongs to its sequence.
     #[inline(always)]
     pub(crate) fn end_entry(
         &mut self,
@@ -176,7 +177,7 @@ impl<'a> FlowReader<'a> {
         self.after_entry(scene, at)
     }
 
-    // After an entry: a comma, or the bracket that closes the collection.
+    // Reads on after an entry: a comma, or the bracket that closes the collection.
     #[inline(always)]
     fn after_entry(&mut self, scene: FlowContext<'a>, at: usize) -> Result<Step, AllocError>
         requires { IsReaderReady EntryIsIn scene.text.now at self.old }
@@ -192,7 +193,7 @@ impl<'a> FlowReader<'a> {
         Ok(Step::Failed)
     }
 
-    /// Closes the collection by the bracket at an offset.
+    /// Closes the collection with the bracket at an offset.
     #[inline(always)]
     pub(crate) fn close(&mut self, scene: FlowContext<'a>, at: usize) -> Result<Step, AllocError>
         requires { IsReaderReady EventThere scene.text.now (at + 1) self.old }

@@ -21,14 +21,14 @@ use yf_lines::place::Position as SourcePlace;
 use yf_lines::source_text::Src;
 use yf_lines::text::ReadResult;
 
-/// A node that was read, and the byte offset after it.
+/// A node and the byte offset after it.
 #[derive(Drop)]
 pub struct NodePart<'a> {
     pub part: Part<'a>,
     pub end: usize,
 }
 
-/// The same with the place of the first escape that is no character, in whose place the text has U+FFFD.
+/// A node with the place of the first escape that is not a character. The text has U+FFFD for such an escape.
 #[derive(Drop)]
 pub struct ScannedPart<'a> {
     pub part: Part<'a>,
@@ -36,20 +36,21 @@ pub struct ScannedPart<'a> {
     pub end: usize,
 }
 
-/// What the readers of nodes answer where they go on past escapes.
+/// The result of the readers of nodes that go on past escapes.
 pub type ScanResult<'a> = ReadResult<ScannedPart<'a>>;
 
-/// Reads the longest flow node (ns-flow-node(n,c), production 161) from a byte offset on: its events and comments, each with
-/// its place, and the offset after it. `n` is the indentation, from -1. No more than `DEPTH` collections are open in it at
-/// once, a single pair counted as one, and it covers no document marker.
+/// Reads the longest flow node (ns-flow-node(n,c), production 161) that begins at a byte offset.
 ///
-/// `None` where no such node is derived there in that context. In the two block contexts, in which no flow node is, it is
-/// always `None`.
+/// Returns its events and comments, each with its offsets, and the offset after it. `n` is the indentation, from -1.
+/// The node has at most `DEPTH` collections open at once (a single pair counts as one), and covers no document
+/// marker. Returns `None` if no such node is derived there in that context, and always in the two block contexts,
+/// which have no flow nodes.
 ///
 /// # Errors
 ///
-/// `Fault::TooDeep` where no such node is derived there, and more than `DEPTH` openers of collections are from there on;
-/// `Fault::EscapeValue` at the first escape in the node that is no character; `Fault::Memory`.
+/// Fails with `Fault::TooDeep` if no such node is derived there and more than `DEPTH` openers of collections come
+/// after the offset, with `Fault::EscapeValue` at the first escape in the node that is not a character, and with
+/// `Fault::Memory`.
 pub fn read_flow_node<'a>(
     alloc: Global,
     src: &Src<'a>,
@@ -76,11 +77,11 @@ pub fn read_flow_node<'a>(
     }
 }
 
-/// Reads a flow node as `read_flow_node` does, but goes on past an escape that is no character.
+/// Reads a flow node as `read_flow_node` does, but goes on past an escape that is not a character.
 ///
 /// # Errors
 ///
-/// `Fault::TooDeep` and `Fault::Memory`, as `read_flow_node` does.
+/// Fails with `Fault::TooDeep` and `Fault::Memory`, as `read_flow_node` does.
 pub fn scan_flow_node<'a>(
     alloc: Global,
     src: &Src<'a>,
@@ -125,7 +126,7 @@ pub fn scan_flow_node<'a>(
     }
 }
 
-/// The place of the first escape in the part that is no character.
+/// Returns the place of the first escape in the part that is not a character.
 pub fn first_escape(src: &Src, part: &Part) -> Option<SourcePlace>
     requires { All (IsCharBoundary src.now.text) part.now.escapes }
     ensures { IsFirstPlace src.now.text part.now.escapes result }
@@ -136,15 +137,15 @@ pub fn first_escape(src: &Src, part: &Part) -> Option<SourcePlace>
     }
 }
 
-/// Reads the longest node of an implicit key (ns-s-implicit-yaml-key(c), production 154; c-s-implicit-json-key(c), production
-/// 155), without the white space after it, from a byte offset on.
+/// Reads the longest node of an implicit key (ns-s-implicit-yaml-key(c), production 154; c-s-implicit-json-key(c),
+/// production 155) that begins at a byte offset, without the white space after it.
 ///
-/// In a key context it is on one line. How many characters it has is for the caller to count. `None` where no such node is
-/// derived there, and always in the two block contexts.
+/// In a key context it is on one line. The caller counts its characters. Returns `None` if no such node is derived
+/// there, and always in the two block contexts.
 ///
 /// # Errors
 ///
-/// As `read_flow_node`.
+/// Fails as `read_flow_node` does.
 pub fn read_implicit_key<'a>(
     alloc: Global,
     src: &Src<'a>,
@@ -160,11 +161,11 @@ pub fn read_implicit_key<'a>(
     read_flow_node(alloc, src, at, 0, ctx)
 }
 
-/// Reads the node of an implicit key as `read_implicit_key` does, but goes on past an escape that is no character.
+/// Reads the node of an implicit key as `read_implicit_key` does, but goes on past an escape that is not a character.
 ///
 /// # Errors
 ///
-/// `Fault::TooDeep` and `Fault::Memory`, as `read_flow_node` does.
+/// Fails with `Fault::TooDeep` and `Fault::Memory`, as `read_flow_node` does.
 pub fn scan_implicit_key<'a>(alloc: Global, src: &Src<'a>, at: usize, ctx: Ctx) -> ScanResult<'a>
     requires { IsCharBoundary src.now.text at }
     ensures place { MatchResult result (λ o. IfSome o (λ p. BoundaryFrom src.now.text (at + 1) p.end)) (IsScanFault src.now.text) }

@@ -7,7 +7,8 @@ use std::alloc::Global;
 use yf_chars::context::Ctx;
 use yf_events::part::Part;
 
-/// What is read, and how: the text, its indentation and context, and how many collections may be open at once.
+/// The input of a reader: the text, its indentation and context, and the limit of collections that may be open at
+/// once.
 #[derive(Clone, Copy)]
 pub struct FlowContext<'a> {
     pub text: &'a str,
@@ -16,7 +17,7 @@ pub struct FlowContext<'a> {
     pub limit: usize,
 }
 
-/// Where a node is awaited: at which offset of what is read, and how many collections are open there.
+/// The offset in the input at which a node is awaited, and the number of collections open there.
 #[derive(Clone, Copy)]
 pub(crate) struct FlowCursor<'a> {
     pub(crate) alloc: Global,
@@ -25,7 +26,7 @@ pub(crate) struct FlowCursor<'a> {
     pub(crate) depth: usize,
 }
 
-/// What an open collection is. A single pair is a mapping without brackets, in a sequence.
+/// The kind of an open collection. A single pair is a mapping without brackets, in a sequence.
 #[derive(Clone, Copy, Default)]
 pub(crate) enum CollectionKind {
     #[default]
@@ -34,7 +35,7 @@ pub(crate) enum CollectionKind {
     Pair,
 }
 
-/// What a node is to the entry that it is in.
+/// The role of a node in its entry.
 #[derive(Clone, Copy, Default)]
 pub(crate) enum Role {
     /// An item of a sequence, or the key of a single pair.
@@ -44,13 +45,13 @@ pub(crate) enum Role {
     Value,
 }
 
-/// An open collection: what is left to do of it, once the node within it has been read.
+/// An open collection: the reader's state for it while it reads a node within it.
 #[derive(Clone, Copy, Default)]
 pub(crate) struct Frame {
     pub(crate) kind: CollectionKind,
-    /// How many collections are open, this one counted.
+    /// The number of open collections, including this one.
     pub(crate) depth: usize,
-    /// How many were open at once within it, at most.
+    /// The most collections that were open at once within it.
     pub(crate) deepest: usize,
     /// The index of the event that begins it.
     pub(crate) event: usize,
@@ -58,22 +59,22 @@ pub(crate) struct Frame {
     pub(crate) entry: usize,
     /// The index of the event that begins its present entry, as item or key, until a value is awaited in it.
     pub(crate) entry_event: usize,
-    /// What the node is that is read now.
+    /// The role of the present node.
     pub(crate) role: Role,
 }
 
-/// A node that has been read.
+/// A node after reading.
 #[derive(Clone, Copy)]
 pub struct Node {
     /// The byte offset after it.
     pub end: usize,
     /// Whether it is a node like those of JSON: a quoted scalar or a flow collection.
     pub json: bool,
-    /// How many collections were open at once until its end, at most.
+    /// The most collections that were open at once until its end.
     pub deepest: usize,
 }
 
-/// What comes next.
+/// The next step.
 #[derive(Clone, Copy)]
 pub(crate) enum Step {
     /// A node is awaited at the byte offset.
@@ -86,19 +87,19 @@ pub(crate) enum Step {
     Done(Node),
     /// No node is derived.
     Failed,
-    /// The limit of open collections is passed at the byte offset.
+    /// The collection at the byte offset would exceed the limit.
     TooDeep(usize),
 }
 
-/// The reader of a collection: what its steps change.
+/// The reader of a collection: the state that its steps change.
 #[derive(Drop)]
 pub(crate) struct FlowReader<'a> {
     pub(crate) alloc: Global,
     /// The innermost open collection.
     pub(crate) top: Frame,
-    /// The open collections round it, the outermost first.
+    /// The open collections around it, the outermost first.
     pub(crate) below: SmallVec<Frame, 8>,
-    /// What has been read.
+    /// The events, comments and escapes read so far.
     pub(crate) part: Part<'a>,
 }
 
@@ -115,7 +116,7 @@ impl CollectionKind {
 }
 
 impl Frame {
-    /// The collection with another entry, whose first event will have the index.
+    /// Returns the collection with another entry. The index is that of the entry's first event.
     pub(crate) fn with_entry(self, entry: usize, entry_event: usize) -> Frame
         ensures event { result.event ≡ self.event }
         ensures index { result.entry_event ≡ entry_event }
@@ -137,7 +138,7 @@ impl Frame {
         }
     }
 
-    /// The collection once a value is awaited in its entry.
+    /// Returns the collection with a value awaited in its entry.
     pub(crate) fn with_value(self) -> Frame
         ensures event { result.event ≡ self.event }
         ensures index { result.entry_event ≡ self.entry_event }
@@ -153,7 +154,7 @@ impl Frame {
         }
     }
 
-    /// The collection with a node in it.
+    /// Returns the collection with a node in it.
     pub(crate) fn reaching(self, deepest: usize) -> Frame
         ensures event { result.event ≡ self.event }
         ensures index { result.entry_event ≡ self.entry_event }

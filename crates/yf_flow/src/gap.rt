@@ -9,7 +9,7 @@ use std::alloc::{AllocError, Global};
 use yf_comments::separation::separate;
 use yf_events::comments::Comments;
 
-/// What is between two parts of a flow collection: separation up to an offset, or nothing.
+/// The gap between two parts of a flow collection: separation up to an offset, or nothing.
 #[derive(Clone, Copy)]
 pub(crate) struct FlowGap {
     pub(crate) end: usize,

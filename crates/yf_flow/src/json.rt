@@ -20,7 +20,7 @@ use yf_props::props::Props;
 use yf_quoted::double::{Double, double_in};
 use yf_quoted::single::{Single, single_in};
 
-/// A quoted scalar, or the opening bracket of a flow collection (c-flow-json-content, production 157).
+/// Begins a quoted scalar, or a flow collection at its opening bracket (c-flow-json-content, production 157).
 #[inline(always)]
 pub(crate) fn json_content<'a>(
     cursor: &FlowCursor<'a>,
@@ -65,7 +65,7 @@ pub(crate) fn json_content<'a>(
     Ok(Begun::Nothing)
 }
 
-// A double-quoted scalar (c-double-quoted(n,c), production 109), whose escapes that are no character are kept.
+// Reads a double-quoted scalar (c-double-quoted(n,c), production 109), and keeps its escapes that are not characters.
 #[inline(always)]
 fn double_node<'a>(
     cursor: &FlowCursor<'a>,
@@ -99,7 +99,7 @@ fn double_node<'a>(
     }
 }
 
-// The event that begins a flow collection.
+// Returns the event that begins a flow collection.
 fn collection_start<'a>(kind: CollectionKind, props: Props<'a>) -> NewEvent<'a>
     ensures { new_event_value result ≡ event_with (props_value props.entry) (start_of (is_sequence kind) true) }
 {
@@ -110,7 +110,7 @@ fn collection_start<'a>(kind: CollectionKind, props: Props<'a>) -> NewEvent<'a>
     }
 }
 
-// Opens the collection whose bracket is there, if there is room for it. Where it ends is noted once it is closed.
+// Opens the collection with its bracket at the offset, if the limit allows it. Its end is set when it is closed.
 #[inline(always)]
 fn open<'a>(
     cursor: &FlowCursor<'a>,

@@ -11,7 +11,7 @@ use yf_lines::text::Text;
 use yf_plain::plain::read_plain_in;
 use yf_props::properties::{Properties, node_properties};
 
-/// A scalar that was read: its text, and the byte offset after it.
+/// A scalar: its text, and the byte offset after it.
 #[derive(Drop)]
 pub(crate) struct Scalar<'a> {
     pub(crate) text: Text<'a>,
@@ -55,7 +55,7 @@ pub(crate) fn read_plain<'a>(cursor: &FlowCursor<'a>) -> Result<Option<Scalar<'a
     }
 }
 
-/// Adds offsets of escapes that are no character.
+/// Adds offsets of escapes that are not characters.
 pub(crate) fn keep_escapes(
     bad: &Values<usize>,
     escapes: &mut Values<usize>,

@@ -1,5 +1,5 @@
-//! Flow nodes (YAML 1.2.2, chapter 7): flow collections, the scalars and aliases in them, and implicit keys, read in one
-//! forward pass.
+//! Flow nodes (YAML 1.2.2, chapter 7): flow collections, the scalars and aliases in them, and implicit keys, read in
+//! one forward pass.
 #![tactic(auto)]
 
 pub(crate) mod entries;

@@ -1,4 +1,4 @@
-//! Tests of what is at a place of a flow node. They look and read nothing.
+//! Tests at an offset of a flow node. They read nothing.
 ghost use Rattle.std.specs.Prelude.{◌≡◌, ◌≢◌, ◌+◌, ◌==◌, ◌||◌, true, MatchBool};
 ghost use Rattle.std.specs.Str.{IsCharBoundary};
 ghost use Rattle.yf_chars.specs.Text.{code};
@@ -12,7 +12,7 @@ use yf_chars::classes::is_plain_safe;
 use yf_chars::text::{is_char_at, peek};
 use yf_comments::blank::is_blank_before;
 
-/// Whether the bracket is there that closes a collection of that kind.
+/// Returns whether the bracket that closes a collection of that kind is at the offset.
 pub(crate) fn closes(text: &str, at: usize, kind: CollectionKind) -> bool
     ensures follows { result ≡ true → IsCharBoundary text.now (at + 1) }
     ensures cases { MatchBool result (IsClosing kind (code text.now at)) (IsClosing kind (code text.now at) → ⊥) }
@@ -24,7 +24,7 @@ pub(crate) fn closes(text: &str, at: usize, kind: CollectionKind) -> bool
     }
 }
 
-/// Whether a comma or a closing bracket is there, after which there is nothing more of an entry.
+/// Returns whether a comma or a closing bracket is at the offset, which ends an entry.
 #[tactic(auto, using(crate::proofs::Ends::LookLemmas::end_comma, crate::proofs::Ends::LookLemmas::end_bracket, crate::proofs::Ends::LookLemmas::end_last))]
 pub(crate) fn entry_ends(text: &str, at: usize) -> bool
     ensures { result ≡ ((code text.now at == 44) || (code text.now at == 93) || (code text.now at == 125)) }
@@ -38,7 +38,7 @@ pub(crate) fn entry_ends(text: &str, at: usize) -> bool
     is_char_at(text, at, b'}')
 }
 
-/// Whether a quote or an opening bracket is there (c-flow-json-content).
+/// Returns whether a quote or an opening bracket is at the offset (c-flow-json-content).
 #[tactic(auto, using(crate::proofs::Ends::LookLemmas::single_begins, crate::proofs::Ends::LookLemmas::double_begins, crate::proofs::Ends::LookLemmas::sequence_begins, crate::proofs::Ends::LookLemmas::mapping_begins, crate::proofs::Ends::LookLemmas::nothing_begins))]
 pub(crate) fn content_begins(text: &str, at: usize) -> bool
     ensures { result ≡ begins_content (code text.now at) }
@@ -58,8 +58,8 @@ pub(crate) fn content_begins(text: &str, at: usize) -> bool
     false
 }
 
-/// Whether the `:` of a value is there, after a node like those of JSON or another one, or no node at all: after
-/// the others no plain character may follow it.
+/// Returns whether the `:` of a value is at the offset, after a node like those of JSON, another node, or no node.
+/// Except after a node like those of JSON, no plain character may follow it.
 #[tactic(auto, using(crate::proofs::Ends::LeafLemmas::colon_json, crate::proofs::Ends::LeafLemmas::colon_safe, crate::proofs::Ends::LeafLemmas::no_colon, crate::proofs::Ends::LeafLemmas::colon_at_end))]
 #[inline(always)]
 pub(crate) fn is_colon_at(scene: FlowContext, at: usize, json: bool) -> bool
@@ -84,11 +84,11 @@ pub(crate) fn is_colon_at(scene: FlowContext, at: usize, json: bool) -> bool
     false
 }
 
-/// How many characters an implicit key may have, the white space after it counted.
+/// The most characters of an implicit key, with the white space after it.
 pub(crate) const KEY_LIMIT: usize = 1024;
 
-/// Whether the characters between the offsets are all on one line, and no more than an implicit key may have: 1024
-/// (ns-s-implicit-yaml-key, production 154; c-s-implicit-json-key, production 155).
+/// Returns whether the characters between the offsets are all on one line, and at most 1024, the limit of an implicit
+/// key (ns-s-implicit-yaml-key, production 154; c-s-implicit-json-key, production 155).
 pub fn is_key_line(text: &str, start: usize, end: usize) -> bool
     requires { IsCharBoundary text.now start }
     ensures { IsCharBoundary text.now end → MatchBool result (KeyLine text.now start end) (KeyLine text.now start end → ⊥) }
@@ -116,8 +116,8 @@ pub fn is_key_line(text: &str, start: usize, end: usize) -> bool
     true
 }
 
-/// Whether the `:` of a value is at `colon`, after a node that begins at `start` and, with the white space after it, may
-/// be the key of a single pair.
+/// Returns whether the `:` of a value is at `colon`, after a node at `start` that may be the key of a single pair
+/// with the white space after it.
 pub(crate) fn is_pair_key(scene: FlowContext, start: usize, colon: usize, json: bool) -> bool
     requires start { IsCharBoundary scene.text.now start }
     requires colon { IsCharBoundary scene.text.now colon }
@@ -134,7 +134,7 @@ pub(crate) fn is_pair_key(scene: FlowContext, start: usize, colon: usize, json: 
     false
 }
 
-/// Whether a blank line is before the place at which an entry begins.
+/// Returns whether a blank line is before an entry that begins at the offset. No entry begins with a line feed.
 #[tactic(auto, using(crate::proofs::Ends::NotedLemmas::note_of))]
 pub(crate) fn is_blank_before_entry(text: &str, at: usize) -> bool
     ensures { code text.now at ≢ 10 → NotedSince text.now 0 at result }

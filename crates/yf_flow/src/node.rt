@@ -1,4 +1,4 @@
-//! Nodes: what may be as an item, a key or a value, and the events of them.
+//! Nodes that may be an item, a key or a value, and their events.
 ghost use Rattle.std.specs.Prelude.{◌≡◌, ◌+◌, length, false, [], ◌∷◌, ◌++◌, IfOk};
 ghost use Rattle.std.specs.Bool.{OnTrue};
 ghost use Rattle.yf_lines.specs.Text.{text_bytes};
@@ -24,7 +24,7 @@ use yf_props::alias::alias_node;
 use yf_props::properties::Properties;
 use yf_props::props::Props;
 
-/// What is known of a node before its content: where it begins, its properties, and the entry that it begins.
+/// The reader's knowledge of a node before its content: its start, its properties, and the entry that it begins.
 #[derive(Clone, Copy)]
 pub struct Lead<'a> {
     pub start: usize,
@@ -33,19 +33,19 @@ pub struct Lead<'a> {
     pub entry: Option<Entry>,
 }
 
-/// What was found where a node is awaited.
+/// The beginning of an awaited node.
 pub(crate) enum Begun {
     /// A node without nodes in it.
     Leaf(Node),
     /// The opening bracket of a collection; its first entry is awaited at `Frame::entry`.
     Opened(Frame),
     Nothing,
-    /// An opening bracket, where no further collection may be opened.
+    /// An opening bracket of a collection that would exceed the limit.
     TooDeep(usize),
 }
 
 impl<'a> Lead<'a> {
-    /// Without properties.
+    /// Returns a lead without properties.
     #[inline(always)]
     pub fn bare(start: usize, entry: Option<Entry>) -> Lead<'a>
         ensures { result ≡ bare_lead start entry }
@@ -61,7 +61,7 @@ impl<'a> Lead<'a> {
         }
     }
 
-    /// The event that begins the node, which ends at an offset.
+    /// Returns the event that begins the node, with the node's end.
     #[inline(always)]
     pub fn placed(self, alloc: Global, event: NewEvent<'a>, end: usize) -> PlacedEvent<'a>
         ensures { placed_value result ≡ lead_event self.entry (new_event_value event.entry) end }
@@ -79,7 +79,7 @@ impl<'a> Lead<'a> {
     }
 }
 
-/// The event of an empty node without properties, or of the end of a collection.
+/// Returns the event of an empty node without properties, or of the end of a collection.
 pub fn unplaced<'a>(alloc: Global, event: NewEvent<'a>, entry: Option<Entry>) -> PlacedEvent<'a>
     ensures { placed_value result ≡ entry_event (new_event_value event.entry) entry }
 {
@@ -92,7 +92,7 @@ pub fn unplaced<'a>(alloc: Global, event: NewEvent<'a>, entry: Option<Entry>) ->
     }
 }
 
-/// An empty node without properties.
+/// Returns an empty node without properties.
 pub fn empty_node<'a>(alloc: Global, entry: Option<Entry>) -> PlacedEvent<'a>
     ensures { placed_value result ≡ entry_event (scalar_node no_props ScalarStyle.Plain []) entry }
 {
@@ -107,7 +107,7 @@ pub fn empty_node<'a>(alloc: Global, entry: Option<Entry>) -> PlacedEvent<'a>
     unplaced(alloc, event, entry)
 }
 
-/// Begins a node (ns-flow-node, production 161), where so many collections are open.
+/// Begins a node (ns-flow-node, production 161) at a cursor.
 pub(crate) fn begin_node<'a>(
     cursor: FlowCursor<'a>,
     entry: Option<Entry>,
@@ -151,7 +151,8 @@ pub(crate) fn begin_content<'a>(
     plain_node(cursor, lead, part)
 }
 
-// A node with properties: its content is a plain scalar, a quoted scalar or a flow collection, and else it is empty.
+// Begins a node with properties. Its content is a plain scalar, a quoted scalar or a flow collection, or else it is
+// empty.
 #[inline(never)]
 fn propertied_node<'a>(
     cursor: FlowCursor<'a>,
@@ -245,7 +246,7 @@ pub(crate) fn push_leaf<'a>(
     }))
 }
 
-// Whether a scalar of that style is one like those of JSON.
+// Returns whether a scalar of that style is one like those of JSON.
 fn is_quoted(style: ScalarStyle) -> bool
     ensures { result ≡ is_quoted style }
 {
@@ -255,7 +256,7 @@ fn is_quoted(style: ScalarStyle) -> bool
     }
 }
 
-/// Adds a scalar that ends at an offset; the lead is what is known of the node before its content.
+/// Adds a scalar that ends at an offset, with its lead.
 #[inline(always)]
 pub fn push_scalar<'a>(
     alloc: Global,
@@ -283,7 +284,7 @@ pub fn push_scalar<'a>(
     }
 }
 
-// Whether no properties are known of the node.
+// Returns whether the lead has no properties.
 #[inline(always)]
 fn is_bare(lead: &Lead) -> bool
     ensures { OnTrue result (lead.now ≡ bare_lead lead.now.start lead.now.entry) }
@@ -297,7 +298,7 @@ fn is_bare(lead: &Lead) -> bool
     lead.tag_offset.is_none()
 }
 
-// The same for a scalar with properties, or with a text of its own.
+// Like `push_scalar`, for a scalar with properties, or with a text of its own.
 #[inline(never)]
 fn push_marked<'a>(
     alloc: Global,
@@ -321,7 +322,7 @@ fn push_marked<'a>(
     part.events.push(lead.placed(alloc, event, end))
 }
 
-// A plain scalar as a node (ns-plain, production 131).
+// Reads a plain scalar as a node (ns-plain, production 131).
 #[inline(always)]
 fn plain_node<'a>(
     cursor: &FlowCursor<'a>,

@@ -34,27 +34,28 @@ use yf_events::values::Values;
 use yf_lines::text::Text;
 use yf_props::properties::Properties;
 
-/// What a reader of flow nodes found.
+/// The outcome of a reader of flow nodes.
 #[derive(Clone, Copy)]
 pub(crate) enum FlowOutcome {
     /// A node, and the byte offset after it.
     Found(usize),
     Nothing,
-    /// Nothing within the limit of open collections; the bracket or entry at the offset would open a further one.
+    /// No node within the limit of open collections; the collection of the bracket or entry at the offset would
+    /// exceed it.
     TooDeep(usize),
 }
 
-/// How a flow node ends.
+/// The end of a flow node.
 #[derive(Clone, Copy)]
 pub enum Ending {
     End(Node),
     Nothing,
-    /// It opens more collections than the limit allows, the last of them at the offset.
+    /// The node opens more collections than the limit, the last of them at the offset.
     TooDeep(usize),
 }
 
-/// Reads a flow node (ns-flow-node, production 161) in which no more collections are open at once than the limit, into a
-/// part with nothing in it.
+/// Reads a flow node (ns-flow-node, production 161) that opens no more collections at once than the limit, into an
+/// empty part.
 pub(crate) fn read_node<'a>(
     alloc: Global,
     scene: FlowContext<'a>,
@@ -93,12 +94,12 @@ pub(crate) fn read_node<'a>(
     }
 }
 
-/// Reads what is after the properties of a flow node: a plain scalar, a quoted one or a flow collection. Its events
-/// are added to the part, with what is known of the node before its content; `depth` collections are open already.
+/// Reads a flow node after its properties: a plain scalar, a quoted one or a flow collection. Adds its events to the
+/// part, with its lead; `depth` collections are open already.
 ///
 /// # Errors
 ///
-/// `AllocError` where a growth of memory was refused.
+/// Fails with `AllocError` if the allocator refuses memory.
 #[inline(always)]
 pub fn read_content<'a>(
     alloc: Global,
@@ -142,7 +143,7 @@ pub fn read_content<'a>(
     }
 }
 
-// A plain scalar as a whole node (ns-plain, production 131).
+// Reads a plain scalar as a whole node (ns-plain, production 131).
 #[inline(always)]
 fn plain_ending<'a>(
     cursor: &FlowCursor<'a>,
@@ -166,7 +167,7 @@ fn plain_ending<'a>(
     }
 }
 
-// Reads on where a node has begun, and tells how it ends.
+// Reads on after a node has begun. Returns its end.
 #[inline(always)]
 fn end_node<'a>(
     cursor: FlowCursor<'a>,
@@ -189,7 +190,8 @@ fn end_node<'a>(
     }
 }
 
-// The context within flow collections of that context (in-flow(c)); no flow node is in the two block contexts.
+// Returns the context within flow collections of that context (in-flow(c)), or `None` for the two block contexts,
+// which have no flow nodes.
 fn inner_context(context: Ctx) -> Option<Ctx>
     ensures { MatchOption result (is_block context ≡ true) (InnerContext context) }
 {
@@ -200,7 +202,7 @@ fn inner_context(context: Ctx) -> Option<Ctx>
     }
 }
 
-/// A part with nothing in it.
+/// Returns an empty part.
 pub fn new_part<'a>(alloc: Global) -> Part<'a>
     ensures events { result.events ≡ [] }
     ensures comments { result.comments ≡ [] }
@@ -245,7 +247,7 @@ fn read_entries<'a>(
 }
 
 impl<'a> FlowReader<'a> {
-    // Goes on step by step from an offset at which an entry is awaited.
+    // Goes on step by step from an offset that awaits an entry.
     fn read_on(&mut self, scene: FlowContext<'a>, at: usize) -> Result<Ending, AllocError>
         requires standing { IsReaderReady EntryIsNext scene.text.now at self.old }
         requires escapes { All (IsCharBoundary scene.text.now) self.old.part.escapes }
@@ -265,8 +267,8 @@ impl<'a> FlowReader<'a> {
     }
 }
 
-// What is found of a node that ends so. Where the content after properties is not derived, the node is empty and the
-// properties are all of it.
+// Returns the outcome of a node with this end. If the content after properties is not derived, the node is empty and
+// is only its properties.
 fn node_found<'a>(
     cursor: FlowCursor<'a>,
     ending: Ending,
@@ -294,7 +296,7 @@ fn node_found<'a>(
     }
 }
 
-// The properties alone, as an empty node, in place of what the part holds.
+// Replaces the contents of the part with an empty node that has only the properties.
 fn lone_node<'a>(
     cursor: FlowCursor<'a>,
     properties: Properties<'a>,
@@ -326,7 +328,7 @@ fn lone_node<'a>(
     Ok(FlowOutcome::Found(end))
 }
 
-// Takes out of a part all that it holds.
+// Empties a part.
 fn empty<'a>(alloc: Global, part: &mut Part<'a>)
     ensures events { part.new.events ≡ [] }
     ensures comments { part.new.comments ≡ [] }

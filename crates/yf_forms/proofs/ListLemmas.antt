@@ -9,7 +9,7 @@ pub last_one : {A : Type 0} (x : A) (xs : List A) → (zs : List A) × (y : A) �
 last_one x [] = ([], x, refl)
 last_one x (z ∷ zs) = let s = last_one z zs in (x ∷ s.0, s.1, ap (λ w. x ∷ w) s.2)
 
--- the element at an index: those from it on, and where more follow
+-- the element at an index: the elements from it on, and more elements after it
 
 pub drop_here : {A : Type 0} (xs : List A) (i : ℕ) (x : A) → slice_get xs i ≡ Some x → drop i xs ≡ x ∷ drop (i + 1) xs
 drop_here [] i x at = absurd (omega (arith, slice_get_within [] i x at))
@@ -21,7 +21,7 @@ at_append [] ys i x e = absurd cc
 at_append (y ∷ xs) ys zero x e = e
 at_append (y ∷ xs) ys (suc i) x e = at_append xs ys i x e
 
--- lists in a row
+-- lists one after another
 
 pub three_lists : {A : Type 0} (a b c d : List A) → ((a ++ b) ++ c) ++ d ≡ a ++ (b ++ (c ++ d))
 three_lists a b c d = append_assoc (a ++ b) c d ∙ append_assoc a b (c ++ d)

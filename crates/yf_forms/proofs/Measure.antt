@@ -1,4 +1,4 @@
--- `measure_all`: how wide each node is (`Measures`)
+-- `measure_all`: the width of each node (`Measures`)
 pub mod LevelLemmas
 pub mod OffsetLemmas
 pub mod SumLemmas

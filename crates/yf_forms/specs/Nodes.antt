@@ -1,4 +1,4 @@
--- a node on one line: its text, width and style, and where its content begins
+-- a node on one line: its text, width and style, and the start of its content
 pub mod Lines
 pub mod OneLine
 pub mod OneLineFlows

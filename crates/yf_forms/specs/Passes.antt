@@ -1,4 +1,4 @@
--- what the passes do, event by event, for private clauses
+-- the passes, event by event, for private clauses
 pub mod MeasurePass
 pub mod DecidePass
 pub mod NormalEvents

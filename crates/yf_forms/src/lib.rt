@@ -1,4 +1,5 @@
-//! In which form each node of a reading is written: its style and its text on one line, what is measured of it, what is decided, and the normal form.
+//! The form of each node of a reading: its style and its text on one line, its measure, the decisions, and the normal
+//! form.
 #![tactic(auto)]
 
 pub mod form;

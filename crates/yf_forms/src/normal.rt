@@ -1,4 +1,5 @@
-//! The normal form of a reading, made in place: each scalar in the style, and each collection in the form, that the house style gives it.
+//! The normal form of a reading, made in place: each scalar in the style, and each collection in the form, of the
+//! house style.
 ghost use Rattle.std.specs.Prelude.{◌≡◌, get_or, IfOk};
 ghost use Rattle.yf_events.specs.Content.{content_of};
 ghost use Rattle.yf_events.specs.Event.{event_value};
@@ -20,7 +21,7 @@ use yf_events::event::{Event, ScalarStyle};
 use yf_events::events::Events;
 use yf_events::reading::Reading;
 
-/// The style that the house gives the scalar that the event is; `Plain` of any other event.
+/// Returns the style that the house style gives the scalar of the event, or `Plain` for any other event.
 #[inline(always)]
 fn style_of(event: Event, house: &Style) -> ScalarStyle
     ensures { result ≡ wanted_of_event (event_value event.entry) house.now }
@@ -31,8 +32,8 @@ fn style_of(event: Event, house: &Style) -> ScalarStyle
     }
 }
 
-/// Whether the collection that the event begins is between brackets: where it is empty, or before the end of a collection on one
-/// line. Of any other event the answer says nothing.
+/// Returns whether the collection that the event begins is between brackets: it is empty, or before the end of a
+/// collection on one line. The result means nothing for any other event.
 #[inline(always)]
 fn flow_of(event: Event, measures: &Measures, i: usize, kept_until: usize) -> bool
     ensures { (house : Style) → restyled_event house result (event_value event.entry)
@@ -44,8 +45,8 @@ fn flow_of(event: Event, measures: &Measures, i: usize, kept_until: usize) -> bo
     }
 }
 
-/// Puts the events into their normal form. A collection is written between brackets where it is empty, or kept, or is in a kept
-/// one. After a refusal the events are of no use.
+/// Puts the events into their normal form. A collection is written between brackets if it is empty, kept, or in a
+/// kept one. If memory is refused, the events are of no use.
 fn normalize<'a>(
     alloc: Global,
     events: &mut Events<'a>,
@@ -68,7 +69,7 @@ fn normalize<'a>(
     Ok(())
 }
 
-/// The normal form of a reading that was measured, by the forms of its nodes, in place of that reading.
+/// Turns a measured reading into its normal form in place, by the forms of its nodes.
 pub fn normalized<'a>(
     alloc: Global,
     reading: Reading<'a>,

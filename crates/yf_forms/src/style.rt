@@ -4,41 +4,42 @@ ghost use Rattle.std.specs.Prelude.{◌≡◌, ◌≤◌, true};
 use yf_lines::invisible::Invisible;
 use yf_lines::quotes::Quotes;
 
-/// Which documents begin with a `---`.
+/// The documents that begin with a `---`.
 #[derive(Clone, Copy)]
 pub enum DocumentStart {
-    /// All.
+    /// All documents.
     Always,
-    /// All but a first one that has none in the text, where no comment is after its beginning and before its first leaf with characters.
+    /// All but a first document without one in the text that has no comment between its beginning and its first leaf
+    /// with characters.
     Keep,
 }
 
-/// At which column a comment on a line of its own is.
+/// The column of a comment on a line of its own.
 #[derive(Clone, Copy)]
 pub enum CommentColumns {
-    /// At that of the next line.
+    /// The column of the next line.
     Next,
-    /// At that of the block in which it was written.
+    /// The column of the block in which the comment was written.
     Block,
 }
 
-/// The settings of the house style. Each value of this type is within the ranges that its fields name.
+/// The settings of the house style. Each value of this type is within the ranges of its fields.
 #[derive(Clone, Copy)]
 pub struct Style {
-    /// By how many columns an entry is to the right of the entry that holds it, 2 to 8.
+    /// The number of columns by which an entry is to the right of the entry around it, 2 to 8.
     pub indent: usize,
-    /// The last column, from 1, that the closing bracket of a flow collection on one line may have, 40 to 1000.
+    /// The last column, from 1, for the closing bracket of a flow collection on one line, 40 to 1000.
     pub max_line: usize,
     /// The quotes of scalars that can be written in either.
     pub quotes: Quotes,
-    /// Whether the entries of a sequence that is the value of an implicit key are to the right of the key. Where they
-    /// do not, they are at the key's column.
+    /// Whether the entries of a sequence that is the value of an implicit key are to the right of the key. If not,
+    /// they are at the key's column.
     pub seq_indent: bool,
-    /// Which documents begin with a `---`.
+    /// The documents that begin with a `---`.
     pub document_start: DocumentStart,
-    /// Where comments on lines of their own are.
+    /// The columns of comments on lines of their own.
     pub comments: CommentColumns,
-    /// How quoted scalars hold hidden characters.
+    /// The way in which quoted scalars hold hidden characters.
     pub invisible: Invisible,
     pub ghost indent_from: { 2 ≤ indent },
     pub ghost indent_to: { indent ≤ 8 },
@@ -47,8 +48,9 @@ pub struct Style {
 }
 
 impl Style {
-    /// The style where nothing is set: indent 2, lines of 100 columns, double quotes, sequences to the right of their
-    /// keys, `---` before each document, comments at the columns of the next lines, hidden characters as they are.
+    /// Returns the style without any settings: indent 2, lines of 100 columns, double quotes, sequences to the right
+    /// of their keys, `---` before each document, comments at the columns of the next lines, hidden characters
+    /// unchanged.
     pub fn house() -> Style
         ensures indent { result.indent ≡ 2 }
         ensures max_line { result.max_line ≡ 100 }

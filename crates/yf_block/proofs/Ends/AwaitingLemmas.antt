@@ -1,4 +1,4 @@
--- The walk over the open collections, from the innermost one on.
+-- The walk over the open collections, from the innermost one out.
 use Rattle.std.proofs.Common.{◌≡◌, ℕ, ◌+◌, ◌-◌, ◌<◌, ◌≤◌, true, List, [], ◌∷◌, length, reverse, take, get_or, sym, ap, ◌∙◌, subst, arith}
 use Rattle.std.proofs.lemmas.List.{reverse-append, take_more}
 use Rattle.yf_block.specs.declared.frame.Frame.{Frame}
@@ -10,7 +10,7 @@ up_to_frame xs k d n l =
     let e : k ≡ (k - 1) + 1 = omega arith in
     ap (λ z. reverse (take z xs)) e ∙ ap (λ z. reverse z) (take_more xs (k - 1) d (omega arith)) ∙ reverse-append (take (k - 1) xs) (get_or xs (k - 1) d ∷ [])
 
--- a collection that is less deep ends the walk; one at the column may await the `:`; else those round it count
+-- a less deep collection ends the walk; one at the column may await the `:`; otherwise those around it count
 less_deep : {m : ℕ} {f : Frame} {fs : List Frame} → f.column < m → AwaitsAt m (f ∷ fs) → ⊥
 less_deep l (awaits_here e a) = omega (arith, e, l)
 less_deep l (awaits_round d a) = omega (arith, d, l)

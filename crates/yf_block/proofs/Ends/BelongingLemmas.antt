@@ -1,4 +1,4 @@
--- Whose the properties of lines before are: those of the node on the line, or those of a mapping that begins there.
+-- The owner of the properties on earlier lines: the node on the line, or a mapping that begins there.
 use Rattle.std.proofs.Common.{◌≡◌, ◌≢◌, ℕ, List, Option, Some, None, refl, sym, subst}
 use Rattle.std.proofs.lemmas.Option.{same_Some}
 use Rattle.yf_chars.specs.Text.{code}
@@ -13,7 +13,7 @@ use Rattle.yf_block.specs.BlockStepTied.{PropertiesTied, AheadTied, nothing_held
 use Rattle.yf_block.specs.BelongingTied.{none_more, more_there, two_alike, before_alias, BelongingTied}
 use Rattle.yf_block.specs.PropertiesAnswers.{line_held, LineProperties, BothProperties, HoldsProperties, held_lead, lead_at}
 
--- properties on hold are those that are ahead
+-- held properties are those that are ahead
 pub held_ahead : {a : Ahead} {outer : Option PlacedProperties} {held : PlacedProperties} → AheadTied a outer → outer ≡ Some held → HoldsProperties a held
 held_ahead nothing_held q = absurd (none_some q)
 held_ahead none_held q = absurd (none_some q)
@@ -30,7 +30,7 @@ none_ahead nothing_held q h e = no_props_nothing e
 none_ahead none_held q h e = no_props_sign e
 none_ahead (props_held t) q h e = some_none q
 
--- properties of a line as they are joined with those before
+-- properties of a line as they are joined with earlier ones
 pub line_tied : {t : List ℕ} {p : ℕ} {held : PlacedProperties} (l : LineProperties t p held) → PropertiesTied (line_held l.value held.start held.end) held
 line_tied {held = held} l = subst (λ (z : ℕ). PropertiesTied (line_held l.value z held.end) held) (sym l.tied.start) l.tied
 
@@ -57,7 +57,7 @@ module _ (t : List ℕ) (p at : ℕ) {a : Ahead} {outer : PlacedProperties} (w :
   belonging_apart {held} {lead} l c e s =
       subst (λ z. BelongingTied t p at a (Some held) entry lead z) (sym s) (record { before = w.value; is = w.is; other = two_alike l (record { held = w.value; is = w.is; clash = c }); lead_is = e })
 
-  -- the same of a node that has perhaps properties on its line
+  -- the owner for a node with or without properties on its line
   module _ (inner : Option PlacedProperties) {lead : Lead} {belonging : Belonging} where
     pub belonging_of_outer : inner ≡ None → code t at ≢ 42 → lead ≡ held_lead outer entry → belonging ≡ Joined → BelongingTied t p at a inner entry lead belonging
     belonging_of_outer q c e s = subst (λ z. BelongingTied t p at a z entry lead belonging) (sym q) (belonging_outer c e s)

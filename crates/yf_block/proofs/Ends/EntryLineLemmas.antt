@@ -1,4 +1,4 @@
--- Where an entry may begin on a line, and that no line of a node is there.
+-- The offset on a line at which an entry may begin, and why no line of a node begins there.
 use Rattle.std.proofs.Common.{◌≡◌, ◌≢◌, ℕ, ◌+◌, ◌-◌, ◌<◌, ◌≤◌, true, false, List, refl, sym, ap, ◌∙◌, subst, ⊎_elim, arith}
 use Rattle.std.proofs.lemmas.Bool.{cases_lt, cases_eq}
 use Rattle.yf_chars.specs.Text.{code, next}
@@ -53,7 +53,7 @@ last_white {t} {j = j} (step {i = i} (one e) r) l =
     ap (λ k. is_white (code t k)) same ∙ e)
     (cases_lt (next t i) j)
 
--- a line that ends after white space has none
+-- a line that ends after white space has no content
 module _ {t : List ℕ} {at p : ℕ} {w : List ℕ} (m : Many t is_white at p w) (s : NotWithinBreak t at) where
   ends_there : LineEndsAt t true p → code t p ≢ 35 → ((j : ℕ) → BreakOrEnd t p j → ⊥) → ⊥
   ends_there (text_stops e) h n = n p (by_end e)

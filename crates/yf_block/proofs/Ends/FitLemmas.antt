@@ -1,4 +1,4 @@
--- What a line is to an open collection, from the column of its first character.
+-- The relation of a line to an open collection, from the column of its first character.
 use Rattle.std.proofs.Common.{◌≡◌, ℕ, ◌+◌, ◌-◌, ◌<◌, List, sym, subst, arith}
 use Rattle.yf_grammar.specs.BlockReader.BlockParser.{DashAt, LineText}
 use Rattle.yf_block.specs.declared.frame.Frame.{Frame}

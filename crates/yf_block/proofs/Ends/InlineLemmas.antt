@@ -1,4 +1,4 @@
--- What is found on a line: a flow node, an alias, or an empty key, and how it is written.
+-- The node found on a line (a flow node, an alias, or an empty key), and how it is written.
 use Rattle.std.proofs.Common.{◌≡◌, ◌≢◌, ℕ, ℤ, true, false, List, [], ◌∷◌, ◌++◌, Option, None, refl, sym, ◌∙◌, subst, arith, append-nil}
 use Rattle.std.proofs.lemmas.Bool.Decides.{nat_tests}
 use Rattle.yf_chars.specs.declared.context.Ctx.TheVariants.{FlowOut}
@@ -31,7 +31,7 @@ pub alias_not : (c : ℕ) → c ≢ 42 → begins_alias c ≡ false
 unfolding begins_alias
 alias_not c n = grind (arith, nat_tests)
 
--- a node at the end of properties, and an alias
+-- an empty node at the end of properties, and an alias
 module _ {t : List ℕ} {lead : Lead} {old new : Part} where
   pub empty_written : (end : ℕ) → new.events ≡ old.events ++ leaf_event lead Plain [] end ∷ [] → new.comments ≡ old.comments → new.escapes ≡ old.escapes → WrittenWith t lead (empty_node end) None end old new
   unfolding empty_node

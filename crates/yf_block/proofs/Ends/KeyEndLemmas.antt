@@ -1,4 +1,4 @@
--- Where an implicit key ends: at a `:` on its line, after no more characters than a key may have.
+-- The end of an implicit key: a `:` on its line, within the limit of characters.
 use Rattle.std.proofs.Common.{◌≡◌, ℕ, ◌-◌, ◌<◌, ◌≤◌, Bool, true, false, List, length, take, drop, MatchBool, ap, arith, ⊎_elim}
 use Rattle.std.proofs.lemmas.Bool.{cases_Bool}
 use Rattle.std.proofs.lemmas.List.{length-take}
@@ -14,7 +14,7 @@ use Rattle.yf_flow.specs.Leaves.{KeyLine}
 use Rattle.yf_block.specs.InlineAnswers.{KeyEnds}
 use Rattle.yf_grammar.proofs.FlowReader.KeyLines.{line_none}
 
--- a character begins where one is
+-- an offset with a character is a boundary
 pub boundary_there : (t : List ℕ) (i : ℕ) → code t i < no_char → IsCharBoundary t i
 boundary_there t i l = ⊎_elim
     (λ (e : begins t i ≡ true). boundary_from_begins t i e)
@@ -27,7 +27,7 @@ sign_boundary {t} {i} s = let c = s.sign_is_at in boundary_there t i (omega arit
 pub line_upto : {t : List ℕ} {i j k : ℕ} → OnOneLine t i j → k ≤ j → OnOneLine t i k
 line_upto o l = record { each = λ h a b. o.each h a (omega arith) }
 
--- of so many bytes there are no more characters
+-- a number of bytes has at most as many characters
 short_between : {t : List ℕ} {i j : ℕ} → IsUtf8 t → IsCharBoundary t i → IsCharBoundary t j → i ≤ j → characters_between t i j ≤ j - i
 unfolding characters_between
 short_between {t} {i} {j} u a b l =
@@ -40,7 +40,7 @@ short_between {t} {i} {j} u a b l =
 pub short_line : {t : List ℕ} {i j : ℕ} → IsUtf8 t → IsCharBoundary t i → i ≤ j → j - i ≤ 1024 → OnOneLine t i j → IsCharBoundary t j → KeyLine t i j
 short_line u a l s o b = record { line = o; short = let m = short_between u a b l in omega arith }
 
--- from the sign and the line
+-- a key ends there, by its sign and its line
 pub key_there : {t : List ℕ} {i j : ℕ} → SignAt t 58 j → KeyLine t i j → KeyEnds t i j
 key_there c l = record { colon = c; line = l }
 

@@ -1,4 +1,4 @@
--- The node of an implicit key from its properties on, and why none begins: from what is on its line after them.
+-- The node of an implicit key from its properties on, or why none begins: from the text on its line after them.
 use Rattle.std.proofs.Common.{◌≡◌, ℕ, ◌+◌, ◌<◌, ◌≤◌, ℤ, true, false, List, [], Option, Some, None, refl, sym, ◌∙◌, subst, arith, ⊎_elim, true≢false, encode_utf8_all}
 use Rattle.std.proofs.lemmas.Bool.{cases_lt}
 use Rattle.std.proofs.lemmas.Bool.Decides.{nat_tests}
@@ -36,7 +36,7 @@ use Rattle.yf_chars.proofs.Tests.{some_none, none_some}
 use Rattle.yf_grammar.proofs.BlockContent.PlainCut.{colon_no_white}
 use Rattle.yf_grammar.proofs.FlowReader.NodesAnswered.{plain_else}
 
--- content that is at a place without properties is a node
+-- content at an offset without properties is a node
 pub content_node : {t : List ℕ} {e k : ℕ} {n : ℤ} {o : Option ParsedNode} → begins_alias (code t k) ≡ false → begins_properties (code t k) ≡ false → ContentAt t e n FlowOut k o → Parses t e (ANode n FlowOut k) o
 content_node a b (content_there c p) = content_read c p
 content_node {t} {k = k} a b (plain_there c p) = plain_read (plain_else (code t k) a b c) p
@@ -70,7 +70,7 @@ module _ {t : List ℕ} where
   property_no_text : {n : ℤ} {k : ℕ} → begins_properties (code t k) ≡ true → Stuck (Plain t n FlowOut k)
   property_no_text {k = k} a = record { none = λ j x p. plain_no_properties (code t k) (plain_begins p.text) a }
 
-  -- properties alone are no key, unless a `:` is after them
+  -- properties are only a key if a `:` follows them
   pub lone_no_key : {g k : ℕ} {w : List ℕ} (q : PropertiesValue) (p : ℕ) → Many t is_white g k w → is_white (code t k) ≡ false → (SignAt t 58 k → ⊥) → NoKey t p (lone_properties q p g)
   lone_no_key {g} {k} q p m f n = subst (λ o. NoKey t p o) (sym (lone_is q p g ∙ found_is g 0 false (meaning_after q.comments (with_props q.props q.tag_offset p g (empty_node g)))))
       (key_unfit (λ h b. let same = (many_unique t is_white b.run (colon_no_white (code t h) b.colon.sign_is_at) m f).0 in n (subst (λ z. SignAt t 58 z) same b.colon)))
@@ -81,7 +81,7 @@ module _ {t : List ℕ} (u : IsUtf8 t) {p : ℕ} {held : PlacedProperties} (l : 
   keyless_line d = properties_end_line l.chosen d
 
   module _ (s : Stuck (LineEnd t held.end)) where
-    -- properties alone, before white space or beside what is there
+    -- lone properties, before white space or beside other text
     pub lone_after : {e k : ℕ} {n : ℤ} {w : List ℕ} → Many t is_white held.end k w → is_white (code t k) ≡ false → begins_content (code t k) ≡ false → Stuck (Plain t n FlowOut k)
         → Parses t e (ANode n FlowOut p) (lone_properties l.value p held.end)
     lone_after {k = k} m f b r = ⊎_elim
@@ -92,14 +92,14 @@ module _ {t : List ℕ} (u : IsUtf8 t) {p : ℕ} {held : PlacedProperties} (l : 
         line_alone u l.chosen s (subst (λ z. is_white (code t z) ≡ false) same f))
         (cases_lt held.end k)
 
-    -- nothing that may be a node is after them
+    -- nothing after them may be a node
     pub keyless_nowhere : {e : ℕ} {n : ℤ} → NoPlaceAfter t held.end → Keyless t e n p
     keyless_nowhere (other_beside f c) = node_unfit (line_alone u l.chosen s f) (lone_no_key l.value p done f c)
     keyless_nowhere (property_after {p = k} m f b) =
         node_unfit (lone_after m f (property_bare (code t k) b) (property_no_text b)) (lone_no_key l.value p m f (λ c. property_no_sign (code t k) b c.sign_is_at))
 
     module _ {at : ℕ} (b : PlaceAfter t held.end at) where
-      -- the place is further on, unless an empty key is there
+      -- the text is further on, unless an empty key is there
       pub after_later : (SignAt t 58 at → ⊥) → held.end < at
       after_later n = ⊎_elim
           (λ (o : held.end < at). o)
@@ -120,7 +120,7 @@ module _ {t : List ℕ} (u : IsUtf8 t) {p : ℕ} {held : PlacedProperties} (l : 
             subst (λ v. Parses t e (ANode n FlowOut p) (propertied l.value [] p held.end v)) (sym same) (line_plain u l.chosen s b.run (after_later c) b.no_white a z)
         go (plain_missing a z) q = absurd (none_some q)
 
-      -- none of them
+      -- nothing of these
       pub keyless_after : {e : ℕ} {n : ℤ} → InlineLost t e n at (Some held) → Keyless t e n p
       keyless_after {e} {n} (content_lost k a r) = node_unfit (go r refl) (lone_no_key l.value p b.run b.no_white (k held refl)) where
         go : {o : Option ParsedNode} → ContentAt t e n FlowOut at o → o ≡ None → Parses t e (ANode n FlowOut p) (lone_properties l.value p held.end)
@@ -137,7 +137,7 @@ keyless_bare b (content_lost k a r) = node_unfit (content_node a b r) key_missed
 keyless_bare b (alias_lost q r) = node_unfit r key_missed
 keyless_bare b (alias_after k q a) = absurd (some_none (sym q))
 
--- a node whose `:` is where white space after it ends
+-- a node with its `:` at the end of the white space after it
 module _ {t : List ℕ} {p : ℕ} (f : ParsedNode) {k : ℕ} {w : List ℕ} (m : Many t is_white f.end k w) where
   pub key_before : KeyEnds t p k → KeyBefore t p f k
   key_before e = record { whites = w; run = m; line = e.line.line; short = e.line.short; colon = e.colon }

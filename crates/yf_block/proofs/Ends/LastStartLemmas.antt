@@ -1,4 +1,4 @@
--- A walk over the breaks of a text, which keeps the last place before another at which a line begins.
+-- A walk over the breaks of a text, which keeps the last line start before an offset.
 use Rattle.std.proofs.Common.{◌≡◌, ℕ, ◌+◌, ◌-◌, ◌<◌, ◌≤◌, List, Option, Some, None, length, ap, ◌∙◌, subst, arith, ⊎_elim}
 use Rattle.std.proofs.lemmas.Bool.{cases_lt}
 use Rattle.std.specs.Str.{IsUtf8}
@@ -10,7 +10,7 @@ use Rattle.yf_lines.proofs.BasicLemmas.{break_char, break_forward, break_unique}
 use Rattle.yf_lines.proofs.ClearLemmas.{code_inside}
 use Rattle.yf_block.specs.LastStarts.{LastStartIs}
 
--- of the breaks that begin before a place
+-- of the breaks that begin before an offset
 pub record StartSoFar (t : List ℕ) (from end at p : ℕ) : Type 0 where
   pub begins : ℕ
   pub later : from ≤ begins
@@ -22,11 +22,11 @@ abbrev pub SoFar : List ℕ → ℕ → ℕ → ℕ → Option ℕ → Type 0
 SoFar t from end at None = (i q : ℕ) → from ≤ i → i < at → Break t i q → q < end → ⊥
 SoFar t from end at (Some p) = StartSoFar t from end at p
 
--- where a break begins, a character is
+-- a break begins with a character
 no_break_there : {t : List ℕ} {i q : ℕ} → code t i ≡ no_char → Break t i q → ⊥
 no_break_there e b = ⊎_elim (λ c. omega (arith, e, c)) (λ c. omega (arith, e, c)) (break_char b)
 
--- a break ends two characters after its beginning at the latest
+-- a break ends at most two characters after its start
 break_short : {t : List ℕ} {i q : ℕ} → Break t i q → q ≤ i + 2
 break_short (cr_lf a b) = omega arith
 break_short (lone_cr a b) = omega arith
@@ -63,7 +63,7 @@ no_break_from {t} {at} {i = i} {q} u r n e d b = ⊎_elim
     (cases_lt at i)
 
 module _ (t : List ℕ) (from end at : ℕ) where
-  -- over a break, after which the other place is; and over one that ends there, or later
+  -- over a break before the other offset; and over one that ends at it, or later
   pub walk_break : {j : ℕ} (o : Option ℕ) → SoFar t from end at o → from ≤ at → Break t at j → j < end → SoFar t from end j (Some j)
   walk_break {j} o s a b l = record {
     begins = at;
@@ -94,7 +94,7 @@ module _ (t : List ℕ) (from end at : ℕ) where
     last = λ i q c d n m. ⊎_elim (λ (e : i < at). s.last i q c e n m) (λ (e : at ≤ i). absurd (late b l e d n m)) (cases_lt i at);
   }
 
-  -- over such a character
+  -- over a character that begins no break
   pub walk_char : {c j : ℕ} (o : Option ℕ) → SoFar t from end at o → IsUtf8 t → CharAt t at c j → Nowhere (Break t at) → SoFar t from end j o
   walk_char None s u r n = λ i q k d b m. ⊎_elim (λ (e : i < at). s i q k e b m) (λ (e : at ≤ i). no_break_from u r n e d b) (cases_lt i at)
   walk_char (Some p) s u r n = record {
@@ -105,7 +105,7 @@ module _ (t : List ℕ) (from end at : ℕ) where
     last = λ i q k d b m. ⊎_elim (λ (e : i < at). s.last i q k e b m) (λ (e : at ≤ i). absurd (no_break_from u r n e d b)) (cases_lt i at);
   }
 
-  -- all have been walked over
+  -- the walk has passed all breaks
   all_walked : (o : Option ℕ) → SoFar t from end at o → ((i q : ℕ) → Break t i q → q < end → i < at) → LastStartIs t from end o
   all_walked None s a = λ i q k b m. s i q k (a i q b m) b m
   all_walked (Some p) s a = record { begins = s.begins; later = s.later; ended = s.ended; earlier = s.earlier; last = λ i q k b m. s.last i q k (a i q b m) b m }

@@ -1,4 +1,5 @@
--- The last place of a line's end, with comment lines, at which all open nodes may end, as it is noted; and the line that begins there.
+-- The last offset of a line's end, with comment lines, at which all open nodes may end, as it is noted; and the line
+-- that begins there.
 use Rattle.std.proofs.Common.{◌≡◌, ℕ, ◌+◌, ◌-◌, ◌<◌, ◌≤◌, Bool, true, false, ⊎_elim, List, [], ◌∷◌, length, Option, refl, sym, ap, ◌∙◌, arith, true≢false}
 use Rattle.std.proofs.lemmas.Bool.{cases_lt}
 use Rattle.std.specs.Str.{IsUtf8}
@@ -37,7 +38,7 @@ use Rattle.yf_block.specs.LookTests.{NotWithinBreak}
 use Rattle.yf_block.specs.HaltNotes.{ColonsCounted}
 use Rattle.yf_block.proofs.Stack.TiedFrames.{allowed_there, refused_there}
 
--- where a line's end, or the end of the text, is passed, no break is parted
+-- after the end of a line, or at the end of the text, the offset is not within a break
 module _ {t : List ℕ} where
   pub break_outside : {i j : ℕ} → Break t i j → NotWithinBreak t j
   break_outside (cr_lf {i = i} a b) = record { apart = λ x y. let same : i + 2 - 1 ≡ i + 1 = omega arith in let z = sym (ap (code t) same) ∙ y in omega (arith, b, z) }
@@ -77,7 +78,7 @@ module _ {t : List ℕ} where
   outside_end u (past_rest r c) = lines_outside (rest_outside r) c
   outside_end u (from_start s c) = lines_outside (start_outside u s) c
 
-  -- after the longest end of a line no comment line is
+  -- no comment line follows the longest end of a line
   pub chosen_still : {i k : ℕ} {ds : List CommentValue} → Chosen (LineEnd t i) k ds → Stuck (Row t k)
   chosen_still {i} {k} {ds} d = record {
     none = λ j x r.
@@ -89,7 +90,7 @@ module _ {t : List ℕ} where
         omega (arith, l, later);
   }
 
--- the columns that are counted
+-- the columns that await a `:`
 counted_if : (b : Bool) (w : ℕ) (ws : List ℕ) → length (column_if b w ws) ≡ 0 → (b ≡ true → ⊥) × (length ws ≡ 0)
 counted_if true w ws e = absurd (omega (arith, e))
 counted_if false w ws e = ((λ q. true≢false (sym q)), e)
@@ -102,12 +103,12 @@ awaits_counted (frame_tied {l = l} {ls = ls} f r) e (awaits_round b y) = awaits_
 pub colons_counted : {n : ℕ} {ls : List Layer} {frames : List Frame} {progress : BlockCursor} {halt : Option ParsedNode} → StackTied n ls frames progress halt → ColonsCounted progress.colons frames
 colons_counted s = λ e m a. awaits_counted s.frames_tied (sym s.colons ∙ e) a
 
--- a node and what is made of it end at one place
+-- a node, and the nodes made of it, end at one offset
 pub rounds_end : (ls : List Layer) (f : ParsedNode) → (rounds ls f).end ≡ f.end
 rounds_end [] f = refl
 rounds_end (l ∷ ls) f = rounds_end ls (collection_made l (entry_made l.stage f)) ∙ entry_end l.stage f
 
--- the last line of those that begin from a place on
+-- the last line of those that begin after an offset
 module _ {t : List ℕ} {i k p : ℕ} where
   pub last_line_of : LastStart t i k p → LastLine t i k p
   last_line_of l = record {
@@ -124,7 +125,7 @@ module _ {t : List ℕ} {i k p : ℕ} where
 pub no_last_line : {t : List ℕ} {i k : ℕ} → NoStart t i k → (j : ℕ) → LastLine t i k j → ⊥
 no_last_line n j l = n l.from j l.first l.ends l.inside
 
--- where all may end, up to a line's end from i on at k
+-- all may end up to the end of a line, from i to k
 module _ {t : List ℕ} (u : IsUtf8 t) {n : ℕ} {ls : List Layer} {frames : List Frame} (f : FramesTied n frames ls) (o : LayersDeepen ls) {i k : ℕ} {ds : List CommentValue} (d : Chosen (LineEnd t i) k ds) where
   pub may_end_at : (AwaitedColon t k frames → ⊥) → Chosen (MayEnd t (asked ls) i) k ds
   may_end_at none = may_end_chosen d (allowed_there f o (λ m c a. none (record { column = m; line = c; awaits = a })))

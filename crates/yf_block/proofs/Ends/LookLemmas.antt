@@ -1,4 +1,4 @@
--- What is at a place of a block node.
+-- Tests at an offset of a block node.
 use Rattle.std.proofs.Common.{◌≡◌, ◌+◌, arith, ℕ, List, Option, Some, None, IfSome}
 use Rattle.yf_chars.specs.Boundary.{BoundaryFrom}
 use Rattle.yf_flow.specs.Machine.{EndingAt}
@@ -11,12 +11,12 @@ pub may_place : (t : List ℕ) (at : ℕ) (o : Option ℕ) → IfSome o (λ p. B
 may_place t at None p = tt
 may_place t at (Some i) p = p
 
--- what is before a place that is after the properties of a line
+-- the properties before an offset that is after the properties of a line
 pub properties_before : (t : List ℕ) (start at : ℕ) (inner : Option PlacedProperties) → PropertiesTo t start at inner → PropertiesBefore t at inner
 properties_before t start at None e = tt
 properties_before t start at (Some h) q = (q.0.boundary, q.1)
 
--- what is read there ends after the properties, too
+-- a node read there ends after the properties, too
 pub found_after : (t : List ℕ) (at : ℕ) (inner : Option PlacedProperties) (e : Ending) → PropertiesBefore t at inner → EndingAt t (at + 1) e → EndingAt t (earliest_end at inner) e
 found_after t at None e b p = p
 found_after t at (Some h) (End node) b p = let k = b.1 in record { boundary = p.boundary; order = let o = p.order in omega arith }

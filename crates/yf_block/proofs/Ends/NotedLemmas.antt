@@ -1,4 +1,4 @@
--- Which place is noted of a plain scalar without its last line.
+-- The offset noted for a plain scalar without its last line.
 use Rattle.std.proofs.Common.{◌≡◌, ℕ, List, Option, Some, None, refl, sym, subst}
 use Rattle.yf_block.specs.LastStarts.{LastStart, NoStart}
 use Rattle.yf_block.specs.HaltNotes.{ShorterNoted, shorter_noted, one_line, no_plain}

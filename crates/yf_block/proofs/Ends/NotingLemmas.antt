@@ -1,4 +1,5 @@
--- Events with the notes of their entries filled in: more of them, and a change of one that begins a collection or an entry.
+-- Events with the notes of their entries filled in: more of them, and a change of one that begins a collection or an
+-- entry.
 use Rattle.std.proofs.Common.{◌≡◌, ℕ, suc, ◌+◌, List, [], ◌∷◌, ◌++◌, length, Some, refl, ap, ◌∙◌, subst, sym, arith}
 use Rattle.yf_events.specs.Event.{EventInText}
 use Rattle.yf_events.specs.Edit.{edited, ended, coloned, with_colon}
@@ -10,7 +11,7 @@ pub floor_more : (floor : ℕ) (x z : List EventInText) → floor_after floor (x
 floor_more floor [] z = refl
 floor_more floor (e ∷ x) z = floor_more (floor_after_event floor e e.event) x z
 
--- an event that is no block scalar's, and is none when it is changed
+-- a change of an event that is not a block scalar, before and after it
 abbrev pub Keeps : (EventInText → EventInText) → EventInText → Type 0
 Keeps f e = (floor : ℕ) → floor_after_event floor (f e) (f e).event ≡ floor_after_event floor e e.event
 

@@ -21,7 +21,7 @@ block_context (flow_in_block b s d e) = b
 pub no_other_node : {t : List ℕ} {limit at : ℕ} {n : ℤ} {c : Ctx} → is_block c ≡ false → Stuck (BlockNodePart t limit n c at)
 no_other_node b = record { none = λ j part d. true≢false (sym (block_context d.derived) ∙ b) }
 
--- the answer that there is none is neither a node nor a fault of depth
+-- `Nothing` is neither a node nor a fault of depth
 abbrev pub IsNoNode : BlockOutcome → Type 0
 IsNoNode (Found f) = ⊥
 IsNoNode (Nothing p) = Unit {0}
@@ -34,7 +34,7 @@ AnswersNone (Err e) = ⊥
 pub answers_none : {r : Result BlockOutcome AllocError} {at : ℕ} → r ≡ Ok (Nothing at) → AnswersNone r
 answers_none e = subst AnswersNone (sym e) tt
 
--- what holds in each context, by whether it is one of these two
+-- a property of each context, by whether it is one of these two
 pub by_context : {P : Type 0} (b : Bool) → (b ≡ true → P) → (b ≡ false → P) → P
 by_context true f g = f refl
 by_context false f g = g refl

@@ -1,4 +1,4 @@
--- Places of a prefix of a text are places of the text.
+-- Boundaries of a prefix of a text are boundaries of the text.
 use Rattle.std.proofs.Common.{◌≡◌, ℕ, ◌≤◌, ◌<◌, ◌⊎◌, inl, inr, List, ◌++◌, length, take, ◌-◌, arith, sym, ap, ◌∙◌, subst}
 use Rattle.std.proofs.lemmas.Bool.{cases_lt}
 use Rattle.std.proofs.lemmas.List.{get_or-take, length-take-le}
@@ -23,7 +23,7 @@ uncut_boundary t end i e b = go (cases_lt i end) where
       (omega (arith, l, within), λ _ g. subst (λ (z : ℕ). 192 ≤ z) same (b.1 (omega (arith, l, size)) (subst (λ (z : ℕ). 128 ≤ z) (sym same) g)))
   go (inr h) = let eq : end ≡ i = omega (arith, h, low) in subst (λ (z : ℕ). IsCharBoundary t z) eq e
 
--- and those of the text up to its end are its own
+-- boundaries of the text up to the prefix's end are boundaries of the prefix
 pub cut_boundary : (t : List ℕ) (end i : ℕ) → end ≤ length t → i ≤ end → IsCharBoundary t i → IsCharBoundary (take end t) i
 cut_boundary t end i within l b =
     let size = length-take-le end t within in (
@@ -34,7 +34,7 @@ cut_boundary t end i within l b =
           subst (λ (z : ℕ). 192 ≤ z) (sym same) (b.1 (omega (arith, below, within)) (subst (λ (z : ℕ). 128 ≤ z) same g)),
     )
 
--- a prefix as the slice that it is
+-- a prefix as a slice
 pub prefix_of : (t : List ℕ) (end : ℕ) → slice_range t 0 end ≡ take end t
 prefix_of t end = let same : end - 0 ≡ end = omega arith in ap (λ (z : ℕ). take z t) same
 

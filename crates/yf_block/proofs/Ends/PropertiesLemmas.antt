@@ -1,4 +1,4 @@
--- The properties of a line, what is after them, and those of lines before.
+-- The properties of a line, the text after them, and those of earlier lines.
 use Rattle.std.proofs.Common.{◌≡◌, ◌≢◌, ℕ, ℤ, pos, true, false, ◌==◌, List, [], ◌++◌, Option, Some, None, refl, sym, ap, ◌∙◌, arith, true≢false}
 use Rattle.std.proofs.lemmas.Bool.Decides.{nat_tests}
 use Rattle.std.specs.Borrow.{Bor}
@@ -31,11 +31,11 @@ pub property_or : (c : ℕ) → c ≢ 38 → (c == 33) ≡ begins_properties c
 unfolding begins_properties
 property_or c e = grind (arith, nat_tests)
 
--- where none begins there are none
+-- without the first character of a property there are no properties
 pub no_properties : {t : List ℕ} {n : ℤ} {c : Ctx} {p : ℕ} → false ≡ begins_properties (code t p) → Stuck (Properties t n c p)
 no_properties e = record { none = λ j x d. true≢false (sym (properties_begin d) ∙ sym e) }
 
--- within a key they have no comments
+-- properties within a key have no comments
 key_gap_bare : {t : List ℕ} {n : ℤ} {i j : ℕ} {x : List CommentValue} → Separate t n FlowKey i j x → x ≡ []
 key_gap_bare (in_key e s) = refl
 key_gap_bare (in_node e s) = absurd (true≢false e)
@@ -64,7 +64,7 @@ pub no_clash : {h : HeldValue} {q : PropertiesValue} → (BothThere h.value.prop
 no_clash f g (anchors_clash a b) = f (both_are a b)
 no_clash f g (tags_clash a b) = g (both_are a b)
 
--- the first of two, or else the second
+-- the first of two optional names, or else the second
 name_or : (x y : Option (Bor (List ℕ))) → name_value (option_or x y) ≡ one_of (name_value x) (name_value y)
 unfolding one_of
 name_or None y = refl
@@ -86,7 +86,7 @@ props_joined a b x d e y p q =
     ap (λ z. record { anchor = z; tag = optional_tag_value y }) (ap name_value p ∙ name_or a b)
     ∙ ap (λ z. record { anchor = one_of (name_value a) (name_value b); tag = z }) (ap optional_tag_value q ∙ tag_or d e)
 
--- both are there, or not
+-- both names are present, or not
 pub names_meet : (x y : Option (Bor (List ℕ))) → is_some (option_and x y) ≡ true → BothThere (name_value x) (name_value y)
 names_meet None y e = absurd (true≢false (sym e))
 names_meet (Some a) None e = absurd (true≢false (sym e))
@@ -153,7 +153,7 @@ module _ {h : HeldValue} {q : PropertiesValue} {outer inner : PlacedProperties} 
     };
   }
 
--- the same where there need be none before
+-- `Apart`, if earlier lines may have no properties
 pub apart_after : {a : Ahead} {q : PropertiesValue} {outer : PlacedProperties} (w : HoldsProperties a outer) → Clash w.value q → Apart a q
 apart_after w c = record { held = w.value; is = w.is; clash = c }
 

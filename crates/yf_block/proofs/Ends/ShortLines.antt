@@ -1,4 +1,4 @@
--- Lines of keys, 16 bytes at once.
+-- Lines of keys, 16 bytes at a time.
 use Rattle.std.proofs.Common.{◌≡◌, ℕ, ◌+◌, ◌<◌, ◌≤◌, false, not, ltb, ◌⊎◌, ⊎_elim, List, length, get_or, subst, arith}
 use Rattle.std.proofs.lemmas.Bool.{cases_lt, ltb-false}
 use Rattle.std.proofs.lemmas.Simd.{run_in_chunk_fails}

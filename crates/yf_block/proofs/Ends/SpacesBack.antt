@@ -1,4 +1,4 @@
--- Back over spaces, and over a line feed, to a visible character: the walk of `is_blank_after` meets no blank line there.
+-- The walk of `is_blank_after` back over spaces, and over a line feed, to a visible character meets no blank line.
 use Rattle.std.proofs.Common.{◌≡◌, ◌≢◌, ℕ, zero, suc, ◌+◌, ◌-◌, ◌<◌, ◌≤◌, Bool, true, false, ⊎_elim, List, length, get_or, MatchBool, sym, ap, ◌∙◌, subst, arith}
 use Rattle.std.proofs.lemmas.Bool.{cases_lt, cases_Bool}
 use Rattle.std.specs.Bool.{⊤}
@@ -69,7 +69,7 @@ module _ (t : List ℕ) (u : IsUtf8 t) where
       after_text true z v = from_spaces (omega arith)
           (visible_back floor i (omega arith) (omega arith) (subst (λ k. 32 < get_or k (i - 1) 0) e v.0) (subst (λ k. get_or k (i - 1) 0 ≤ 126) e v.1) false)
 
-      -- a line feed does, and before it a visible character
+      -- a line feed is before the spaces, and a visible character before it
       pub after_line : (b : Bool) → floor + 2 ≤ i → get_or w (i - 1) 0 ≡ 10 → MatchBool b ((32 < get_or w (i - 2) 0) × (get_or w (i - 2) 0 ≤ 126)) ⊤
           → MatchBool b (WalksBack t floor at false false) ⊤
       after_line false z f v = tt

@@ -1,5 +1,5 @@
--- The walk of `is_blank_after` has one answer, and what it is where the place cuts no break and the floor is after white
--- space alone.
+-- The walk of `is_blank_after` has one result. It is the note if the offset is not within a break and the floor is
+-- after only white space.
 use Rattle.std.proofs.Common.{◌≡◌, ℕ, ◌<◌, Bool, true, List, refl, sym, ◌∙◌, subst, arith, true≢false}
 use Rattle.std.specs.Str.{IsUtf8}
 use Rattle.yf_comments.specs.Comments.{Blank}
@@ -46,7 +46,7 @@ module _ {t : List ℕ} (u : IsUtf8 t) {floor : ℕ} where
   walks_one (nothing_passed z w n m) (mark_passed y v p q l e) = absurd (m q l)
   walks_one (nothing_passed z w n m) (nothing_passed y v p q) = refl
 
-  -- a walk that has come from i to the place, and goes on
+  -- a walk that has come from i to the offset, and goes on
   pub walks_noted : {i j : ℕ} {b r : Bool} → (floor < i → Blank t floor) → WalkedSince t floor i j b → WalksBack t floor j b r → NotedSince t floor i r
   walks_noted {i} {j} {b} f k (floor_reached l) = since_end t u floor i j b f l k
   walks_noted {i} {j} {b} f k (white_passed z w d) = walks_noted f (since_white t u floor i j b z w k) d

@@ -1,4 +1,5 @@
--- A flow node on its line that is no key: the leaf that it is, whose line is to end; or an empty key after which the line goes on.
+-- A flow node on its line that is not a key: a leaf, after which the line must end, or an empty key after which the
+-- line goes on.
 use Rattle.std.proofs.Common.{◌≡◌, ℕ, pos, ◌+ℤ◌, ◌<◌, ◌≤◌, Bool, true, false, List, Option, Some, None, refl, sym, ap, ◌∙◌, subst, arith, ⊎_elim}
 use Rattle.std.proofs.lemmas.Bool.{cases_Bool}
 use Rattle.std.proofs.lemmas.Option.{same_Some}
@@ -54,7 +55,7 @@ alone_ahead none_more = refl
 failed_still : {t : List ℕ} {d : ℕ} {root : BlockTask} {progress after : BlockCursor} → AtFailed t d root progress → after.halt ≡ progress.halt → AtFailed t d root after
 failed_still f e = record { halt = f.halt; unfinished = f.unfinished; halts = f.halts; halted = e ∙ f.halted }
 
--- a `:` is no alias and no node
+-- a `:` begins neither an alias nor a node
 colon_no_alias : (c : ℕ) → c ≡ 58 → begins_alias c ≡ false
 unfolding begins_alias
 colon_no_alias c e = rw e refl
@@ -115,7 +116,7 @@ module _ {t : List ℕ} {d : ℕ} {root : BlockTask} {before old : Part} {frames
             (subst (λ z. EntryTied t progress.floor (layers_entry a.layers) z) (sym v.entry_is) a.wanted.entry) v.tied (after_comments v.joined) w) fl;
       }
 
-  -- no node is at the `:` after an empty key
+  -- no node begins at the `:` after an empty key
   empty_fails : {y : PlacedProperties} → inner ≡ Some y → SignAt t 58 at → AtFailed t d root progress
   empty_fails q c =
       leaf_fails a s x k (λ z l. leaf_lost (other_no_scalar c.sign_is_at (λ e. omega (arith, e)) (λ e. omega (arith, e)))
@@ -124,7 +125,7 @@ module _ {t : List ℕ} {d : ℕ} {root : BlockTask} {before old : Part} {frames
   indented : {o : Option ParsedNode} → Parses t a.room (ANode (pos progress.wanted.least) FlowOut at) o → Parses t a.room (ANode (a.indentation +ℤ pos 1) FlowOut at) o
   indented {o} r = subst (λ i. Parses t a.room (ANode i FlowOut at) o) a.wanted.least r
 
-  -- what was read, where it is no key
+  -- the node that was read, if it is not a key
   module _ {plain : Option ℕ} {after : BlockCursor} {depth : ℕ} {node : Node} {new : Part} (as_json : node.json ≡ true → plain ≡ None) (as_plain : node.json ≡ false → plain ≡ Some at) (last : after.last ≡ node.end) (fl : after.floor ≡ progress.floor)
       (co : after.colons ≡ progress.colons) (ha : after.halt ≡ progress.halt) where
     go_read : {f : ParsedNode} → Answers.NoEmptyKey t at inner → begins_alias (code t at) ≡ false → ContentAt t a.room (pos progress.wanted.least) FlowOut at (Some f) → NodeIs depth f node

@@ -1,4 +1,4 @@
--- No node is found on a line: nothing that may be a leaf is after its properties, or the properties do not go together.
+-- No node is found on a line: nothing that may be a leaf follows its properties, or the properties don't go together.
 use Rattle.std.proofs.Common.{◌≡◌, ◌≢◌, ℕ, ℤ, pos, ◌+ℤ◌, ◌<◌, ◌≤◌, Bool, true, false, List, Option, Some, None, refl, sym, ◌∙◌, subst, arith, inl, inr, ⊎_elim, true≢false}
 use Rattle.std.proofs.lemmas.Bool.{cases_lt}
 use Rattle.std.proofs.lemmas.Bool.Decides.{nat_tests}
@@ -58,7 +58,7 @@ property_no_bar : (c : ℕ) → begins_properties c ≡ true → (c ≢ 124) × 
 unfolding begins_properties
 property_no_bar c e = (λ f. grind (arith, nat_tests), λ f. grind (arith, nat_tests))
 
--- the node is that of its line, or has properties that are on it
+-- the node has only the state of its line ahead, or properties
 abbrev pub Leads : Ahead → Option PlacedProperties → Ahead → Type 0
 Leads a None z = z ≡ a
 Leads a (Some held) z = (h : HeldValue) × (z ≡ Props h)
@@ -107,7 +107,7 @@ module _ {t : List ℕ} {d : ℕ} {root : BlockTask} {before part : Part} {frame
       let i' = subst (λ y. InlineLost t a.room y at inner) indent i in
       leaf_fails x (no_key_here x (lost_keyless utf8 x i')) (λ z l. lost_leaf z i' n l)
 
-  -- the properties of lines before are those of no node on the line
+  -- the properties of earlier lines belong to no node on the line
   pub apart_fails : {inner : Option PlacedProperties} {at : ℕ} {entry : Option TheEntry.Entry} {lead : Lead} → TextAfter t p inner at → NoKeyAt t a.room a.indentation cols p → OthersBefore t p at a.ahead inner entry lead
       → AtFailed t d root progress
   apart_fails {inner} {at} x n o = go x o.other where

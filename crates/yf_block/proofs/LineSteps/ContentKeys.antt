@@ -127,7 +127,7 @@ module _ {t : List ℕ} {d : ℕ} {root : BlockTask} {before old : Part} {frames
               (λ (l : a.room ≤ n.answer.height). l)
               (cases_lt n.answer.height a.room)
 
-    -- the line goes on otherwise after it
+    -- other text follows it on the line
     pub no_key_there : {column : Option ℕ} {v : ℕ} {w : List ℕ} → cols.mapping ≡ column → Many t is_white node.end v w → is_white (code t v) ≡ false → ((m : ℕ) → column ≡ Some m → KeyEnds t p v → ⊥)
         → NoKeyAt t a.room a.indentation cols p
     no_key_there {column = None} q m f k = no_column q

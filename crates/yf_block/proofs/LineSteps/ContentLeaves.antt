@@ -1,4 +1,4 @@
--- A flow node that is no key, as a leaf: it has the properties that are ahead of it, and it was written with them.
+-- A flow node that is not a key, as a leaf: it has the properties ahead of it, and it was written with them.
 use Rattle.std.proofs.Common.{◌≡◌, ◌≢◌, ℕ, ℤ, pos, ◌+◌, ◌<◌, ◌≤◌, true, false, List, [], ◌∷◌, ◌++◌, Option, Some, None, refl, sym, ap, ◌∙◌, subst, arith, append_assoc, append-nil, ⊎_elim, true≢false}
 use Rattle.std.proofs.lemmas.Bool.{cases_Bool}
 use Rattle.std.specs.Str.{IsUtf8}
@@ -58,7 +58,7 @@ module _ {t : List ℕ} {d : ℕ} {root : BlockTask} {before part : Part} {frame
   leaf_task (text_held {held = h} l q b) n (more_there m j) f =
       node_through a.node (held_leaf_awaits s n m.chosen q b.run (f h refl) b.no_white j) (held_leaf_halts s n m.chosen q b.run (f h refl) b.no_white j)
 
--- on its line no comment is told of
+-- properties on its line bring no comments
 pub joined_comments : {a z : Ahead} {q : PropertiesValue} {p g : ℕ} → Joins a q p g z → q.comments ≡ [] → ahead_comments z ≡ ahead_comments a
 unfolding both
 joined_comments {a} (first_held f) e = e ∙ bare a f where
@@ -72,7 +72,7 @@ pub after_comments : {t : List ℕ} {p : ℕ} {a z : Ahead} {inner : Option Plac
 after_comments none_more = refl
 after_comments (more_there l j) = joined_comments j l.no_comments
 
--- what is ahead of the leaf, and what is known of it
+-- the state ahead of the leaf, and its lead
 pub record LeafAhead (t : List ℕ) (p at : ℕ) (a : Ahead) (inner : Option PlacedProperties) (entry : Option TheEntry.Entry) (lead : Lead) : Type 0 where
   pub ahead : Ahead
   pub joined : AfterLine t p a inner ahead
@@ -104,7 +104,7 @@ module _ {t : List ℕ} {p at : ℕ} {a : Ahead} {inner : Option PlacedPropertie
     no_alias = λ {h} e. alias_not (code t at) n.no_alias;
   }
 
--- the node after what is ahead of it, as it was written
+-- the node after the state ahead of it, as it was written
 module _ (x : Meaning) where
   pub headed_comments : (z : Ahead) → (headed z x).comments ≡ ahead_comments z ++ x.comments
   unfolding headed meaning_after with_props
@@ -124,7 +124,7 @@ module _ (x : Meaning) where
   headed_finish (Indicator i) = refl
   headed_finish (Props h) = refl
 
--- an event with what is known, field by field
+-- an event with its lead, field by field
 abbrev known_by : ℕ → PropsValue → Option ℕ → EventValue → ℕ → EventInText
 known_by start props tag event end = record { event = event_with props event; span = from_to start end; tag_offset = tag; entry = None; folded = [] }
 
@@ -198,7 +198,7 @@ module _ {t : List ℕ} (u : IsUtf8 t) {i : ℕ} {n : ℤ} {c : Ctx} where
   node_kind b p (properties_before_broken a s y r) q = absurd (true≢false (sym (properties_begin a.derived) ∙ p))
   node_kind b p (properties_before_other a s y r) q = absurd (true≢false (sym (properties_begin a.derived) ∙ p))
 
--- no line begins within one line, nor where the walk begins too late
+-- no line begins within one line, or before a walk that begins too late
 pub no_start_inside : {t : List ℕ} {i end : ℕ} → OnOneLine t i end → NoStart t i end
 no_start_inside o g q l b m = let f = break_forward b in true≢false (sym (break_breaks b) ∙ o.each g l (omega (arith, f, m)))
 

@@ -1,4 +1,5 @@
--- The line after the properties of a node: it ends, and the node is on a later one, or it goes on; or it should end and does not.
+-- The line after the properties of a node: it ends and the node is on a later line, or it goes on, or it should end
+-- and does not.
 use Rattle.std.proofs.Common.{◌≡◌, ℕ, ℤ, pos, ◌+ℤ◌, ◌<◌, ◌≤◌, Bool, true, false, List, ◌++◌, Option, Some, None, MatchOption, refl, sym, ap, ◌∙◌, subst, arith, ⊎_elim}
 use Rattle.std.proofs.lemmas.Bool.{cases_lt}
 use Rattle.std.specs.Str.{IsUtf8}
@@ -94,7 +95,7 @@ joined_held e f = cc
 joined_no_sign : {z : Ahead} {h : HeldValue} {i : ℕ} → z ≡ Props h → z ≡ Indicator i → ⊥
 joined_no_sign e f = cc
 
--- what is ahead, as the properties of a line are joined with it
+-- the state ahead, as the properties of a line are joined with it
 pub ahead_held : {a : Ahead} {outer : Option PlacedProperties} → AheadTied a outer → PropertiesAhead a outer
 ahead_held nothing_held = λ h e. no_props_nothing e
 ahead_held none_held = λ h e. no_props_sign e
@@ -147,7 +148,7 @@ module _ {t : List ℕ} {d : ℕ} {root : BlockTask} {before part : Part} {frame
         leaf_of a s (ended_key q) l.chosen q e.run e.no_white
         (λ z h. leaf_lost (other_no_scalar u.1.1 no.1.0 no.1.1) (λ m. plain_missed (ap begins_plain u.1.1 ∙ dull_plain u.1.0) (stuck (a.indentation +ℤ pos 1))))
 
-    -- the properties do not go together with those of lines before
+    -- the properties don't go together with those of earlier lines
     pub apart_ended : {k : ℕ} {ds : List CommentValue} → Apart a.ahead l.value → Chosen (LineEnd t held.end) k ds → AtFailed t d root progress
     apart_ended x c = missing a s (properties_apart_below s l.chosen c x) (halts_properties_apart_below s l.chosen c x)
 

@@ -1,4 +1,5 @@
--- The first key of a mapping, once more: it is written after the event that begins the mapping, which has the properties of lines before.
+-- The first key of a mapping, read again: it is written after the event that begins the mapping, which has the
+-- properties of earlier lines.
 use Rattle.std.proofs.Common.{◌≡◌, ℕ, zero, suc, ℤ, pos, ◌+◌, ◌<◌, ◌≤◌, Bool, true, false, List, [], ◌∷◌, ◌++◌, length, take, drop, Option, Some, None, refl, sym, ap, ◌∙◌, subst, arith, append_assoc, true≢false}
 use Rattle.std.proofs.Math.Seq.{take-append_seam, drop-append_seam}
 use Rattle.std.proofs.lemmas.List.{length-append}
@@ -58,7 +59,7 @@ with_entry_of : (p : ℕ) (inner : Option PlacedProperties) (a b : Option TheEnt
 with_entry_of p None a b q = ap (λ (l : Lead). record l { entry = b }) q
 with_entry_of p (Some h) a b q = ap (λ (l : Lead). record l { entry = b }) q
 
--- what was written after something was added to it
+-- the events written after earlier ones
 record FirstOf (old new : Part) : Type 0 where
   first : EventInText
   others : List EventInText
@@ -68,7 +69,7 @@ record FirstOf (old new : Part) : Type 0 where
 
 module _ {t : List ℕ} {lead : Lead} {old new other later : Part} (entry : TheEntry.Entry)
     (move : (x : EventInText) (xs : List EventInText) (cs : List CommentValue) (bad : List ℕ) → PartGrown old new (x ∷ xs) cs bad → PartGrown other later (record x { entry = Some entry } ∷ xs) cs bad) where
-  -- the same after another part, as an entry
+  -- the same events after another part, as an entry
   moved_written : {x : Meaning} {span : Option Span} {end : ℕ} → WrittenWith t lead x span end old new → WrittenWith t (record lead { entry = Some entry }) x span end other later
   moved_written w = record {
     event = w.event;
@@ -116,7 +117,7 @@ module _ {t : List ℕ} {room depth : ℕ} {n : ℤ} {b : AfterProperties} {fact
       escapes = y ∙ a.escapes;
     }
 
-  -- what was read of it is cut off, and read again
+  -- the key's events are cut off, and it is read again
   cut_events : take facts.before.events old.events ≡ earlier.events
   cut_events = let f = first_of r.read in ap (λ z. take facts.before.events z) f.added.events ∙ ap (λ (k : ℕ). take k (earlier.events ++ f.first ∷ f.others)) r.counts.events ∙ take-append_seam earlier.events (f.first ∷ f.others)
 
@@ -139,7 +140,7 @@ module _ {t : List ℕ} {room depth : ℕ} {n : ℤ} {b : AfterProperties} {fact
   read_again NoEnd x y z i = key_lost i
   read_again (TooDeepThere p) x y z i = key_lost i
 
--- what is known of the node on its line
+-- the lead of the node on its line
 lead_alone : (t : List ℕ) (p at : ℕ) (a : Ahead) (inner : Option PlacedProperties) (entry : Option TheEntry.Entry) (lead : Lead) (belonging : Belonging) → BelongingTied t p at a inner entry lead belonging → (belonging ≡ Joined → ⊥) → lead ≡ lead_at p inner entry
 lead_alone t p at a inner entry lead NoBelonging s f = s.lead_is
 lead_alone t p at a inner entry lead Joined s f = absurd (f refl)
@@ -167,7 +168,7 @@ module _ {t : List ℕ} {d : ℕ} {root : BlockTask} {before old : Part} {frames
   utf8 : IsUtf8 t
   utf8 = start.read.text.utf8
 
-  -- what the key was read for
+  -- the key as it was read
   pub key_reads : KeyRead t start.room (pos progress.wanted.least) depth b facts progress.wanted earlier old
   key_reads = record { node = a.node; counts = a.inline.counts; lead_is = λ f. lead_alone t b.node_start.at b.at start.ahead b.inner progress.wanted.entry facts.lead facts.belonging a.inline.belonging f; read = a.inline.read }
 

@@ -1,4 +1,4 @@
--- The node on a line from its properties on: found, whatever was known of it before; or why no key and no leaf is found.
+-- The node on a line from its properties on: found, with any lead; or why no key and no leaf is found.
 use Rattle.std.proofs.Common.{◌≡◌, ℕ, ℤ, pos, ◌+ℤ◌, true, false, List, [], ◌∷◌, ◌++◌, Option, Some, None, refl, sym, ◌∙◌, subst, ◌⊎◌, inl, inr, ⊎_elim, true≢false, encode_utf8_all}
 use Rattle.std.proofs.lemmas.Bool.{cases_Bool}
 use Rattle.std.specs.Str.{IsUtf8}
@@ -41,7 +41,7 @@ use Rattle.yf_block.proofs.Stack.TiedKeys.{keyless_plain}
 use Rattle.yf_block.proofs.Stack.TiedLeads.{NodeThere, bare_there, held_there}
 use Rattle.yf_block.proofs.Ends.BelongingLemmas.{no_props_nothing, no_props_sign}
 
--- what was written with something known of it can be written with something else
+-- a node written with one lead can be written with another
 module _ {t : List ℕ} {lead : Lead} {x : Meaning} {span : Option Span} {end : ℕ} {old new : Part} (other : Lead) (w : WrittenWith t lead x span end old new) where
   abbrev other_part : Part
   other_part = record {
@@ -90,7 +90,7 @@ pub no_key_here : {t : List ℕ} {e p : ℕ} {n : ℤ} {held : Option PlacedProp
 no_key_here (text_alone s) k = no_key_bare s k
 no_key_here (text_held l s b) k = no_key_held l s k
 
--- properties of a line and those of lines before go together, or they do not
+-- properties of a line go together with those of earlier lines, or they don't
 pub data Whose (a : Ahead) (q : PropertiesValue) (p g : ℕ) : Type 0 where
   of_one : {z : Ahead} → Joins a q p g z → Whose a q p g
   of_two : Apart a q → Whose a q p g
@@ -111,13 +111,13 @@ whose (Props h) q p g = ⊎_elim
     (both_or h.value.props.tag q.props.tag))
     (both_or h.value.props.anchor q.props.anchor)
 
--- what then is ahead is properties
+-- then the state ahead is properties
 pub joined_props : {a z : Ahead} {q : PropertiesValue} {p g : ℕ} → Joins a q p g z → (h : HeldValue) × (z ≡ Props h)
 unfolding both
 joined_props (first_held f) = (_, refl)
 joined_props (more_held e f) = (_, refl)
 
--- no flow node is where a plain scalar would, and none is read
+-- if a plain scalar begins at an offset and no flow node is read, no plain scalar is derived
 module _ {t : List ℕ} {i : ℕ} {n : ℤ} {c : Ctx} where
   pub none_plain : {e : ℕ} {o : Option ParsedNode} → begins_plain (code t i) ≡ true → Parses t e (ANode n c i) o → o ≡ None → Stuck (Plain t n c i)
   none_plain b (Parsing.alias_read a) q = absurd (alias_no_plain (code t i) (alias_begins a.derived) b)
@@ -132,7 +132,7 @@ module _ {t : List ℕ} {i : ℕ} {n : ℤ} {c : Ctx} where
   none_plain b (properties_before_broken a s p r) q = absurd (plain_no_properties (code t i) b (properties_begin a.derived))
   none_plain b (properties_before_other a s p r) q = absurd (plain_no_properties (code t i) b (properties_begin a.derived))
 
--- nothing is found of a leaf, and it has no last halt
+-- no leaf is found, and it has no last halt
 pub record NoLeaf (t : List ℕ) (e : ℕ) (ws : List ℕ) (n : ℤ) (a : Ahead) (p : ℕ) : Type 0 where
   pub whole : Whole t e (Leaf n a p) None
   pub halted : Halts t e ws (Leaf n a p) None
@@ -154,7 +154,7 @@ module _ {t : List ℕ} {e : ℕ} {ws : List ℕ} {n : ℤ} {a : Ahead} {p : ℕ
       go : {j : ℕ} {z : Meaning} → PlainPart t (n +ℤ pos 1) ws p j z → ⊥
       go (plain_part {l = h} {x = y} q r) = x.none h y q
 
-  -- where no flow node is that has no properties
+  -- no flow node without properties begins at the offset
   pub leaf_lost : (MayLeaf t a p → Parses t e (ANode (n +ℤ pos 1) FlowOut p) None) → NoLeaf t e ws n a p
   leaf_lost f = ⊎_elim
       (λ (b : begins_properties (code t p) ≡ true). leaf_refuses (λ m. true≢false (sym b ∙ m.no_props)))

@@ -54,7 +54,7 @@ signless_there q f g = record {
   no_colon = λ {m} e y. g m (sym q ∙ e) (inr y);
 }
 
--- what is ahead of a node that is no key, unless the properties do not go together
+-- the state ahead of a node that is not a key, unless the properties don't go together
 pub leaf_ahead : {t : List ℕ} {p at : ℕ} {a : Ahead} {inner : Option PlacedProperties} {entry : Option TheEntry.Entry} {lead : Lead} (belonging : Belonging) → TextAfter t p inner at → BelongingTied t p at a inner entry lead belonging → (belonging ≡ ApartBelonging → ⊥)
     → LeafAhead t p at a inner entry lead
 leaf_ahead NoBelonging x s f = ahead_of_none x s
@@ -75,7 +75,7 @@ bar_alias : (c : ℕ) → (c ≡ 124) ⊎ (c ≡ 62) → begins_alias c ≡ fals
 unfolding begins_alias
 bar_alias c s = ⊎_elim (λ (e : c ≡ 124). rw e refl) (λ (e : c ≡ 62). rw e refl) s
 
--- nothing but a block scalar begins with its sign
+-- only a block scalar begins with its sign
 bar_lost : {t : List ℕ} {e at : ℕ} {n : ℤ} {inner : Option PlacedProperties} → ScalarSignAt t at → InlineLost t e n at inner
 bar_lost {t} {at = at} s = Answers.content_lost (λ h q y. bar_no_colon s y) (bar_alias (code t at) s) (plain_missing (bar_content (code t at) s) (no_plain (no_front (sign_no_first t FlowOut at (bar_is (code t at) s)))))
 
@@ -89,11 +89,11 @@ module _ {t : List ℕ} {d : ℕ} {root : BlockTask} {before part : Part} {frame
   bar_no_key : ScalarSignAt t b.at → NoKeyAt t start.room start.indentation a.content.cols b.node_start.at
   bar_no_key s = no_key_here a.text (lost_keyless utf8 a.text (bar_lost s))
 
-  -- a block scalar whose properties do not go together
+  -- a block scalar with properties that don't go together
   pub scalar_apart : (entry : Option TheEntry.Entry) (lead : Lead) (belonging : Belonging) → BelongingTied t b.node_start.at b.at start.ahead b.inner entry lead belonging → belonging ≡ ApartBelonging → ScalarSignAt t b.at → AtFailed t d root progress
   scalar_apart entry lead belonging s e y = apart_fails start a.content.signless a.text (bar_no_key y) (others_there belonging s e)
 
-  -- one that may be the node
+  -- a block scalar that may be the node
   pub scalar_there : {lead : Lead} (belonging : Belonging) → BelongingTied t b.node_start.at b.at start.ahead b.inner progress.wanted.entry lead belonging → (belonging ≡ ApartBelonging → ⊥) → ScalarSignAt t b.at
       → AtScalar t d root before frames lead progress.wanted.least b.at progress part
   scalar_there {lead} belonging s f y =
@@ -138,19 +138,19 @@ module _ {t : List ℕ} {d : ℕ} {root : BlockTask} {before old : Part} {frames
       → NoKeyAt t begins.room begins.indentation a.there.content.cols b.node_start.at
   no_key m f k = no_key_there begins a.there.content.signless (node_here begins.read.text.utf8 a.there.text a.read).1 a.there.content.column_is m f k
 
-  -- it is none, and the properties do not go together
+  -- the node is not a key, and its properties don't go together
   pub leaf_apart : {colon : ℕ} {w : List ℕ} → Many t is_white node.end colon w → is_white (code t colon) ≡ false → ((m : ℕ) → b.node_start.column ≡ Some m → KeyEnds t b.node_start.at colon → ⊥) → facts.belonging ≡ ApartBelonging
       → AtFailed t d root progress
   leaf_apart m f k e = apart_fails begins a.there.content.signless a.there.text (no_key m f k) (others_there facts.belonging a.belonging e)
 
-  -- or they do
+  -- the node is not a key, and its properties go together
   pub leaf_there : {colon : ℕ} {w : List ℕ} {plain : Option ℕ} {after : BlockCursor} → Many t is_white node.end colon w → is_white (code t colon) ≡ false → ((m : ℕ) → b.node_start.column ≡ Some m → KeyEnds t b.node_start.at colon → ⊥)
       → (facts.belonging ≡ ApartBelonging → ⊥) → (node.json ≡ true → plain ≡ None) → (node.json ≡ false → plain ≡ Some b.at) → after.last ≡ node.end → after.floor ≡ progress.floor → after.colons ≡ progress.colons
       → after.halt ≡ progress.halt → LeafEnding plain t d root before frames node.end after old
   leaf_there m f k e json plain_there last fl co ha =
       leaf_ending begins a.there.content.signless a.there.text a.no_scalar (no_key m f k) (leaf_ahead facts.belonging a.there.text a.belonging e) json plain_there last fl co ha a.read
 
-  -- its value is awaited, if its collections may be open
+  -- its value is awaited, if the limit allows its collections
   pub first_key_there : {column colon : ℕ} {w : List ℕ} → b.node_start.column ≡ Some column → Many t is_white node.end colon w → KeyEnds t b.node_start.at colon → node.deepest < d → depth < d
       → AtFirstKey t d root before frames depth b facts column colon progress earlier old
   first_key_there q m e x y = record { node = node; inline = a; column_is = q; whites = _; run = m; ends = e; within = x; open_there = y }

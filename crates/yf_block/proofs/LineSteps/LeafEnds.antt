@@ -1,4 +1,5 @@
--- The end of the line after a leaf: the leaf is read whole, or all breaks; and the last place at which all may end, as it is noted.
+-- The end of the line after a leaf: the leaf is read whole, or all nodes break; and the last offset noted at which
+-- all nodes may end.
 use Rattle.std.proofs.Common.{◌≡◌, ℕ, ℤ, pos, ◌+ℤ◌, true, false, List, [], ◌++◌, Option, Some, None, refl, sym, ap, ◌∙◌, subst, arith, append_assoc, append-nil}
 use Rattle.std.specs.Str.{IsUtf8}
 use Rattle.yf_chars.specs.declared.context.Ctx.TheVariants.{FlowOut}
@@ -44,7 +45,7 @@ use Rattle.yf_block.proofs.Ends.LineHalts.{colons_counted, outside_end, rounds_e
 use Rattle.yf_block.proofs.Stack.TiedLeads.{read_added, begins_comments, begins_escapes}
 use Rattle.yf_block.proofs.Stack.TiedReads.{read_as, read_moved}
 
--- the last place that is noted, where one was noted before
+-- the last offset noted, after an earlier one
 abbrev pub noted_end : Option ℕ → Option ParsedNode → Option ℕ
 noted_end old None = old
 noted_end old (Some f) = Some f.end
@@ -100,13 +101,13 @@ module _ {t : List ℕ} (u : IsUtf8 t) {e : ℕ} {ws : List ℕ} {n : ℤ} {a : 
   leaf_before (other_known b q) d (one_line l) = record { outcome = None; halted = halts_content_unended s m b r d; noted = refl }
   leaf_before (other_known b q) d no_plain = record { outcome = None; halted = halts_content_unended s m b r d; noted = refl }
 
--- the outermost node's last halt ends where it is noted
+-- the outermost node's last halt ends at the noted offset
 pub noted_round : (ls : List Layer) (cs : List CommentValue) (h o : Option ParsedNode) {old new : Option ℕ} → old ≡ halt_end h → new ≡ noted_end old o → new ≡ halt_end (made_or (λ g. rounds ls (as_after cs g)) h o)
 unfolding made_or
 noted_round ls cs h None e q = q ∙ e
 noted_round ls cs h (Some f) e q = q ∙ ap (λ (k : ℕ). Some k) (sym (rounds_end ls (as_after cs f)))
 
--- what is read with the comments after it
+-- a node with the comments after it
 noted_events : (x : Meaning) (z : Ahead) (ds : List CommentValue) → (headed z (noting x ds)).events ≡ (headed z x).events
 unfolding headed noting meaning_after with_props
 noted_events x Nothing ds = refl
@@ -176,7 +177,7 @@ module _ {t : List ℕ} {d : ℕ} {root : BlockTask} {before old : Part} {frames
   known : PlainIs t l.place l.answer.end plain
   known = subst (λ (z : ℕ). PlainIs t l.place z plain) (sym l.end) l.known
 
-  -- what is noted where the line ends
+  -- the offset noted when the line ends
   node_halt : {k : ℕ} {ds : List CommentValue} {new : Option ℕ} → Chosen (LineEnd t p) k ds → NodeNoted t plain p k frames progress.halt new → HaltNoted t l.room (asked l.layers) task progress.halt new
   node_halt {k} {ds} e n = go (subst (λ (z : ℕ). Chosen (LineEnd t z) k ds) (sym l.end) e) n where
     start : LineStart t l.answer.end → ⊥
@@ -219,7 +220,7 @@ module _ {t : List ℕ} {d : ℕ} {root : BlockTask} {before old : Part} {frames
         read = read_moved (leaf_told (all_written l.layers) (layers_entry l.layers) l.comments l.ahead l.answer.meaning ds l.read a b c) fl;
       }
 
-  -- the line goes on, and all breaks
+  -- the line goes on, and all nodes break
   pub leaf_breaks : {new : BlockCursor} → Stuck (LineEnd t p) → ShorterNoted t p progress.halt plain new.halt → AtFailed t d root new
   leaf_breaks {new} e r =
       let e' : Stuck (LineEnd t l.answer.end) = subst (λ (z : ℕ). Stuck (LineEnd t z)) (sym l.end) e in
@@ -227,7 +228,7 @@ module _ {t : List ℕ} {d : ℕ} {root : BlockTask} {before old : Part} {frames
       let h = leaf_before utf8 l.no_scalar l.may l.parsed known stuck (subst (λ (z : ℕ). ShorterNoted t z progress.halt plain new.halt) (sym l.end) r) in
       broken_fails (node_breaks l.node (leaf_unended l.no_scalar l.may l.parsed e') h.halted) (noted_round l.layers l.comments l.halt h.outcome l.stack.halted h.noted)
 
--- where no line begins within a node, nothing is noted of it
+-- if no line begins within a node, nothing is noted of it
 still_noted : {t : List ℕ} {p : ℕ} {old plain new : Option ℕ} → ((q : ℕ) → plain ≡ Some q → NoStart t q p) → ShorterNoted t p old plain new → new ≡ old
 still_noted n (shorter_noted {start = i} {p = k} l) = absurd (n i refl l.begins k l.later l.ended l.earlier)
 still_noted n (one_line l) = refl

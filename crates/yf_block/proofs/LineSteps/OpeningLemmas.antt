@@ -1,4 +1,4 @@
--- A collection of either kind, where no further one may be opened.
+-- A collection of either kind that may not be opened.
 use Rattle.std.proofs.Common.{ℕ, ◌+◌, ◌<◌, ◌≤◌, List, length}
 use Rattle.std.specs.Str.{IsUtf8}
 use Rattle.yf_events.specs.declared.part.Part.{Part}

@@ -1,4 +1,4 @@
--- The lines of a block scalar: how far they reach, and a walk over them.
+-- The lines of a block scalar: their number, and a walk over them.
 use Rattle.std.proofs.Common.{◌≡◌, ℕ, ℤ, ◌+◌, ◌-◌, ◌<◌, ◌≤◌, true, false, List, [], Option, length, refl, sym, ap, ◌∙◌, subst, arith, ⊎_elim, true≢false}
 use Rattle.std.proofs.lemmas.Bool.{cases_lt}
 use Rattle.std.specs.Str.{IsUtf8}
@@ -35,12 +35,12 @@ use Rattle.yf_block.specs.ScalarTied.{LinesLeft}
 use Rattle.yf_block.proofs.Ends.LineHalts.{break_outside, ended_outside, rest_outside, outside_end}
 use Rattle.yf_chars.proofs.CharFacts.{end_no_break}
 
--- so many lines, of one byte at least each
+-- each line has at least one byte
 lines_width : {t : List ℕ} {i j : ℕ} {ls : List Line} → Chain (OneLine t) i j ls → length ls + i ≤ j
 lines_width done = omega arith
 lines_width (step {x = x} {y = y} (one_line {l = l} s) c) = let r = lines_width c in let o = s.order in omega (arith, r, o)
 
--- how far a scalar reaches, by its sign, and how many lines it has in all
+-- the lines of a scalar by its sign, and all its lines
 pub record Reaching (t : List ℕ) (c : Chomp) (lines tail i j : ℕ) : Type 0 where
   pub end : ℕ
   pub between : LinesBetween t (reach c lines tail) i end
@@ -67,7 +67,7 @@ body_between {t} u {h = h} {i = i} (without_content {widths = widths} q c d b) w
     let all : LinesTo t i _ (0 + length widths) = record { lines = blanks.lines; chain = blanks.chain; counts = let e = blanks.counts in omega (arith, e) } in
     reaching h.chomp none all (lines_last all.chain w)
 
--- where lines end, a line begins or the text ends
+-- at the end of lines, a line begins or the text ends
 pub lines_blank : {t : List ℕ} {i j : ℕ} {ls : List Line} → Chain (OneLine t) i j ls → (i < length t → Blank t i) → j < length t → Blank t j
 lines_blank done f l = f l
 lines_blank {t} (step (one_line s) c) f l = lines_blank c (ended s.ends) l where
@@ -102,7 +102,7 @@ walk_over {t} {place} {e} w = sym (w.begins refl) ∙ none w.rest where
 break_not_past : {t : List ℕ} {i j : ℕ} → length t ≤ i → Break t i j → ⊥
 break_not_past {t} {i} l b = let z = code-past t i l in ⊎_elim (λ c. omega (arith, z, c)) (λ c. omega (arith, z, c)) (break_char b)
 
--- the line that the walk is in ends with the break that is there
+-- the line of the walk ends with the break at the offset
 line_break_there : {t : List ℕ} {l : Line} {place next : ℕ} → IsLine t l → NoBreakIn t l.start place → Break t place next → l.next ≡ next
 line_break_there {t} {l} {place} {next} s u b = go s.ends s.unbroken where
   go : {h k : ℕ} → LineEnd t h k → NoBreakIn t l.start h → k ≡ next
@@ -125,7 +125,7 @@ module _ {t : List ℕ} {left place e : ℕ} (w : LinesLeft t left place e) (som
     go (counted done q) u = absurd (omega (arith, q, some))
     go (counted (step {y = ls} (one_line {l = l} s) c) q) u = counted (subst (λ (z : ℕ). Chain (OneLine t) z e ls) (line_break_there s u b) c) (omega (arith, q))
 
-  -- where no break begins, no character of one is
+  -- if no break begins there, the character is not one of a break
   quiet : Nowhere (Break t place) → is_break_char (code t place) ≡ false
   quiet n = go w.rest w.line where
     ended : (l : Line) {h k : ℕ} → LineEnd t h k → NoBreakIn t l.start h → NoBreakIn t l.start place → l.start ≤ place → is_break_char (code t place) ≡ false
@@ -190,7 +190,7 @@ module _ {t : List ℕ} {left place e : ℕ} (w : LinesLeft t left place e) (som
           (cases_lt h place)
       past (at_end x) v c u = z ∙ sym x ∙ after x c
 
--- no break is parted where they end
+-- the end of lines is not within a break
 lines_outside : {t : List ℕ} {i j : ℕ} {ls : List Line} → Chain (OneLine t) i j ls → NotWithinBreak t i → NotWithinBreak t j
 lines_outside done n = n
 lines_outside {t} (step (one_line s) c) n = lines_outside c (ended s.ends) where
@@ -210,7 +210,7 @@ body_outside u w (indicated q a b) = trail_outside u b (lines_outside (taken_all
 body_outside u w (detected q d a b) = trail_outside u b (lines_outside (taken_all u a).chain (header_outside w))
 body_outside u w (without_content q c d b) = trail_outside u b (lines_outside (blanks_one c).chain (header_outside w))
 
--- a header is the longest one from its place
+-- a header is the longest one at its offset
 only_of : {t : List ℕ} {i j : ℕ} {d : Option ℕ} {c : Chomp} → Indicators t i j d c → is_white_or_end (code t j) ≡ true → Only t i j d c
 only_of neither s = only_neither (λ j d x. stop_digit x s) (λ j c x. stop_sign x s)
 only_of (digit_alone x) s = only_digit x (λ j c y. stop_sign y s)

@@ -1,4 +1,5 @@
--- A block scalar where a node is awaited on a line: it is read whole, with its event; or none is there, and all breaks.
+-- A block scalar as the node awaited on a line: it is read whole, with its event; or none begins there, and all nodes
+-- break.
 use Rattle.std.proofs.Common.{◌≡◌, ℕ, ℤ, pos, ◌+ℤ◌, ◌+◌, ◌^◌, ◌<◌, ◌≤◌, Bool, true, false, List, [], ◌∷◌, ◌++◌, length, Option, Some, None, refl, sym, ap, ◌∙◌, subst, arith, append_assoc, append-nil, ◌⊎◌, ⊎_elim, true≢false}
 use Rattle.std.specs.Str.{IsUtf8}
 use Rattle.yf_chars.specs.Chain.{Stuck, Chosen}
@@ -106,7 +107,7 @@ scalar_placed lead block finish {style} {text} {folded} a b c =
     ∙ ap (λ z. record { event = scalar_node (props_value lead.props) (style_of block.header.folded) z; span = Some (record { start = lead.start; end = finish }); tag_offset = lead.tag_offset; entry = lead.entry; folded = folded }) b
     ∙ ap (λ z. record { event = scalar_node (props_value lead.props) (style_of block.header.folded) (content_of block.header block.lines block.tail block.open_end); span = Some (record { start = lead.start; end = finish }); tag_offset = lead.tag_offset; entry = lead.entry; folded = z }) c
 
--- the floor is where it ends
+-- the floor is the scalar's end
 scalar_floor : (floor : ℕ) (event : EventInText) (props : PropsValue) (folded : Bool) (text : List ℕ) (start e : ℕ) → event.span ≡ from_to start e → floor_after_event floor event (scalar_node props (style_of folded) text) ≡ e
 unfolding from_to
 scalar_floor floor event props true text start e q = ap (λ s. end_or floor s) q
@@ -129,7 +130,7 @@ scalar_noting {t} {floor} start props tag h b e x (entry_begins {i = i} {b = k} 
     subst (λ z. Noting t floor (entering i None (record { events = z; comments = []; escapes = []; finish = 0 })).events (scalar_by start props tag (Some (record { start = i; colon = None; blank_before = k })) h b e ∷ [])) (sym q)
     (with_entry (record { start = i; colon = None; blank_before = false }) refl n no_event)
 
--- so much more, with the floor where it is then
+-- a meaning is added, and the floor moves
 module _ {t : List ℕ} {before : Part} {w : Meaning} {progress : BlockCursor} {old : Part} (r : ReadTied t before w progress old) where
   read_floor : {after : BlockCursor} {new : Part} {y : Meaning} (es fs : List EventInText) (ds : List CommentValue) → Noting t progress.floor es fs → after.floor ≡ floor_after progress.floor es
       → (after.floor < length t → Blank t after.floor) → new.events ≡ old.events ++ fs → new.comments ≡ old.comments ++ ds → new.escapes ≡ old.escapes
@@ -174,7 +175,7 @@ module _ {t : List ℕ} {d : ℕ} {root : BlockTask} {before old : Part} {frames
   pub to : Reaching t a.head.header.chomp (length block.lines) block.tail at (length t)
   to = body_between utf8 a.lines.derived inside
 
-  -- where it ends
+  -- the scalar's end
   pub scalar_ends : LinesBetween t (reach block.header.chomp (length block.lines) block.tail) at to.end
   scalar_ends = subst (λ (h : Header). LinesBetween t (reach h.chomp (length block.lines) block.tail) at to.end) (sym a.header_is) to.between
 
@@ -283,7 +284,7 @@ pub bar_plain : (c : ℕ) → (c ≡ 124) ⊎ (c ≡ 62) → begins_plain c ≡ 
 unfolding begins_plain begins_alias begins_properties begins_content
 bar_plain c s = ⊎_elim (λ (e : c ≡ 124). rw e refl) (λ (e : c ≡ 62). rw e refl) s
 
--- no block scalar is there
+-- no block scalar begins there
 module _ {t : List ℕ} {d : ℕ} {root : BlockTask} {before old : Part} {frames : List Frame} {lead : Lead} {least p : ℕ} {progress : BlockCursor} (a : AtScalar t d root before frames lead least p progress old) where
   bare : Parses t a.room (ANode (a.indentation +ℤ pos 1) FlowOut p) None
   bare = plain_missed (bar_plain (code t p) a.sign) (record { none = λ j x d. true≢false (sym (plain_leaps d.text).0 ∙ sign_no_first t FlowOut p (bar_is (code t p) a.sign)) })

@@ -1,4 +1,4 @@
--- The openers that are ahead while block collections are read.
+-- The openers ahead while block collections are read.
 use Rattle.std.proofs.Common.{◌≡◌, ℕ, max, ◌+◌, ◌<◌, ◌≤◌, List, [], ◌∷◌, ◌++◌, length, Option, Some, None, inl, inr, sym, ap, subst, arith}
 use Rattle.std.proofs.lemmas.List.{length-append}
 use Rattle.std.specs.Str.{IsUtf8}
@@ -29,7 +29,7 @@ module _ (t : List ℕ) (count total : ℕ) where
   sign_passed i u (inl s) q = let k = question_opens i u s.sign_is_at in omega arith
   sign_passed i u (inr s) q = let k = colon_opens i u s.sign_is_at in omega arith
 
-  -- it is where no further collection may be opened
+  -- a sign has been passed, and no further collection may be opened
   pub dash_full : (limit i : ℕ) → IsUtf8 t → DashAt t i → limit ≤ count → count + openers_from t i ≤ total → limit < total
   dash_full limit i u d l q = let o = dash_passed i u d q in omega arith
 
@@ -59,7 +59,7 @@ pushed_counted t limit total p s new old f e k q =
 pub within_counted : (t : List ℕ) (total i j : ℕ) (new old : List Frame) (f : Frame) → new ≡ old ++ f ∷ [] → j ≡ i → length old + 1 + openers_from t i ≤ total → length new + openers_from t j ≤ total
 within_counted t total i j new old f k e q = subst (λ (z : ℕ). length new + openers_from t z ≤ total) (sym e) (let n = length-append old (f ∷ []) in let m = ap (λ z. length z) k in omega arith)
 
--- what is after properties is after their start
+-- the text after properties is after their start
 pub held_later : (t : List ℕ) (start at : ℕ) (inner : Option PlacedProperties) → PropertiesTo t start at inner → start < earliest_end at inner
 held_later t start at None e = omega arith
 held_later t start at (Some h) q = let l = q.0.order in omega arith
@@ -72,7 +72,7 @@ pub held_after : (t : List ℕ) (start at : ℕ) (inner : Option PlacedPropertie
 held_after t start at None e = omega arith
 held_after t start at (Some h) q = let l = q.0.order in let k = q.1 in omega arith
 
--- where a collection has been taken off the stack
+-- a collection has been taken off the stack
 pub popped_counted : (t : List ℕ) (total few many i j : ℕ) → few < many → i ≤ j → many + openers_from t i ≤ total → few + 1 + openers_from t j ≤ total
 popped_counted t total few many i j k l q = let o = openers_later t i j l in omega arith
 
@@ -82,7 +82,7 @@ outer_counted t total few many i j k l q = let o = openers_later t i j l in omeg
 pub fewer_left : (all rest : List Frame) (f : Frame) (n : ℕ) → all ≡ rest ++ f ∷ [] → length all ≤ n → length rest < n
 fewer_left all rest f n e l = let k = length-append rest (f ∷ []) in let m = ap (λ z. length z) e in omega arith
 
--- a key before its `:`, where no further collection may be opened
+-- a key before its `:`, if no further collection may be opened
 pub key_full : (t : List ℕ) (limit total count deepest i j k : ℕ) → IsUtf8 t → SignAt t 58 k → i ≤ k → j ≤ k → deepest + openers_from t j ≤ total → count + openers_from t i ≤ total
     → limit ≤ max deepest count → limit < total
 key_full t limit total count deepest i j k u s l m z q f =

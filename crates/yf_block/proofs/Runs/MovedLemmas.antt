@@ -1,4 +1,4 @@
--- What a step leaves to be done: of the steps that it answers, and seen from an earlier offset.
+-- The work that a step leaves: for the steps it returns, and as seen from an earlier offset.
 use Rattle.std.proofs.Common.{ℕ, ◌+◌, ◌-◌, ◌*◌, ◌<◌, ◌≤◌, Bool, List, length, Option, Result, Ok, Err, IfOk, sym, subst, arith}
 use Rattle.std.specs.List.{All}
 use Rattle.std.specs.Str.{IsCharBoundary}
@@ -52,7 +52,7 @@ ready_later t at place (Done p) l r = r
 ready_later t at place (Failed p) l r = r
 ready_later t at place (TooDeep p) l r = r
 
--- what a step answers from a place on, seen from one before it
+-- the work left after a step at an offset, as seen from an earlier one
 pub moved_later : {E : Type 0} {at place more less : ℕ} (t : List ℕ) (r : BlockReader) (result : Result Step E) → at ≤ place → less ≤ more → IfOk result (IsLess t place less r)
     → IfOk result (IsLess t at more r)
 moved_later {E} {at} {place} t r (Ok s) l k m = record {
@@ -63,7 +63,7 @@ moved_later {E} {at} {place} t r (Ok s) l k m = record {
 }
 moved_later t r (Err e) l k m = tt
 
--- and from one before a character that was passed
+-- and as seen from before a passed character
 pub moved_past : {E : Type 0} {at place less : ℕ} (t : List ℕ) (r : BlockReader) (more : ℕ) (result : Result Step E) → at < place → place ≤ length t → less ≤ more + 3
     → IfOk result (IsLess t place less r) → IfOk result (IsLess t at more r)
 moved_past {E} {at} {place} t r more (Ok s) l w k m = record {

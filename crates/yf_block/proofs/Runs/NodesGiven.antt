@@ -1,4 +1,4 @@
--- What the reader of block nodes answers, from what a run of it gives.
+-- The results of the reader of block nodes, from those of a run.
 use Rattle.std.proofs.Common.{◌≡◌, ℕ, ◌<◌, ◌≤◌, ◌^◌, ℤ, pos, ◌+ℤ◌, ◌≤ℤ◌, true, false, List, [], ◌++◌, length, take, Option, Some, None, refl, sym, ap, ◌∙◌, subst, true≢false, arith}
 use Rattle.std.proofs.lemmas.Int.{ints}
 use Rattle.std.proofs.lemmas.Option.{same_Some}
@@ -90,7 +90,7 @@ module _ {t : List ℕ} {d at : ℕ} {n : ℤ} {c : Ctx} (u : IsUtf8 t) (block :
   pub halt_moves : {end : ℕ} → HaltAt t d (Awaited false n c Nothing at) end → at < end
   halt_moves {end} h = subst (λ z. at < z) h.ends (last_moves u block (wide_of least is) h.halts)
 
-  -- a run that ended without the node's end went wrong
+  -- a run that stopped before the node's end went wrong
   done_ends : {before part : Part} {p : ℕ} {r : Stopped} → RunDone t d (Awaited false n c Nothing at) before p r part → r.halt ≡ Some p
   done_ends a = let l = whole_ends_last u block (wide_of least is) a.whole a.halts in a.halted ∙ ap (λ z. halt_end z) l.is ∙ ap (λ (z : ℕ). Some z) (l.end ∙ a.end)
 
@@ -171,7 +171,7 @@ module _ {t : List ℕ} {d at : ℕ} {n : ℤ} {c : Ctx} (u : IsUtf8 t) (block :
         subst (λ z. RunDone (take z t) d (Awaited false n c Nothing at) start z run read → NodeGiven t d n c at z run.floor start read) h.ends (given_there h.halts)
         (subst (λ z. RunDone z d (Awaited false n c Nothing at) start end run read) same (subst (λ z. StopGives s d (Awaited false n c Nothing at) start z run read) e a.gives))
 
--- the same after another part
+-- the node after another part
 pub given_after : {t : List ℕ} {limit : ℕ} {n : ℤ} {c : Ctx} {at end floor : ℕ} {start read old new : Part} → start.events ≡ [] → start.comments ≡ [] → start.escapes ≡ []
     → new.events ≡ old.events ++ read.events → new.comments ≡ old.comments ++ read.comments → new.escapes ≡ old.escapes ++ read.escapes
     → NodeGiven t limit n c at end floor start read → NodeGiven t limit n c at end floor old new
@@ -186,7 +186,7 @@ given_after {old = old} e f g x y z q = record {
   floor_is = q.floor_is;
 }
 
--- the same over a part that is cut back to nothing
+-- the node over a part that is cut back to nothing
 pub given_over : {t : List ℕ} {limit : ℕ} {n : ℤ} {c : Ctx} {at end floor : ℕ} {old start new : Part} → old.events ≡ start.events → old.comments ≡ start.comments → old.escapes ≡ start.escapes
     → NodeGiven t limit n c at end floor old new → NodeGiven t limit n c at end floor start new
 given_over e f g q = record {
@@ -203,7 +203,7 @@ given_over e f g q = record {
 pub cut_to_nothing : {A : Type 0} (k : ℕ) (xs ys zs : List A) → k ≡ length ys → ys ≡ [] → zs ≡ take k xs → zs ≡ ys
 cut_to_nothing k xs ys zs e f g = g ∙ ap (λ (z : ℕ). take z xs) (e ∙ ap (λ z. length z) f) ∙ sym f
 
--- what the reader answers where it found a node, and the prefix up to it was read again
+-- the result after a node was found and its prefix was read again
 pub found_again : {t : List ℕ} {d at : ℕ} {n : ℤ} {c : Ctx} {start cut part : Part} {f : FoundNode} → f.whole ≡ false → TextIsLeft t d (Awaited false n c Nothing at)
     → (f.too_deep ≡ true → d < openers_from t at)
     → (start.events ≡ [] → cut.events ≡ start.events) → (start.comments ≡ [] → cut.comments ≡ start.comments) → (start.escapes ≡ [] → cut.escapes ≡ start.escapes)
@@ -215,7 +215,7 @@ found_again e z o a b g q = record {
   alone = λ x y w. given_over (a x) (b y) (g w) q;
 }
 
--- a part that had nothing before is the node
+-- a part that was empty is the node
 pub node_alone : {t : List ℕ} {limit : ℕ} {n : ℤ} {c : Ctx} {at end floor : ℕ} {start part : Part} → start.events ≡ [] → start.comments ≡ [] → start.escapes ≡ []
     → NodeGiven t limit n c at end floor start part → Chosen (BlockNodePart t limit n c at) end part
 node_alone {t} {limit} {n} {c} {at} {end} {start = start} {part = part} e f g q =

@@ -1,4 +1,4 @@
--- A run of the reader of block nodes, from what holds where it stops.
+-- A run of the reader of block nodes, from the state in which it stops.
 use Rattle.std.proofs.Common.{◌≡◌, ℕ, ◌<◌, ℤ, true, List, sym, ◌∙◌, subst, true≢false, arith}
 use Rattle.yf_chars.specs.declared.context.Ctx.{Ctx}
 use Rattle.yf_events.specs.declared.part.Part.{Part}
@@ -30,14 +30,14 @@ module _ (t : List ℕ) (d : ℕ) (root : BlockTask) (before part : Part) (progr
   stop_gives (Failed p) e f a = record { halt = a.halt; unfinished = a.unfinished; halts = a.halts; halted = e ∙ a.halted }
   stop_gives (TooDeep p) e f a = record { halt = a.halt; unfinished = a.unfinished; halts = a.halts; halted = e ∙ a.halted }
 
--- what is told where no node ends, and the boundary of its place
+-- the outcome if no node ends, and the boundary of its offset
 pub none_outcome : {t : List ℕ} {limit : ℕ} {n : ℤ} {c : Ctx} {at : ℕ} (before part : Part) (s : Stop) (o : BlockOutcome) → StopsAs s o → NoneTied t limit n c at
     → StopCounted limit (openers_from t at) s → OutcomeTied t limit n c at before o part
 none_outcome {t} {limit} {n} {c} {at} before part (Done p) o e a q = subst (λ z. OutcomeTied t limit n c at before z part) (sym e) a
 none_outcome {t} {limit} {n} {c} {at} before part (Failed p) o e a q = subst (λ z. OutcomeTied t limit n c at before z part) (sym e) a
 none_outcome {t} {limit} {n} {c} {at} before part (TooDeep p) o e a q = subst (λ z. OutcomeTied t limit n c at before z part) (sym e) (a, q)
 
--- the limit is passed only where so many openers are
+-- the limit is only passed with more openers than it
 pub deep_stop : {limit total : ℕ} (s : Stop) → StopCounted limit total s → is_too_deep s ≡ true → limit < total
 deep_stop (Done p) q e = absurd (true≢false (sym e))
 deep_stop (Failed p) q e = absurd (true≢false (sym e))

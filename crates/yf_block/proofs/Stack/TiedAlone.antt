@@ -1,4 +1,5 @@
--- At the start of a line a node is awaited: where what is ahead of it may be alone, as it is noted, and what is read where it is.
+-- A node is awaited at the start of a line: the noted offset at which its properties may be all of it, and the node
+-- if they are.
 use Rattle.std.proofs.Common.{◌≡◌, ℕ, false, List, [], ◌∷◌, ◌++◌, length, Option, Some, None, refl, sym, ap, ◌∙◌, subst, arith, append-nil, reverse}
 use Rattle.std.proofs.lemmas.List.{length-reverse}
 use Rattle.yf_chars.specs.Chain.{Stuck, Chosen}
@@ -40,7 +41,7 @@ use Rattle.yf_block.proofs.Stack.TiedFailed.{broken_fails}
 use Rattle.yf_block.proofs.Stack.TiedLeads.{first_noted, first_floor, begins_events, begins_comments, begins_escapes}
 use Rattle.yf_block.proofs.Stack.TiedReads.{read_events, read_moved}
 
--- what is ahead, and the reader's properties for it
+-- the state ahead, and the reader's properties for it
 pub no_outer : {a : Ahead} {o : Option PlacedProperties} → AheadTied a o → a ≡ Nothing → o ≡ None
 no_outer nothing_held e = refl
 no_outer none_held e = refl
@@ -59,7 +60,7 @@ outer_unheld nothing_held e n = refl
 outer_unheld (none_held {i = i}) e n = absurd (n i refl)
 outer_unheld (props_held h) e n = absurd (cc)
 
--- alone it is a node that ends with the comments after it
+-- what is ahead is the whole node, which ends with the comments after it
 pub record IsAlone (a : Ahead) (k : ℕ) (ds : List CommentValue) : Type 0 where
   pub answer : ParsedNode
   pub is : alone a k ds ≡ Some answer
@@ -156,7 +157,7 @@ module _ {t : List ℕ} {d : ℕ} {root : BlockTask} {before : Part} {frames : L
     read = read_moved a.read refl;
   })
 
-  -- whether something is ahead is known
+  -- whether something is ahead is decided
   ahead_or : {X : Type 0} → (x : Ahead) → (x ≡ Nothing → X) → ((x ≡ Nothing → ⊥) → X) → X
   ahead_or Nothing f g = f refl
   ahead_or (Indicator i) f g = g (λ e. cc)
@@ -169,7 +170,7 @@ module _ {t : List ℕ} {d : ℕ} {root : BlockTask} {before : Part} {frames : L
       (λ b. with_noted e (root_alone b (o (bare_outermost b))))
       (λ b. with_noted e (noted_alone b (n (λ y. b (outermost_bare y)) outside_line (colons_counted a.stack))))
 
--- a node of one event is added to what was read, with the comments that were read before
+-- a node of one event is added to the events, with the comments read before it
 module _ {t : List ℕ} {before : Part} (w : Meaning) {cs : List CommentValue} {progress : BlockCursor} {old : Part} (r : ReadTied t before (w ⊕ only cs 0) progress old) where
   pub one_added : {o : Option ℕ} {entry : Option TheEntry.Entry} (m : Meaning) {new : Part} (e : EventInText) → EntryTied t progress.floor o entry → m.events ≡ e ∷ [] → e.entry ≡ None → is_lined e.event ≡ false
       → m.comments ≡ cs → m.escapes ≡ [] → new.events ≡ old.events ++ record e { entry = entry } ∷ [] → new.comments ≡ old.comments → new.escapes ≡ old.escapes
@@ -185,7 +186,7 @@ module _ {t : List ℕ} {before : Part} (w : Meaning) {cs : List CommentValue} {
       (ap (λ v. w.comments ++ v) (sym (begins_comments o m ∙ c)))
       (ap (λ v. w.escapes ++ v) (sym (begins_escapes o m ∙ s)))
 
--- the event of a node that has its properties alone
+-- the event of a node that has only its properties
 held_event : {h : HeldValue} {held : PlacedProperties} (entry : Option TheEntry.Entry) → PropertiesTied h held → leaf_event (held_lead held entry) Plain [] held.end
     ≡ record { event = scalar_node h.value.props Plain []; span = Some (record { start = h.start; end = h.end }); tag_offset = h.value.tag_offset; entry = entry; folded = [] }
 held_event {h} {held} entry v =
@@ -208,13 +209,13 @@ module _ {t : List ℕ} {d : ℕ} {root : BlockTask} {before : Part} {frames : L
       let w : Whole t a.room (Below a.indentation a.context a.ahead old.from) (Some f.answer) = subst (λ o. Whole t a.room (Below a.indentation a.context a.ahead old.from) o) f.is whole in
       subst (λ (k : ℕ). NodeRead t d root a.layers a.room (as_after a.comments f.answer) k (halt_with a.layers a.comments a.halt a.last_alone)) f.end (node_was_read a.node w halts)
 
-  -- at the root there is none
+  -- at the root there is no node
   pub root_fails : a.ahead ≡ Nothing → AtFailed t d root old
   root_fails e =
       let w : Whole t a.room (Below a.indentation a.context a.ahead old.from) None = subst (λ o. Whole t a.room (Below a.indentation a.context a.ahead old.from) o) (alone_none a.ahead p a.told e) whole in
       broken_fails (node_breaks a.node w halts) a.stack.halted
 
-  -- where no line is there, all collections end with it
+  -- if no line of a node begins there, all collections end with it
   pub wanting_line : (LinesEnd t p → ⊥) → ((m q : ℕ) → LineText t p m q → ⊥) → AtFailed t d root old
   wanting_line g n = go a.ahead refl where
     ended : (a.ahead ≡ Nothing → ⊥) → AtFailed t d root old

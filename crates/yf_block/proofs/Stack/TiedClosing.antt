@@ -1,4 +1,4 @@
--- A collection that ends is a node of the entry round it, or the outermost one; what is written at its end.
+-- A collection that ends is a node of the entry around it, or the outermost one; and the events at its end.
 use Rattle.std.proofs.Common.{◌≡◌, ℕ, Bool, true, false, List, [], ◌∷◌, ◌++◌, length, Option, Some, None, refl, sym, ap, ◌∙◌, subst, append_assoc, append-nil, true≢false}
 use Rattle.yf_comments.specs.Comment.{CommentValue}
 use Rattle.yf_events.specs.Event.{EventInText}
@@ -41,7 +41,7 @@ pub begun_keeps : (j : ℕ) (l : Layer) (o : Option ℕ) → Keeps (ended j) (be
 begun_keeps j l o floor =
     begun_floor floor l.sequence (ahead_props l.ahead) (ended j (begun_event l (entry_at o))) ∙ sym (begun_floor floor l.sequence (ahead_props l.ahead) (begun_event l (entry_at o)))
 
--- the present entry with the node that is awaited in it, and an empty value where its `:` is awaited
+-- the present entry with its awaited node, and an empty value if it awaits its `:`
 pub stage_events : (s : Stage) (f : ParsedNode) → ((stage_written s).events ++ (begins (stage_entry s) f.meaning).events) ++ value_missing (asks s) ≡ (entry_made s f).meaning.events
 unfolding only entering empty_node ◌⊕◌ plain_event
 stage_events (AtItem i) f = append-nil (entering i None f.meaning).events
@@ -70,7 +70,7 @@ stage_finish (AtKey i) f = refl
 stage_finish (AtLoneValue i) f = refl
 stage_finish (AtValue i k g) f = refl
 
--- the collection that is made of entries
+-- the collection made of entries
 abbrev made : Option ℕ → List CommentValue → Ahead → Bool → ℕ → ℕ → Meaning → Meaning
 made o cs a s p j x = begins o (meaning_after cs (headed a (collection s false p j x)))
 
@@ -123,7 +123,7 @@ made_finish cs Nothing s p j x = refl
 made_finish cs (Indicator i) s p j x = refl
 made_finish cs (Props h) s p j x = refl
 
--- lists that are joined otherwise
+-- lists joined in another way
 regrouped_events : (w k s i v z g : List EventInText) (e : EventInText) → (s ++ i) ++ v ≡ g → ((((w ++ e ∷ []) ++ k) ++ s) ++ i) ++ (v ++ z) ≡ w ++ e ∷ ((k ++ g) ++ z)
 regrouped_events w k s i v z g e q =
     append_assoc (((w ++ e ∷ []) ++ k) ++ s) i (v ++ z) ∙ append_assoc ((w ++ e ∷ []) ++ k) s (i ++ (v ++ z)) ∙ append_assoc (w ++ e ∷ []) k (s ++ (i ++ (v ++ z)))

@@ -9,7 +9,7 @@ use Rattle.yf_grammar.specs.BlockReader.BlockParser.{Compact, compact_columns, n
 use Rattle.yf_block.specs.ColumnsTied.{same_columns}
 use Rattle.yf_lines.proofs.BasicLemmas.{white_of_space}
 
--- other white space is between
+-- only white space is between
 spaces_reach : {t : List ℕ} {at place s : ℕ} → at ≤ place → at ≤ s → Spaces t at (s - at) → code t s ≢ 32 → Spaces t at (place - at) → is_white (code t place) ≡ false → s ≡ place
 spaces_reach {t} {at} {place} {s} l k y f z w = ⊎_elim
     (λ (o : s < place).

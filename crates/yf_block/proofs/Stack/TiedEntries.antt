@@ -1,4 +1,5 @@
--- A further entry of a collection follows the one that was read, or the `:` of an entry with a `?`; or a deeper line breaks all.
+-- A further entry of a collection follows the one that was read, or the `:` of an entry with a `?`; or a deeper line
+-- breaks all nodes.
 use Rattle.std.proofs.Common.{◌≡◌, ℕ, ℤ, ◌+◌, ◌-◌, ◌<◌, ◌≤◌, Bool, true, false, List, [], ◌∷◌, ◌++◌, length, refl, sym, ap, ◌∙◌, subst, arith, append_assoc, append-nil, true≢false, ⊎_elim}
 use Rattle.std.proofs.lemmas.Bool.{cases_lt}
 use Rattle.yf_chars.specs.Text.{code}
@@ -34,7 +35,7 @@ use Rattle.yf_block.proofs.Stack.TiedReads.{joined_lists, read_events}
 deep_no_colon : {t : List ℕ} {m at : ℕ} → DeeperLine t m at → ColonLine t m at → ⊥
 deep_no_colon {m = m} {at} d c = let e = (line_unique d.line (colon_line c)).0 in let l = d.deep in omega (arith, e, l)
 
--- a line goes on where its content is
+-- a line goes on at its content
 line_there : {t : List ℕ} {p k m q : ℕ} → p ≤ length t → LineText t k m q → p ≡ k + m → p < length t
 line_there {t} {p = p} {k} {m} {q} l y s = ⊎_elim
     (λ (e : p < length t). e)
@@ -45,7 +46,7 @@ line_there {t} {p = p} {k} {m} {q} l y s = ⊎_elim
     absurd (y.content.no_end q (by_end (same ∙ here))))
     (cases_lt p (length t))
 
--- after spaces no break of two characters is parted
+-- the offset after spaces is not within a break
 outside_line : {t : List ℕ} {k m p : ℕ} → NotWithinBreak t k → Spaces t k m → p ≡ k + m → NotWithinBreak t p
 outside_line {t} {k} {m} {p} n y e = ⊎_elim
     (λ (l : 0 < m).
@@ -123,7 +124,7 @@ module _ {t : List ℕ} {d : ℕ} {root : BlockTask} {before : Part} {at : ℕ} 
     not_asked true s = absurd (sequence_there (s refl))
     not_asked false s = refl
 
-  -- after an entry without a `?`, or where its `:` does not follow
+  -- after an entry without a `?`, or if its `:` does not follow
   pub pair_follows_top : {p : ℕ} {new : Part} → p ≤ length t → PairLine t at f p → (f.awaits_colon ≡ true → SignAt t 58 p → ⊥) → new.events ≡ old.events ++ value_missing f.awaits_colon
       → new.comments ≡ old.comments → new.escapes ≡ old.escapes → AtEntry t d root before frames f p progress new
   pair_follows_top {p} within i n x y z =

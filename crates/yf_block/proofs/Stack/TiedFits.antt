@@ -1,4 +1,4 @@
--- What a line is to a frame, it is to the collection that the frame stands for.
+-- The relation of a line to a frame is its relation to the frame's collection.
 use Rattle.std.proofs.Common.{◌≡◌, ℕ, ◌+◌, ◌<◌, Bool, true, false, List, ⊎_elim, refl, sym, ap, ◌∙◌, subst, true≢false}
 use Rattle.std.proofs.lemmas.Bool.{cases_Bool}
 use Rattle.yf_grammar.specs.BlockReader.BlockParser.{DashAt, LineText, NextEntry, DeeperLine}

@@ -1,4 +1,4 @@
--- Which `:` the frames await is what the collections ask for: so it is known whether all may end at a line.
+-- The frames await the `:` that the collections ask for. This decides whether all nodes may end at a line.
 use Rattle.std.proofs.Common.{◌≡◌, ℕ, ◌≤◌, Bool, true, false, List, refl, sym, ◌∙◌, subst, arith, true≢false}
 use Rattle.yf_grammar.specs.Productions.Grammar.{ColonLine}
 use Rattle.yf_grammar.specs.BlockReader.Halts.{NoColonAt, none_open, one_open}
@@ -8,7 +8,7 @@ use Rattle.yf_block.specs.declared.frame.Frame.{Frame}
 use Rattle.yf_block.specs.AwaitedColons.{AwaitsAt, awaits_here, awaits_round}
 use Rattle.yf_block.specs.BlockTied.{FramesTied, no_frames, frame_tied}
 
--- a column at which a `:` is awaited is one of the collections' columns
+-- a column that awaits a `:` is one of the collections' columns
 awaited_within : {n : ℕ} {m k : ℕ} {fs : List Frame} {ls : List Layer} → FramesTied n fs ls → AllWithin m ls → AwaitsAt k fs → k ≤ m
 awaited_within no_frames b a = elim a [ ]
 awaited_within (frame_tied f r) (one_within l a) (awaits_here e y) = let c = f.collection.column in omega (arith, c, e, l)
@@ -26,7 +26,7 @@ allowed_there {t} {j} (frame_tied {l = l} f r) (one_deepens a d) n = allowed_if 
     (λ e c. n l.column c (awaits_here f.collection.column (f.awaits ∙ e)))
     (allowed_there r d (λ m c y. n m c (awaits_round (let b = awaited_within r a y in let q = f.collection.column in omega (arith, b, q)) y)))
 
--- one is there, so they may not
+-- an awaited `:` is on the line, so they may not
 refused_if : {t : List ℕ} {j : ℕ} {ws : List ℕ} (b : Bool) (w : ℕ) → NoColonAt t j (column_if b w ws) → NoColonAt t j ws
 refused_if true w (one_open n a) = a
 refused_if false w a = a

@@ -1,4 +1,5 @@
--- A node that is awaited at the start of a line begins on that line: its first character, and the columns at which it may be a collection.
+-- A node awaited at the start of a line begins on that line: its first character, and the columns at which it may be
+-- a collection.
 use Rattle.std.proofs.Common.{◌≡◌, ◌≢◌, ℕ, ◌+◌, ◌-◌, ◌<◌, ◌≤◌, ℤ, pos, ◌+ℤ◌, ◌≤ℤ◌, true, false, List, [], ◌++◌, length, Option, Some, None, MatchOption, refl, sym, ap, ◌∙◌, subst, arith, append-nil, Bool, ◌⊎◌, inl, inr, ⊎_elim}
 use Rattle.std.proofs.lemmas.Bool.{cases_lt, cases_eq}
 use Rattle.std.proofs.lemmas.Int.{ints}
@@ -38,7 +39,7 @@ use Rattle.yf_block.specs.LineStepTied.{halt_with, AtAlone, AtIndented}
 use Rattle.yf_block.proofs.Ends.LineHalts.{chosen_still}
 use Rattle.yf_block.proofs.Stack.TiedReads.{read_as}
 
--- comments before the node are those of its properties, if it has any
+-- comments before the node belong to its properties, if it has any
 past_tied : {a : Ahead} {o : Option PlacedProperties} (es : List CommentValue) → AheadTied a o → AheadTied (past a es) o
 unfolding past with_comments
 past_tied es nothing_held = nothing_held
@@ -67,7 +68,7 @@ same_comments : (ls : List Layer) {cs ds : List CommentValue} → cs ≡ ds → 
 unfolding ◌⊕◌ only
 same_comments ls e = record { events = refl; comments = ap (λ z. (all_written ls).comments ++ z) e; escapes = refl }
 
--- a column that is there
+-- a column that is present
 pub record ColumnIs (k m p : ℕ) (least : ℤ) (column : ℕ) : Type 0 where
   pub is : column ≡ m
   pub place : p ≡ k + m
@@ -181,7 +182,7 @@ module _ {t : List ℕ} {d : ℕ} {root : BlockTask} {before : Part} {frames : L
         i.undashed (subst (λ (k : ℕ). DashAt t k) here y) (subst (λ (k : ℕ). least_column true a.indentation a.context ≤ℤ pos k) c h)
 
   module _ {place : ℕ} {w : List ℕ} (run : Many t is_white start place w) (no_white : is_white (code t place) ≡ false) where
-    -- at the end of the text, or before a comment, no line is
+    -- no line of a node begins at the end of the text or before a comment
     pub text_over : place ≡ length t → (m q : ℕ) → LineText t p m q → ⊥
     text_over e m q x = x.content.no_end q (by_end (first_of i.order i.spaces i.no_space run no_white x ∙ e))
 
@@ -191,7 +192,7 @@ module _ {t : List ℕ} {d : ℕ} {root : BlockTask} {before : Part} {frames : L
     here : p + (start - p) ≡ start
     here = let o = i.order in omega (arith, o)
 
-    -- else one is there
+    -- otherwise a line of a node begins there
     row_there : {j : ℕ} → BreakOrEnd t place j → place ≢ length t → ⊥
     row_there (by_end e) n = n e
     row_there {j} (by_break b) n =

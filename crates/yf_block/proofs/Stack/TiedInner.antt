@@ -1,4 +1,4 @@
--- A node that is awaited after an indicator: the line ends there, or white space is before the node, or nothing is.
+-- A node awaited after an indicator: the line ends there, white space is before the node, or nothing is.
 use Rattle.std.proofs.Common.{◌≡◌, ◌≢◌, ℕ, zero, suc, ◌+◌, ◌-◌, ◌<◌, ◌≤◌, ℤ, pos, ◌≤ℤ◌, Bool, true, false, List, Option, Some, refl, sym, subst, arith, true≢false, ◌⊎◌, inl, inr, ⊎_elim}
 use Rattle.std.proofs.lemmas.Bool.{cases_lt, cases_eq, cases_Bool}
 use Rattle.std.proofs.lemmas.Int.{ints}
@@ -35,7 +35,7 @@ use Rattle.yf_block.proofs.Stack.TiedColumns.{compact_yes, compact_never}
 use Rattle.yf_block.proofs.Stack.TiedFailed.{broken_fails}
 use Rattle.yf_block.proofs.Stack.TiedOpenings.{node_missing}
 
--- so many spaces are there, or not
+-- the spaces are there, or not
 spaces_or_not : (t : List ℕ) (i k : ℕ) → Spaces t i k ⊎ (Spaces t i k → ⊥)
 spaces_or_not t i zero = inl (record { each = λ m l. omega (arith, l) })
 spaces_or_not t i (suc k) = ⊎_elim
@@ -126,7 +126,7 @@ module _ {t : List ℕ} {d : ℕ} {root : BlockTask} {before : Part} {frames : L
     read = a.read;
   }
 
-  -- a node is there
+  -- a node begins there
   no_end_inside : (LineEndsAt t true place → ⊥) → Stuck (LineEnd t p)
   no_end_inside n = line_end_stuck a.inside (stuck_at_solid run no_white (λ h. n (hash_is_at refl h)) (record { none = λ j e. no_end_here n e }))
 
@@ -164,7 +164,7 @@ module _ {t : List ℕ} {d : ℕ} {root : BlockTask} {before : Part} {frames : L
         read = a.read;
       }
 
--- what ends a line ends it after white space too
+-- a text that ends a line also ends it after white space
 pub ends_anyway : {t : List ℕ} {b : Bool} {p : ℕ} → LineEndsAt t false p → LineEndsAt t b p
 ends_anyway (text_stops e) = text_stops e
 ends_anyway (feed_is_at e) = feed_is_at e

@@ -1,4 +1,5 @@
--- An implicit key of a mapping that is open: its value is awaited after its `:`; or no key begins there, and all breaks.
+-- An implicit key of an open mapping: its value is awaited after its `:`; or no key begins there, and all nodes
+-- break.
 use Rattle.std.proofs.Common.{◌≡◌, ℕ, suc, ◌+◌, ◌^◌, ◌≤◌, ℤ, pos, ◌+ℤ◌, Bool, true, false, List, ◌∷◌, length, reverse, Option, Some, None, MatchOption, refl, sym, ap, ◌∙◌, subst, arith, ⊎_elim, true≢false}
 use Rattle.std.proofs.lemmas.Bool.{cases_Bool}
 use Rattle.std.proofs.lemmas.Int.{ints}
@@ -50,7 +51,7 @@ use Rattle.yf_block.proofs.Stack.TiedNodes.{node_there, after_colon, coloned_rea
 use Rattle.yf_block.proofs.Stack.TiedOpenings.{frames_count}
 use Rattle.yf_block.proofs.Stack.TiedReads.{read_moved, count_read}
 
--- of what may have been read
+-- properties, or none
 abbrev pub PropertiesMay : List ℕ → ℕ → Option PlacedProperties → Type 0
 PropertiesMay t p o = MatchOption o (Stuck (Properties t (pos 0) FlowKey p)) (LineProperties t p)
 
@@ -62,7 +63,7 @@ pub some_of : (t : List ℕ) (p : ℕ) (o : Option PlacedProperties) → Propert
 some_of t p None m h q = absurd (none_some q)
 some_of t p (Some g) m h q = subst (λ z. LineProperties t p z) (same_Some _ _ q) m
 
--- where none are read on the line, none are read over lines
+-- if no properties are read on the line, none are read over lines
 module _ {t : List ℕ} {p : ℕ} (s : Stuck (Properties t (pos 0) FlowKey p)) where
   pub none_spread : {n : ℤ} → Stuck (Properties t n FlowOut p)
   none_spread {n} = record { none = λ g q d. go (spread FlowOut refl d) } where
@@ -94,7 +95,7 @@ module _ {t : List ℕ} {d : ℕ} {root : BlockTask} {before old : Part} {frames
   indent : pos least ≡ pos a.layer.column +ℤ pos 1
   indent = let c = a.collection.column in omega (arith, ints, c, column)
 
-  -- it is narrow, and so many collections may still be opened
+  -- it is narrow, and the limit allows further collections
   pub key_narrow : least ≤ 2 ^ 30
   key_narrow = let s = a.shallow in let i = a.there in let w = a.read.text.size in let c = a.collection.column in omega (arith, column, s, i, w, c)
 
@@ -152,7 +153,7 @@ module _ {t : List ℕ} {d : ℕ} {root : BlockTask} {before old : Part} {frames
         a.stack z (c ∙ a.stack.colons) x no_entry (y ∙ ap (λ (u : ℕ). wanted_after u false true None) a.collection.column) i
         (read_moved here o)
 
-  -- what was read of it
+  -- the key as it was read
   pub key_there : {depth at : ℕ} {entry_of : Option TheEntry.Entry} {inner : Option PlacedProperties} {mid : Part} {node : Node} → KeyTextAt t p inner (At at) → (inner ≡ None → Stuck (Properties t (pos 0) FlowKey p))
       → ((h : PlacedProperties) → inner ≡ Some h → LineProperties t p h) → InlineRead t a.room (pos least) at depth inner (lead_at p inner entry_of) old mid node
       → NodeThere t a.room (pos least) p depth entry_of old mid node
@@ -168,7 +169,7 @@ module _ {t : List ℕ} {d : ℕ} {root : BlockTask} {before old : Part} {frames
   key_nowhere (text_nowhere {held = h} s b) l = key_breaks (keyless_nowhere a.read.text.utf8 (l h refl) s b)
   key_nowhere (text_ended {held = h} e) l = key_breaks (keyless_line a.read.text.utf8 (l h refl) e)
 
--- where nothing may be after properties, whether their line ends or not
+-- nothing may follow the properties, whether their line ends or not
 pub nowhere_after : {t : List ℕ} {start p : ℕ} {held : PlacedProperties} {X : Type 0} (o : Option X) (end : X → ℕ) (comments : X → List CommentValue)
     → MatchOption o (Stuck (LineEnd t held.end)) (λ s. Chosen (LineEnd t held.end) (end s) (comments s)) → NoPlaceAfter t held.end → KeyTextAt t start (Some held) (Nowhere p)
 nowhere_after None end comments m n = text_nowhere m n

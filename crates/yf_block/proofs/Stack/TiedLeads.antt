@@ -1,4 +1,4 @@
--- A node on a line as it was written: its first event with what was known of the node before it, and the notes of the entries in it.
+-- A node on a line as it was written: its first event with the node's lead, and the notes of its entries.
 use Rattle.std.proofs.Common.{◌≡◌, ℕ, ℤ, ◌+◌, ◌≤◌, true, false, List, [], ◌∷◌, ◌++◌, Option, Some, None, refl, sym, ap, ◌∙◌, subst, arith, append_assoc, append-nil, ⊎_elim}
 use Rattle.std.proofs.lemmas.Bool.{cases_Bool}
 use Rattle.std.proofs.lemmas.Option.{same_Some}
@@ -40,7 +40,7 @@ use Rattle.yf_block.specs.BlockTied.{begins, floor_after, ReadTied, EntryTied, n
 use Rattle.yf_block.proofs.Ends.KeyNodes.{content_node, content_found, lone_found}
 use Rattle.yf_block.proofs.Ends.NotingLemmas.{floor_more, noting_more}
 
--- a meaning is written after what a part had: its first event begins an entry, the others have their notes
+-- a meaning is written after the contents of a part: its first event begins an entry, the others have their notes
 pub record WrittenAs (t : List ℕ) (entry : Option TheEntry.Entry) (x : Meaning) (old new : Part) : Type 0 where
   pub first : EventInText
   pub others : List EventInText
@@ -70,7 +70,7 @@ begins_escapes (Some i) x = refl
 entry_kept : (e : EventInText) → e.entry ≡ None → record e { entry = None } ≡ e
 entry_kept e q = ap (λ z. record e { entry = z }) (sym q)
 
--- the floor is not moved by an event of a flow node, whether it begins an entry or not
+-- an event of a flow node doesn't move the floor, whether it begins an entry or not
 module _ {t : List ℕ} where
   pub first_noted : {floor : ℕ} {o : Option ℕ} {entry : Option TheEntry.Entry} (e : EventInText) (es fs : List EventInText) → EntryTied t floor o entry → e.entry ≡ None → is_lined e.event ≡ false
       → Noting t floor es fs → Noting t floor (begins o (record { events = e ∷ es; comments = []; escapes = []; finish = 0 })).events (record e { entry = entry } ∷ fs)
@@ -86,7 +86,7 @@ rest_from {i} {e} {es} f q = go (subst (λ z. EntriesFrom i z) q f) where
   go : EntriesFrom i (e ∷ es) → EntriesFrom i es
   go (one_from g r) = r
 
--- events of flow nodes move no floor
+-- events of flow nodes don't move the floor
 pub floor_others : {t : List ℕ} (floor : ℕ) {xs ys : List EventInText} → NotesFilled t 0 xs ys → floor_after floor xs ≡ floor
 floor_others floor no_events = refl
 floor_others floor (event_before {e = e} {x = x} n r) = ap (λ z. floor_after z x) (floor_same floor e e.event n.no_lines) ∙ floor_others floor r
@@ -100,7 +100,7 @@ first_floor floor (Some i) e es l =
     ap (λ z. floor_after z es) (floor_same floor first e.event l)
 
 module _ {t : List ℕ} {before : Part} {w : Meaning} {progress : BlockCursor} {old : Part} (r : ReadTied t before w progress old) where
-  -- so much more, with no block scalar in it
+  -- a meaning without block scalars is added
   pub read_added : {new : Part} {fs : List EventInText} {cs : List CommentValue} {bad : List ℕ} (m : Meaning) → Noting t progress.floor m.events fs → floor_after progress.floor m.events ≡ progress.floor
       → PartGrown old new fs cs bad → m.comments ≡ cs → m.escapes ≡ bad → ReadTied t before (w ⊕ m) progress new
   unfolding ◌⊕◌
@@ -131,12 +131,12 @@ module _ {t : List ℕ} {before : Part} {w : Meaning} {progress : BlockCursor} {
       ap (λ z. floor_after progress.floor z) events ∙ first_floor progress.floor o a.first a.others a.no_lines ∙ floor_others progress.floor a.noted in
       read_added (begins o x) noting still a.added (begins_comments o x) (begins_escapes o x)
 
--- the event of a node before which so much is known
+-- the event of a node with its lead
 abbrev pub known_event : Lead → EventValue → ℕ → EventInText
 known_event lead event j = lead_event (record lead { entry = None }) (event_with (props_value lead.props) event) j
 
 module _ {t : List ℕ} {lead : Lead} {x : Meaning} {end : ℕ} {old new : Part} where
-  -- what was written with what is known is the meaning y, if its first event is
+  -- events written with a lead are the meaning y, if the first event is
   pub written_as : {span : Option Span} (w : WrittenWith t lead x span end old new) (y : Meaning) → y.events ≡ known_event lead w.event end ∷ w.others → y.comments ≡ x.comments → y.escapes ≡ x.escapes
       → WrittenAs t lead.entry y old new
   written_as w y e c b = record {
@@ -199,7 +199,7 @@ pub record NodeThere (t : List ℕ) (e : ℕ) (n : ℤ) (p depth : ℕ) (entry :
   pub finish : answer.meaning.finish ≡ answer.end
   pub written : WrittenAs t entry answer.meaning old new
 
--- where properties are not derived none begins content
+-- if no properties are derived, none begin the content
 pub bare_content : {t : List ℕ} {e p : ℕ} {n : ℤ} {o : Option ParsedNode} {f : ParsedNode} → ContentAt t e n FlowOut p o → o ≡ Some f → begins_properties (code t p) ≡ false
 bare_content {t} {p = p} (content_there b z) q = ⊎_elim (λ (y : begins_properties (code t p) ≡ true). absurd (content_no_properties (code t p) b y)) (λ (y : begins_properties (code t p) ≡ false). y) (cases_Bool (begins_properties (code t p)))
 bare_content {t} {p = p} (plain_there b z) q = ⊎_elim (λ (y : begins_properties (code t p) ≡ true). absurd (plain_no_properties (code t p) (plain_begins z.derived.text) y)) (λ (y : begins_properties (code t p) ≡ false). y)

@@ -1,4 +1,4 @@
--- The end of a line where a node is awaited: what is read of it, and the line after it.
+-- The end of a line before an awaited node: its comments, and the line after it.
 use Rattle.std.proofs.Common.{◌≡◌, ℕ, Bool, true, false, List, [], ◌++◌, refl, sym, ap, ◌∙◌, subst, append_assoc, append-nil}
 use Rattle.yf_chars.specs.Chain.{Chosen}
 use Rattle.yf_comments.specs.Comment.{CommentValue}
@@ -36,7 +36,7 @@ module _ {t : List ℕ} {before old new : Part} {progress : BlockCursor} (ls : L
       (record { events = x ∙ sym (append-nil old.events); comments = y; escapes = z ∙ sym (append-nil old.escapes) }) refl refl) (told_same ls xs ys ds)
 
 module _ {t : List ℕ} {d : ℕ} {root : BlockTask} {before : Part} {frames : List Frame} {at : ℕ} {old : BlockCursor} {part : Part} where
-  -- a line begins, where nothing was read yet or after the end of another one
+  -- a line begins, before anything was read or after the end of another line
   pub line_ended : {new : BlockCursor} {p : ℕ} {told : List CommentValue} {part' : Part} (b : Bool) → (b ≡ true → p ≡ at) → (b ≡ false → p ≡ at → ⊥)
       → AtBelow t d root before frames at old part → Chosen (LineEnd t at) p told
       → part'.events ≡ part.events → part'.comments ≡ part.comments ++ told → part'.escapes ≡ part.escapes → new ≡ record old { from = at; first = b }

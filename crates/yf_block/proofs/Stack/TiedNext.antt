@@ -1,4 +1,4 @@
--- The next key of the innermost mapping, whose frame stays on the stack.
+-- The next key of the innermost mapping, with the mapping's frame kept on the stack.
 use Rattle.std.proofs.Common.{◌≡◌, ◌≢◌, ℕ, ◌-◌, ◌<◌, ◌≤◌, Bool, false, List, ◌∷◌, ◌++◌, Option, None, length, sym, ap, ◌∙◌, subst, arith, append-nil, true≢false, refl}
 use Rattle.yf_chars.specs.Text.{code}
 use Rattle.yf_comments.specs.Comments.{Blank}

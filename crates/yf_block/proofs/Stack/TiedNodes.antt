@@ -1,4 +1,4 @@
--- A node is awaited after the indicator of an entry: after `-`, `?`, a `:` without a key, and the `:` after the key of a `?`.
+-- A node awaited after the indicator of an entry: `-`, `?`, a `:` without a key, or the `:` after the key of a `?`.
 use Rattle.std.proofs.Common.{◌≡◌, ℕ, suc, ◌+◌, ◌<◌, ◌≤◌, pos, Bool, true, false, List, [], ◌∷◌, ◌++◌, length, Option, Some, None, refl, sym, ap, ◌∙◌, subst, arith, append-nil, true≢false}
 use Rattle.std.proofs.lemmas.Int.{ints}
 use Rattle.std.specs.Str.{IsUtf8}
@@ -71,7 +71,7 @@ module _ {t : List ℕ} (i : ℕ) (u : IsUtf8 t) where
   pub after_colon : code t i ≡ 58 → AfterSign t (i + 1)
   after_colon e = after_char e (omega arith) sign_visible.2
 
--- of collections that none is deeper than one, none is than a deeper column
+-- if no collection is deeper than a column, none is deeper than a deeper column
 pub all_within : {m k : ℕ} {ls : List Layer} → AllWithin m ls → m ≤ k → AllWithin k ls
 all_within none_within l = none_within
 all_within (one_within a r) l = one_within (omega arith) (all_within r l)
@@ -129,7 +129,7 @@ module _ {t : List ℕ} {d : ℕ} {root : BlockTask} {before old : Part} {frames
   wanted_column : {b o : Bool} {e : Option TheEntry.Entry} (new : BlockCursor) → new.wanted ≡ wanted_after f.column b o e → new.wanted ≡ wanted_after a.layer.column b o e
   wanted_column {b} {o} {e} new w = w ∙ ap (λ (z : ℕ). wanted_after z b o e) a.collection.column
 
-  -- the last block scalar ends where a line begins, if it ends before a character
+  -- the last block scalar ends at the start of a line, if it ends before a character
   pub floor_blank : code t at < no_char → progress.floor < at → Blank t progress.floor
   floor_blank k l = a.read.floor_line (let w = within_from_code t at k in omega (arith, w, l))
 
@@ -151,7 +151,7 @@ module _ {t : List ℕ} {d : ℕ} {root : BlockTask} {before old : Part} {frames
       a.stack s (let m = a.stack.colons in omega (arith, m, c)) h (entry_begins (subst (λ v. NotedSince t v at b) (sym o) z)) (wanted_column new w) i
       (read_moved (read_as a.read (nothing_more (entries_written a.layer a.layers))) o)
 
-  -- how many `:` are awaited, so that one more can be counted
+  -- the number of awaited `:`, which leaves room to count one more
   pub colons_below : progress.colons < d
   colons_below = let r = room_left a.entry.around in let m = a.stack.colons in let k = asked_most a.layers in omega (arith, r, m, k) where
     asked_most : (ls : List Layer) → length (asked ls) ≤ length ls
@@ -187,7 +187,7 @@ module _ {t : List ℕ} {d : ℕ} {root : BlockTask} {before old : Part} {frames
       a.stack s (c ∙ a.stack.colons) h no_entry (wanted_column new w) i
       (read_moved (read_events a.read _ _ (lone_noting b n) (lone_floor progress.floor) x1 x2 x3 r.events r.comments r.escapes) o)
 
--- the event at the end is not there
+-- no event is at the index
 edited_past : (f : EventInText → EventInText) (y : List EventInText) (i : ℕ) → i ≡ length y → edited f i y ≡ y
 edited_past f [] i e = refl
 edited_past f (a ∷ y) i e =
@@ -195,7 +195,7 @@ edited_past f (a ∷ y) i e =
     ap (λ (z : ℕ). edited f z (a ∷ y)) k ∙ ap (λ z. a ∷ z) (edited_past f y (length y) refl)
 
 module _ {t : List ℕ} where
-  -- an entry whose colon is found
+  -- an entry with its colon
   colon_noting : {floor : ℕ} {y : List EventInText} (w es : List EventInText) (i k : ℕ) → length y ≡ length (w ++ first_entering (record { start = i; colon = None; blank_before = false }) es)
       → Noting t floor (w ++ first_entering (record { start = i; colon = None; blank_before = false }) es) y
       → Noting t floor (w ++ first_entering (record { start = i; colon = Some k; blank_before = false }) es) (edited (coloned k) (length w) y)

@@ -1,4 +1,4 @@
--- A collection begins at a place of a line: what is written then, and its first entry is awaited; or none may be opened any more.
+-- A collection begins on a line: its events, with its first entry awaited; or the limit allows no further one.
 use Rattle.std.proofs.Common.{◌≡◌, ◌≢◌, ℕ, suc, ◌+◌, ◌-◌, ◌<◌, ◌≤◌, Bool, true, false, List, [], ◌∷◌, ◌++◌, length, Option, Some, None, refl, sym, ap, ◌∙◌, subst, arith, append-nil, true≢false, ◌⊎◌, inl, inr, ⊎_elim}
 use Rattle.yf_chars.specs.Text.{code}
 use Rattle.yf_chars.proofs.TextLemmas.{within_from_code}
@@ -38,7 +38,7 @@ pub frames_count : {m : ℕ} {fs : List Frame} {ls : List Layer} → FramesTied 
 frames_count no_frames = refl
 frames_count (frame_tied u r) = ap suc (frames_count r)
 
--- nothing is found of the node that is awaited, and it has no last halt of its own
+-- the awaited node is not found, and it has no last halt of its own
 pub node_missing : {t : List ℕ} {d : ℕ} {root : BlockTask} {ls : List Layer} {e : ℕ} {ds : List CommentValue} {task : BlockTask} {h : Option ParsedNode} → NodeAt t d root ls e ds task h
     → Whole t e task None → Halts t e (asked ls) task None → NodeIsBroken t d root h
 unfolding made_or
@@ -82,7 +82,7 @@ module _ {t : List ℕ} {d : ℕ} {root : BlockTask} {before old : Part} {frames
   written_events : (w : List EventInText) (e : EventInText) → (w ++ []) ++ e ∷ [] ≡ (w ++ e ∷ []) ++ []
   written_events w e = ap (λ z. z ++ e ∷ []) (append-nil w) ∙ sym (append-nil (w ++ e ∷ []))
 
-  -- what has been written then
+  -- the events written then
   pub opened_read : (s : Bool) (m : ℕ) {new : Part} → new.events ≡ old.events ++ started (kind_of s) p progress.wanted ∷ [] → new.comments ≡ old.comments → new.escapes ≡ old.escapes
       → ReadTied t before (entries_written (new_layer s m a.ahead a.comments p) a.layers) progress new
   unfolding ◌⊕◌ noting only
@@ -128,7 +128,7 @@ module _ {t : List ℕ} {d : ℕ} {root : BlockTask} {before old : Part} {frames
   sign_no_feed : SignAt t 63 p ⊎ SignAt t 58 p → code t p ≡ 10 → ⊥
   sign_no_feed g q = ⊎_elim (λ (s : SignAt t 63 p). let w = s.sign_is_at in omega (arith, w, q)) (λ (s : SignAt t 58 p). let w = s.sign_is_at in omega (arith, w, q)) g
 
-  -- how many collections may be opened
+  -- the number of collections that may be opened
   pub room_there : length frames + a.room ≡ d
   room_there = let n = frames_count a.stack.frames_tied in let r = room_left a.node.around in omega (arith, n, r)
 

@@ -1,4 +1,4 @@
--- What has been read, in another form, and with one event more.
+-- The events read so far, in another form, and with one event more.
 use Rattle.std.proofs.Common.{◌≡◌, ℕ, ◌+◌, ◌<◌, List, [], ◌++◌, length, sym, ap, ◌∙◌, subst, append_assoc, append-nil}
 use Rattle.std.proofs.lemmas.List.{length-append}
 use Rattle.yf_comments.specs.Comments.{Blank}
@@ -39,7 +39,7 @@ module _ {t : List ℕ} {before : Part} {x : Meaning} {progress : BlockCursor} {
     };
   }
 
-  -- what was read is not told of by other fields of the state
+  -- the other fields of the state don't change the events
   pub read_moved : {new : BlockCursor} → new.floor ≡ progress.floor → ReadTied t before x new old
   read_moved e = record {
     text = r.text;
@@ -51,7 +51,7 @@ module _ {t : List ℕ} {before : Part} {x : Meaning} {progress : BlockCursor} {
   pub count_read : length old.events ≡ length before.events + length x.events
   count_read = ap (λ z. length z) r.written.added.events ∙ length-append before.events r.written.events ∙ ap (λ (k : ℕ). length before.events + k) (sym (noting_length r.written.noting))
 
-  -- so many events more, none of which ends a block scalar
+  -- events are added, none of which ends a block scalar
   pub read_events : {new : Part} (es fs : List EventInText) → Noting t progress.floor es fs → floor_after progress.floor es ≡ progress.floor → new.events ≡ old.events ++ fs → new.comments ≡ old.comments
       → new.escapes ≡ old.escapes → {y : Meaning} → x.events ++ es ≡ y.events → x.comments ≡ y.comments → x.escapes ≡ y.escapes → ReadTied t before y progress new
   read_events es fs n k a b c {y} p q s = record {

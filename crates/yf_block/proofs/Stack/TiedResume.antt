@@ -1,4 +1,5 @@
--- After a node that was found whole, collection by collection: its frame is taken off the stack, and the line ends it or goes on with it.
+-- Steps after a whole node, collection by collection: its frame is taken off the stack, and the line ends the
+-- collection or goes on with it.
 use Rattle.std.proofs.Common.{◌≡◌, ℕ, suc, ◌-◌, Bool, true, false, List, [], ◌∷◌, ◌++◌, length, Option, Some, None, MatchOption, sym, ap, ◌∙◌, subst, arith}
 use Rattle.yf_chars.proofs.Tests.{no_cons}
 use Rattle.yf_events.specs.Edit.{edited, ended}

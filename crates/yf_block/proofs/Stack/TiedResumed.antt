@@ -1,4 +1,4 @@
--- What the line after a node is to the innermost collection that it does not end.
+-- The relation of the line after a node to the innermost collection that it does not end.
 use Rattle.std.proofs.Common.{◌≡◌, ℕ, List, subst}
 use Rattle.yf_events.specs.declared.part.Part.{Part}
 use Rattle.yf_grammar.specs.BlockReader.BlockParser.{BlockTask}

@@ -96,7 +96,7 @@ module _ {t : List ℕ} {n : ℤ} {c : Ctx} {at : ℕ} {progress : BlockCursor} 
       read = root_read part;
     }
 
--- the outermost node, for a part to which nothing is added yet
+-- the outermost node, with nothing added to the part yet
 begun_as : {frames : List Frame} {root new : BlockTask} {before part : Part} (At : BlockTask → Part → List Frame → Type 0) → root ≡ new → before ≡ part → frames ≡ [] → At new part [] → At root before frames
 begun_as {frames} {root} {new} {before} {part} At e b f x = subst (λ z. At z before frames) (sym e) (subst (λ z. At new z frames) (sym b) (subst (λ z. At new part z) (sym f) x))
 

@@ -1,4 +1,4 @@
--- What the tie says has been written of a sequence of two lines `-`, after each of them and at its end.
+-- The events, by the tie, of a sequence of two lines `-`, after each line and at its end.
 use Rattle.std.proofs.Common.{◌≡◌, ℕ, true, false, [], ◌∷◌, Some, None, refl}
 use Rattle.yf_props.specs.Props.{no_props}
 use Rattle.yf_events.specs.Event.{EventInText, sequence_starts, sequence_ends, scalar_node}
@@ -21,7 +21,7 @@ first_layer = at_stage (new_layer true 0 Nothing [] 0) (AtItem 0)
 abbrev second_layer : Layer
 second_layer = at_stage (with_entry first_layer (as_item 0 (empty_to 2 1))) (AtItem 2)
 
--- the events as the reader adds them, where no blank line is before an entry; the end of the sequence is set last
+-- the events as the reader adds them, with no blank line before an entry; the sequence's end is set last
 abbrev sequence_to : ℕ → EventInText
 sequence_to j = record { event = sequence_starts false no_props; span = Some (record { start = 0; end = j }); tag_offset = None; entry = None; folded = [] }
 

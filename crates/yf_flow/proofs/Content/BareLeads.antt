@@ -1,4 +1,4 @@
--- A scalar without properties that is pushed by itself.
+-- A scalar without properties, pushed directly.
 use Rattle.std.proofs.Common.{◌≡◌, ℕ, List, [], ◌∷◌, ◌++◌, Option, None, Result, Ok, Err, IfOk, if◌then◌else◌, sym, ap, ◌∙◌}
 use Rattle.std.specs.Prelude.{is_ok}
 use Rattle.std.specs.Borrow.{Bor}

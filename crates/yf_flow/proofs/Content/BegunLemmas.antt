@@ -1,4 +1,4 @@
--- What is found where content is awaited, from what the readers of its parts give.
+-- The beginning of awaited content, from the results of the readers of its parts.
 use Rattle.std.proofs.Common.{◌≡◌, ◌≢◌, ℕ, ◌+◌, ◌<◌, ◌≤◌, length, subst, arith, Result, IfOk, ℤ, true, false, List, [], ◌∷◌, ◌++◌, None, refl, sym, true≢false, ◌∙◌, append-nil, encode_utf8_all}
 use Rattle.std.proofs.lemmas.Result.{IfOk-weaker}
 use Rattle.std.specs.List.{All}
@@ -84,7 +84,7 @@ module _ {t : List ℕ} {n : ℤ} {c : Ctx} {i : ℕ} where
   pub content_is_at : begins_content (code t i) ≡ true → code t i ≢ 39 → code t i ≢ 34 → code t i ≢ 91 → code t i ≢ 123 → (e : ℕ) → ContentAt t e n c i None
   content_is_at b p q r s e = absurd (true≢false (sym b ∙ sym (nothing_begins p q r s)))
 
--- the event of a collection that is opened
+-- the event of an opened collection
 pub start_event : (lead : Lead) (kind : CollectionKind) (j : ℕ) (old new : List EventInText) (e : EventInText) (event : EventValue) → new ≡ old ++ e ∷ [] → e ≡ lead_event lead event j
     → event ≡ event_with (props_value lead.props) (start_of (is_sequence kind) true)
     → new ≡ old ++ (lead_event lead (event_with (props_value lead.props) (start_of (is_sequence kind) true)) j ∷ [])
@@ -104,7 +104,7 @@ leaf_begins {HasBegun} {cursor} {lead} {style} {s} {old} {mid} {new} b p place e
       escapes = subst (λ xs. All (IsCharBoundary cursor.scene.text.now) xs) (sym p.escapes) es;
     })
 
--- what has begun at a cursor further on, after other comments
+-- the beginning at a later cursor, after other comments
 pub begins_after : (HasBegun Other : Part → Part → Begun → Type 0) (cursor : FlowCursor) (p : ℕ) (old mid new : Part) {E : Type 0} (r : Result Begun E) → IfOk r (Begins Other (record cursor { at = p }) mid new)
     → cursor.at ≤ p → mid.events ≡ old.events → ((b : Begun) → Other mid new b → HasBegun old new b) → IfOk r (Begins HasBegun cursor old new)
 begins_after HasBegun Other cursor p old mid new r h l e f =

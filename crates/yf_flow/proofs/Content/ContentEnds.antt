@@ -1,4 +1,4 @@
--- How content that was begun ends, after what a part had.
+-- The end of content that was begun, after the contents of a part.
 use Rattle.std.proofs.Common.{◌≡◌, ℕ, suc, ◌+◌, ◌≤◌, ℤ, Bool, true, false, List, [], ◌∷◌, ◌++◌, length, None, Result, Ok, Err, IfOk, refl, sym, ap, ◌∙◌, subst, arith, append_assoc, append-nil, length-append}
 use Rattle.std.specs.Str.{IsUtf8}
 use Rattle.std.specs.declared.alloc.AllocError.{AllocError}
@@ -44,7 +44,7 @@ bare_start : (sequence : Bool) → event_with no_props (start_of sequence true) 
 bare_start true = refl
 bare_start false = refl
 
--- what a part has
+-- the contents of a part
 abbrev all_of : Part → Meaning
 all_of part = record { events = part.events; comments = part.comments; escapes = part.escapes; finish = 0 }
 
@@ -75,7 +75,7 @@ module _ {t : List ℕ} {n : ℤ} {c : Ctx} {i depth : ℕ} {lead : Lead} {old n
         };
       }
 
--- what was read of a collection
+-- the contents of a collection
 record Closed (t : List ℕ) (old new : Part) (begin last : EventInText) (x : Meaning) : Type 0 where
   others : List EventInText
   noted : NotesFilled t 0 (x.events ++ last ∷ []) others
@@ -99,7 +99,7 @@ closed_parts {t} {old} {new} begin last x p =
       };
     }
 
--- the event that begins it, and what is asked of it
+-- the event that begins it, and the conditions on it
 abbrev begin_at : Lead → Bool → ℕ → EventInText
 begin_at lead sequence j = lead_event lead (event_with (props_value lead.props) (start_of sequence true)) j
 
@@ -168,12 +168,12 @@ module _ {t : List ℕ} {c : Ctx} (n : ℤ) (i depth limit : ℕ) (lead : Lead) 
   content_ends u {d} q room r Nothing e m f = subst (λ z. ContentEnds t n c room i depth lead old new z) (sym (f no_base tt)) (m room)
   content_ends u {d} q room r (TooDeep p) e m f = subst (λ z. ContentEnds t n c room i depth lead old new z) (sym (f no_base tt)) (full_content n r m.1)
 
--- what holds for each base holds of the result
+-- a property for each base is a property of the result
 pub for_each_base : (P : Base → Type 0) (Q : Base → Ending → Type 0) (r : Result Ending AllocError) → ((base : Base) → P base → IfOk r (Q base)) → IfOk r (λ e. (base : Base) → P base → Q base e)
 for_each_base P Q (Ok e) f = f
 for_each_base P Q (Err x) f = tt
 
--- of no collection more were open than openers have been read
+-- in each collection, at most as many were open as openers have been read
 pub content_counted : (t : List ℕ) (n : ℤ) (c : Ctx) (i depth limit total : ℕ) (lead : Lead) (old new : Part) (m k : ℕ) (b : Begun) → IsUtf8 t → depth + openers_from t i ≤ total
     → ContentBegun t n c i depth limit lead old new b → BegunAt t i m k b → BegunCounted t limit total b
 content_counted t n c i depth limit total lead old new m k (Leaf node) u l a p =

@@ -1,4 +1,4 @@
--- How a node ends that has ended once it has begun.
+-- The end of a node that ends when it begins.
 use Rattle.std.proofs.Common.{ℕ, ◌+◌, ℤ, List, refl}
 use Rattle.yf_events.specs.declared.part.Part.{Part}
 use Rattle.yf_flow.specs.declared.nodes.Ending.{Ending}

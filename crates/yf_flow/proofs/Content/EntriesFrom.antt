@@ -1,5 +1,5 @@
--- Where the entries of a flow node begin: after the character with which the node begins. So their notes are the same whether a block
--- scalar ended before the node or not.
+-- The entries of a flow node begin after the node's first character. So their notes don't depend on whether a block
+-- scalar ended before the node.
 use Rattle.std.proofs.Common.{◌≡◌, ℕ, ◌+◌, ◌<◌, ◌≤◌, ℤ, Bool, true, false, List, [], ◌∷◌, ◌++◌, Option, Some, None, refl, sym, ◌∙◌, arith}
 use Rattle.yf_chars.specs.declared.context.Ctx.{Ctx}
 use Rattle.yf_lines.specs.Basic.{is_block}
@@ -19,7 +19,7 @@ use Rattle.yf_chars.proofs.Tests.{none_some}
 use Rattle.yf_grammar.proofs.FlowReader.NodesAnswered.{gap_forward}
 use Rattle.yf_props.proofs.NameOrder.{properties_forward}
 
--- each event that begins an entry has one that begins at the offset or after it
+-- each event that begins an entry has one that begins at or after the offset
 pub data EntriesFrom (i : ℕ) : List EventInText → Type 0 where
   none_from : EntriesFrom i []
   one_from : {e : EventInText} {es : List EventInText} → ((f : Entry) → e.entry ≡ Some f → i ≤ f.start) → EntriesFrom i es → EntriesFrom i (e ∷ es)

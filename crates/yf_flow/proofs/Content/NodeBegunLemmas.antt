@@ -1,4 +1,4 @@
--- What is found where a node is awaited, from what is found of its properties and its content.
+-- The beginning of an awaited node, from those of its properties and its content.
 use Rattle.std.proofs.Common.{◌≡◌, ℕ, ◌+◌, ℤ, Bool, true, false, List, [], ◌∷◌, ◌++◌, length, Option, Some, None, refl, sym, ap, ◌∙◌, subst, arith, true≢false, append-nil, encode_utf8_all, ◌⊎◌, inl, inr, ⊎_elim, ◌==◌}
 use Rattle.std.proofs.lemmas.Bool.{cases_Bool}
 use Rattle.std.proofs.lemmas.Bool.Decides.{nat_tests}
@@ -49,7 +49,7 @@ added_after {old} {mid} {new} {es} {bad} cs a b d m = record {
   escapes = m.escapes ∙ ap (λ w. w ++ bad) d;
 }
 
--- what is known of a node before its content
+-- the lead of a node before its content
 pub record LeadOf (lead : Lead) (i : ℕ) (b : Before) (entry : Option Entry) : Type 0 where
   pub start : lead.start ≡ i
   pub props : props_value lead.props ≡ props_before b
@@ -60,7 +60,7 @@ bare_is : (i : ℕ) (entry : Option Entry) → LeadOf (bare_lead i entry) i Bare
 bare_is i entry = record { start = refl; props = refl; tag = refl; first = refl }
 
 module _ {t : List ℕ} {n : ℤ} {c : Ctx} {i : ℕ} where
-  -- content at which no properties and no alias are before is the node
+  -- content without properties or an alias before it is the node
   pub bare_node : {e : ℕ} {o : Option ParsedNode} → Stuck (Alias t i) → Stuck (Properties t n c i) → ContentAt t e n c i o → Parses t e (ANode n c i) o
   bare_node a p (content_there b r) = content_read b r
   bare_node a p (plain_there b r) = plain_read (no_bar_plain (code t i) (first_no_bar t c i (plain_leaps r.derived.text).0)) r
@@ -102,7 +102,7 @@ alias_events : (name : List ℕ) (i j : ℕ) (entry : Option Entry) → lead_eve
 unfolding alias_to plain_event from_to
 alias_events name i j entry = refl
 
--- what is in a meaning with one event
+-- the contents of a meaning with one event
 record Single (x : Meaning) (j : ℕ) (cs : List CommentValue) (bad : List ℕ) : Type 0 where
   event : EventInText
   only_event : x.events ≡ event ∷ []

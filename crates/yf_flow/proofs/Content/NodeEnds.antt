@@ -1,4 +1,4 @@
--- How a node that was begun ends, and what it is where its content is not derived: its properties alone, or nothing.
+-- The end of a node that was begun, and the node if its content is not derived: only its properties, or nothing.
 use Rattle.std.proofs.Common.{◌≡◌, ℕ, ℤ, true, false, List, [], ◌∷◌, ◌++◌, length, None, refl, sym, ap, ◌∙◌, subst, append-nil}
 use Rattle.std.specs.Str.{IsUtf8}
 use Rattle.yf_chars.specs.declared.context.Ctx.{Ctx}
@@ -45,7 +45,7 @@ pub nothing_written : {t : List ℕ} {part : Part} → part.events ≡ [] → pa
 unfolding only
 nothing_written {t} {part} a b c = record { events = subst (λ z. NotesFilled t 0 [] z) (sym a) no_events; comments = b; escapes = c }
 
--- an outermost collection of which nothing is asked
+-- an outermost collection without conditions
 pub no_base : Base
 no_base = record { sequence = true; place = 0; context = FlowIn; limit = 0; total = 0; written = only [] 0; event = plain_event sequence_ends None }
 
@@ -100,7 +100,7 @@ module _ {t : List ℕ} {n : ℤ} {c : Ctx} {i limit : ℕ} where
       let s = chosen_one d a in
       subst (λ y. Parses t limit (ANode n c i) (lone_properties y i g)) s.1 (subst (λ y. Parses t limit (ANode n c i) (lone_properties v i y)) s.0 (properties_before_broken a z w r))
 
--- what is written of them in a new part
+-- the properties as written in a new part
 abbrev lone_lead : TheProperties → ℕ → Lead
 lone_lead v i = record { start = i; props = v.props; tag_offset = v.tag_offset; entry = None }
 

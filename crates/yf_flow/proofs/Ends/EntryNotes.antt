@@ -1,4 +1,4 @@
--- The event that begins a node with the note of its entry; and what a node begins with is no line feed.
+-- The event that begins a node with the note of its entry; and a node doesn't begin with a line feed.
 use Rattle.std.proofs.Common.{◌≡◌, ◌≢◌, ℕ, ℤ, false, List, Option, Some, None, refl, sym, ap, ◌∙◌, subst, true≢false}
 use Rattle.yf_chars.specs.declared.context.Ctx.{Ctx}
 use Rattle.yf_chars.specs.Text.{code}

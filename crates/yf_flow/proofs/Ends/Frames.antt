@@ -1,4 +1,4 @@
--- The open collections: what holds of them stays so when events are added, and when one is opened or closed.
+-- The open collections: their invariant stays when events are added, and when one is opened or closed.
 use Rattle.std.proofs.Common.{◌≡◌, ℕ, zero, suc, ◌<◌, ◌≤◌, List, [], ◌∷◌, ◌++◌, length, take, drop, refl, ap, subst, sym, arith, length-append}
 use Rattle.std.proofs.lemmas.List.Elements.{All-append, All-weaker, All-cons, All-nil}
 use Rattle.std.specs.List.{All}
@@ -21,7 +21,7 @@ frames_pushed {t} m k fs gs f e l a i =
 pub pushed_longer : {X : Type 0} (xs ys : List X) (x : X) → ys ≡ xs ++ x ∷ [] → length xs < length ys
 pushed_longer {X} xs ys x e = rw e (omega (arith, length-append {A = X}))
 
--- of no escapes each begins between characters
+-- all of no escapes begin at boundaries
 pub none_outside : (t es : List ℕ) → es ≡ [] → All (IsCharBoundary t) es
 none_outside t es e = subst (λ xs. All (IsCharBoundary t) xs) (sym e) (All-nil (IsCharBoundary t))
 

@@ -1,4 +1,5 @@
--- The characters of a key, counted one by one: how many there are from a place on is one less after the next of them.
+-- The characters of a key, counted one by one: the count from an offset on is one more than that after the next
+-- character.
 use Rattle.std.proofs.Common.{◌≡◌, ◌≢◌, ℕ, ◌+◌, ◌-◌, ◌<◌, ◌≤◌, ⊎_elim, true, false, List, ◌∷◌, ◌++◌, length, take, drop, refl, sym, ap, ◌∙◌, subst, arith, true≢false}
 use Rattle.std.proofs.Math.Seq.{take-append-add}
 use Rattle.std.proofs.lemmas.Bool.{cases_eq, cases_lt}
@@ -15,7 +16,7 @@ use Rattle.yf_grammar.specs.Productions.Grammar.{characters_between, KEY_LIMIT}
 use Rattle.yf_grammar.specs.FlowReader.Parser.{OnOneLine}
 use Rattle.yf_flow.specs.Leaves.{KeyLine}
 
--- a boundary after the start of a character is not before its end
+-- a boundary after the start of a character is at or after its end
 ends_before : {t : List ℕ} {i c j e : ℕ} → IsUtf8 t → IsCharBoundary t e → i < e → CharAt t i c j → j ≤ e
 ends_before {j = j} {e = e} u d l r =
     ⊎_elim (λ (q : e < j). absurd (no_boundary_inside u r l q d)) (λ (q : j ≤ e). q) (cases_lt e j)
@@ -44,7 +45,7 @@ none_between t i e n =
     let none : e - i ≡ 0 = omega arith in
     ap (λ k. length (chars (take k (drop i t)))) none ∙ ap length S.chars-nil
 
--- what is known of a key at a place in it: so many characters may follow
+-- a key up to an offset in it, and the number of characters that may follow
 pub record KeySoFar (t : List ℕ) (start end at room : ℕ) : Type 0 where
   pub boundary : IsCharBoundary t at
   pub order : start ≤ at

@@ -9,7 +9,7 @@ use Rattle.yf_chars.specs.Class.{is_plain_safe}
 use Rattle.yf_plain.proofs.PlainLemmas.{safe_at_end}
 use Rattle.yf_grammar.specs.FlowReader.Parser.{ColonAt}
 
--- offsets after others begin between characters too
+-- offsets after others are boundaries too
 pub boundaries_more : (t xs ys zs : List ℕ) → zs ≡ xs ++ ys → All (IsCharBoundary t) xs → All (IsCharBoundary t) ys → All (IsCharBoundary t) zs
 boundaries_more t xs ys zs e a b = subst (λ ws. All (IsCharBoundary t) ws) (sym e) (All-append (IsCharBoundary t) xs ys a b)
 

@@ -1,4 +1,4 @@
--- Tests of what is at a place.
+-- Tests at an offset.
 use Rattle.std.proofs.Common.{◌≡◌, ◌≢◌, ℕ, Bool, true, false, ◌==◌, ◌||◌, arith}
 use Rattle.std.proofs.lemmas.Bool.Decides.{nat_tests}
 use Rattle.yf_grammar.specs.FlowReader.Parser.{begins_content}

@@ -1,4 +1,4 @@
--- What is ready from an offset on is so from an earlier one.
+-- A state that is ready from an offset on is ready from an earlier one.
 use Rattle.std.proofs.Common.{◌≡◌, ℕ, ◌≤◌, List, [], ◌∷◌, ◌++◌, length, Some, None, Result, IfOk, arith, sym, ◌∙◌, subst}
 use Rattle.std.proofs.lemmas.List.Elements.{All-pop}
 use Rattle.std.proofs.lemmas.Result.{IfOk-weaker}
@@ -44,7 +44,7 @@ ready_from {t} {r = r} s l q = record { below = q.below; step = step_from t (len
 pub escapes_same : (t : List ℕ) (xs ys : List ℕ) → ys ≡ xs → All (IsCharBoundary t) xs → All (IsCharBoundary t) ys
 escapes_same t xs ys e a = subst (λ z. All (IsCharBoundary t) z) (sym e) a
 
--- what a last call answers
+-- the result of a last call
 pub led : {P Q : Base → Type 0} {C D : ℕ → Type 0} (scene : FlowContext) {a b : ℕ} (old mid new : FlowReader) {E : Type 0} (r : Result Step E) → IfOk r (StepLeads P C scene a mid new)
     → ((base : Base) → SceneRead scene base → Q base → P base) → ((total : ℕ) → D total → C total) → b ≤ a → mid.part.escapes ≡ old.part.escapes
     → IfOk r (StepLeads Q D scene b old new)
@@ -59,7 +59,7 @@ led {P} {Q} {C} {D} scene {a} {b} old mid new r h f g l e =
 pub failed_stepped : {t xs : List ℕ} {at : ℕ} {new : FlowReader} → All (EntryIsIn t (length new.part.events)) new.below.items → new.part.escapes ≡ xs → StepPromises t at xs new Failed
 failed_stepped b e = record { ready = record { below = b; step = tt }; moves = omega arith; same_escapes = e }
 
--- how the collection ends whose reader took over what was read before
+-- the end of a collection, if its reader took over the earlier events
 pub collected : (scene : FlowContext) (at : ℕ) (old new : FlowReader) (first last : Part) {E : Type 0} (r : Result Ending E) → IfOk r (CollectionEnds scene at old new)
     → old.below.items ≡ [] → old.part ≡ first → last ≡ new.part
     → ((base : Base) → SceneRead scene base → AtEntry scene.text.now scene.indentation scene.context base [] old.top at first → IfOk r (λ e. EndTied scene.text.now scene.indentation base e last))
@@ -77,7 +77,7 @@ collected scene at old new first last r h i x y = (
   IfOk-weaker r (CollectionEnds scene at old new) (λ e. All (IsCharBoundary scene.text.now) last.escapes) (λ e q. subst (λ p. All (IsCharBoundary scene.text.now) p.escapes) (sym y) q.escapes) h,
 )
 
--- where the frame is changed
+-- after a change of the frame
 pub value_awaits : {t : List ℕ} {m : ℕ} (f g : Frame) → g.event ≡ f.event → g.entry_event ≡ f.entry_event → g.entry ≡ f.entry
     → EntryIsIn t m f → EntryIsNext t m g
 value_awaits {t} f g a b d i = record {
@@ -89,7 +89,7 @@ value_awaits {t} f g a b d i = record {
 pub entry_awaits : {t : List ℕ} {m : ℕ} (f g : Frame) → g.event ≡ f.event → g.entry_event ≡ m → IsCharBoundary t g.entry → EntryIsNext t m f → EntryIsNext t m g
 entry_awaits f g d e p i = record { event = rw d i.event; entry = omega (arith, e); place = p }
 
--- once the innermost collection is closed
+-- after the innermost collection is closed
 pub frames_popped : {t : List ℕ} {m k : ℕ} (frames all : List Frame) (outer : Frame) → all ≡ frames ++ outer ∷ [] → m ≤ k → All (EntryIsIn t m) all
     → All (EntryIsIn t k) frames × EntryIsIn t k outer
 frames_popped {t} {m} {k} frames all outer e l a = All-pop (EntryIsIn t k) all frames (Some outer) e (frames_more m k all l a)
@@ -108,7 +108,7 @@ indexed_as {t} {m} f g a b d i = record {
 pub indexed_awaits : {t : List ℕ} {m : ℕ} {f : Frame} → EntryIsIn t m f → EntryIsNext t m f
 indexed_awaits i = record { event = i.event; entry = omega (arith, i.entry); place = i.place }
 
--- where an event was added
+-- after an event is added
 module _ {t : List ℕ} {X : Type 0} (xs ys : List X) (x : X) where
   pub frames_event : (frames : List Frame) → ys ≡ xs ++ x ∷ [] → All (EntryIsIn t (length xs)) frames → All (EntryIsIn t (length ys)) frames
   frames_event frames e a = let l = pushed_longer xs ys x e in frames_more (length xs) (length ys) frames (omega (arith, l)) a

@@ -1,4 +1,5 @@
--- Notes of entries that begin after a visible character: they are the same where a block scalar ended before that character.
+-- Notes of entries that begin after a visible character don't depend on whether a block scalar ended before that
+-- character.
 use Rattle.std.proofs.Common.{◌≡◌, ◌≢◌, ℕ, ◌+◌, ◌<◌, ◌≤◌, Bool, true, false, not, ◌&&◌, ◌||◌, ◌==◌, true≢false, List, ◌∷◌, Some, sym, ap, ◌∙◌, subst, arith, ⊎_elim}
 use Rattle.std.proofs.lemmas.Bool.{cases_lt, cases_eq}
 use Rattle.std.specs.Str.{IsUtf8}
@@ -23,7 +24,7 @@ use Rattle.yf_flow.specs.StackMeaning.{NoteOf, entryless, entry_noted, NotesFill
 use Rattle.yf_flow.proofs.Content.EntriesFrom.{EntriesFrom, one_from}
 use Rattle.yf_flow.proofs.Ends.NotedLemmas.{floor_same}
 
--- a visible character is none of a gap
+-- a visible character is not part of a gap
 ns_gap : (p w b m : Bool) → (p && (not b && not m)) && not w ≡ true → w || b || m ≡ true → ⊥
 ns_gap false w b m e g = true≢false (sym e)
 ns_gap true w true m e g = true≢false (sym e)

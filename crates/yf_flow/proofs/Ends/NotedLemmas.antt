@@ -1,4 +1,4 @@
--- Events with the notes of their entries filled in: what is done to both lists alike keeps them so.
+-- Events with the notes of their entries filled in: equal changes of both lists keep them so.
 use Rattle.std.proofs.Common.{◌≡◌, ℕ, zero, suc, Bool, true, false, List, [], ◌∷◌, ◌++◌, length, ◌≤◌, take, drop, Some, MatchBool, refl, sym, ap, subst, arith, true≢false}
 use Rattle.yf_comments.specs.Comments.{BlankBefore}
 use Rattle.yf_events.specs.Event.{EventValue, EventInText, stream_starts, stream_ends, document_starts, document_ends, sequence_starts, sequence_ends, mapping_starts, mapping_ends, scalar_node, alias_node}
@@ -11,7 +11,7 @@ use Rattle.yf_grammar.proofs.Ends.SinceKnown.{since_before, since_zero}
 use Rattle.yf_flow.specs.NodeStarts.{is_lined}
 use Rattle.yf_flow.specs.StackMeaning.{NoteOf, entryless, entry_noted, NoteFilled, NotesFilled, no_events, kept_before, event_before}
 
--- where no block scalar is before, a blank line is met or not
+-- without a block scalar before, the note is whether a blank line is met
 pub note_of : {t : List ℕ} {i : ℕ} (b : Bool) → MatchBool b (BlankBefore t i) (BlankBefore t i → ⊥) → NotedSince t 0 i b
 note_of true b = noted (since_zero b)
 note_of false f = not_noted (λ s. f (since_before s))
@@ -32,7 +32,7 @@ floor_same floor e (scalar_node p Literal x) q = absurd (true≢false q)
 floor_same floor e (scalar_node p Folded x) q = absurd (true≢false q)
 floor_same floor e (alias_node x) q = refl
 
--- what is after the events that are kept
+-- the events after the unchanged ones
 pub record AfterKept (t : List ℕ) (x z y : List EventInText) : Type 0 where
   pub after : List EventInText
   pub is : y ≡ x ++ after
@@ -61,7 +61,7 @@ module _ {t : List ℕ} where
   noted_length (kept_before r) = ap suc (noted_length r)
   noted_length (event_before n r) = ap suc (noted_length r)
 
-  -- events that are kept, one more of them, and one that is noted as it is
+  -- unchanged events, one more of them, and one that stays unchanged by its note
   pub all_kept : (x : List EventInText) → NotesFilled t (length x) x x
   all_kept [] = no_events
   all_kept (e ∷ x) = kept_before (all_kept x)

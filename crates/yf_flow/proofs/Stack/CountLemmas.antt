@@ -1,4 +1,4 @@
--- The openers that are ahead while a flow collection is read.
+-- The openers ahead while a flow collection is read.
 use Rattle.std.proofs.Common.{◌≡◌, ℕ, zero, suc, max, ◌+◌, ◌<◌, ◌≤◌, ℤ, true, cond, List, [], ◌∷◌, ◌++◌, length, Option, Some, drop, get_or, refl, ap, ◌∙◌, arith}
 use Rattle.std.proofs.lemmas.List.Elements.{All-weaker, All-same, All-push, All-pop}
 use Rattle.std.proofs.lemmas.List.Sums.{sum_by-cons, sum_by-drop_more}
@@ -24,7 +24,7 @@ use Rattle.yf_flow.specs.NodeParts.{NodeLeaf, NodeOpened, NodeFull, NodeBegun}
 use Rattle.yf_flow.specs.Depth.{openers_from, DepthCounted, AllCounted, NodeCounted, BegunCounted}
 use Rattle.yf_props.proofs.NameOrder.{properties_forward}
 
--- further on there are no more of them
+-- further on there are at most as many
 openers_drop : (t : List ℕ) (i j : ℕ) → i ≤ j → openers (drop j t) ≤ openers (drop i t)
 openers_drop [] zero zero l = omega arith
 openers_drop [] zero (suc j) l = omega arith
@@ -42,7 +42,7 @@ pub openers_later : (t : List ℕ) (i j : ℕ) → i ≤ j → openers_from t j 
 unfolding openers_from
 openers_later t i j l = openers_drop t i j l
 
--- an opener is one of them
+-- the opener at the offset is one of them
 one_more : (n : ℕ) → 1 + n ≡ suc n
 one_more n = omega arith
 
@@ -70,7 +70,7 @@ bracket_opens Sequence i u c = opener_at i 91 u (omega arith) refl c
 bracket_opens Mapping i u c = opener_at i 123 u (omega arith) refl c
 bracket_opens Pair i u c = absurd c
 
--- later the same holds of the collections
+-- the counts of the collections also bound those further on
 module _ {t : List ℕ} {total i : ℕ} where
   one_moved : (j : ℕ) → i ≤ j → (f : Frame) → DepthCounted t total i f → DepthCounted t total j f
   one_moved j l f c = let o = openers_later t i j l in let a = c.depth in let b = c.deepest in record { depth = omega arith; deepest = omega arith }
@@ -81,7 +81,7 @@ module _ {t : List ℕ} {total i : ℕ} where
   pub moved : (j : ℕ) {frames : List Frame} {top : Frame} → i ≤ j → AllCounted t total i frames top → AllCounted t total j frames top
   moved j {frames} {top} l a = record { utf8 = a.utf8; innermost = one_moved j l top a.innermost; others = below_moved j frames l a.others }
 
-  -- and of a frame that is as deep
+  -- and a frame of equal depth
   pub counted_as : {frames : List Frame} {top : Frame} (o : Frame) → o.depth ≡ top.depth → o.deepest ≡ top.deepest → AllCounted t total i frames top → AllCounted t total i frames o
   counted_as o d e a = let x = a.innermost.depth in let y = a.innermost.deepest in record { utf8 = a.utf8; innermost = record { depth = omega arith; deepest = omega arith }; others = a.others }
 
@@ -108,7 +108,7 @@ module _ {t : List ℕ} {total i : ℕ} where
       let b = All-pop (DepthCounted t total i) all frames (Some outer) e a.others in
       record { collections = record { utf8 = a.utf8; innermost = b.1; others = b.0 }; node = a.innermost.deepest }
 
--- where a node is awaited with so many collections open
+-- the counts for an awaited node with its open collections
 over_later : {t : List ℕ} {n : ℤ} {c : Ctx} {i k : ℕ} {b : Before} → NodeOver t n c i k b → i ≤ k
 over_later (bare_there e) = omega arith
 over_later (properties_there d s e) = let x = properties_forward d.derived in let y = separate_forward s.derived in omega arith

@@ -1,4 +1,4 @@
--- What the public readers give, from the node that was read within the limit.
+-- The results of the public readers, from the node that was read within the limit.
 use Rattle.std.proofs.Common.{◌≡◌, ℕ, ◌<◌, ℤ, pos, Bool, false, List, [], ◌∷◌, Option, Some, None, Result, Ok, Err, refl, sym, subst}
 use Rattle.std.specs.Str.{IsUtf8}
 use Rattle.yf_chars.specs.declared.context.Ctx.{Ctx}
@@ -56,7 +56,7 @@ module _ {t : List ℕ} {limit i j : ℕ} {c : Ctx} {part : Part} where
   key_as_flow : KeyPart t limit c i j part → FlowNodePart t limit (pos 0) c i j part
   key_as_flow (key_node json d) = derived_as d (flow_node d.derived)
 
--- what is chosen of one relation is chosen of another one that holds where it holds
+-- the chosen part of one relation is that of another, if each implies the other
 record Alike (P Q : ℕ → Part → Type 0) : Type 0 where
   to : (j : ℕ) (x : Part) → P j x → Q j x
   from : (j : ℕ) (x : Part) → Q j x → P j x

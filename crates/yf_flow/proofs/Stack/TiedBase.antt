@@ -1,4 +1,4 @@
--- The outermost collection of a node: its bracket, and what has been read once it is closed or given up.
+-- The outermost collection of a node: its bracket, and its contents after it is closed or given up.
 use Rattle.std.proofs.Common.{◌≡◌, ℕ, ◌+◌, ◌-◌, ℤ, Bool, true, List, [], ◌<◌, suc, length, None, refl, sym, ap, ◌∙◌, subst, arith}
 use Rattle.yf_chars.specs.declared.context.Ctx.{Ctx}
 use Rattle.yf_chars.specs.Text.{code}
@@ -28,7 +28,7 @@ use Rattle.yf_flow.proofs.Stack.TiedTaken.{opened_noted}
 outer_awaits : {t : List ℕ} {e i : ℕ} {n : ℤ} {c : Ctx} (sequence : Bool) → code t i ≡ opening sequence → SeparationAwaited t e sequence n c (in_flow c) i 0 (only [] 0) (i + 1)
 outer_awaits sequence b = record { past = λ k cs g. entries_opened k cs b (gap_outside g) }
 
--- after a bracket the entries of its collection are awaited, round which so many collections are open
+-- after a bracket its collection awaits entries, with `depth` open collections around it
 pub opened_awaits : {t : List ℕ} {n : ℤ} {c : Ctx} {depth limit : ℕ} {mid : Part} (w : Meaning) (begin : EventInText) (sequence : Bool) (i room : ℕ) (f : Frame) → code t i ≡ opening sequence → f.kind ≡ kind_of sequence
     → f.entry ≡ i + 1 → f.event ≡ length w.events → f.depth ≡ depth + 1 → f.deepest ≡ depth + 1 → depth < limit → depth + room ≡ limit → PartSoFar t (suc (length w.events)) (entries_written w begin (only [] 0)) mid
     → AtEntry t n (in_flow c) (record { sequence = sequence; place = i; context = c; limit = room; total = limit; written = w; event = begin }) [] f f.entry mid

@@ -1,5 +1,5 @@
--- What is found where a node is awaited: where there is none, the outermost collection is not derived; where a bracket opens a
--- collection, its entries are awaited.
+-- The beginning of an awaited node: if there is none, the outermost collection is not derived; if a bracket opens a
+-- collection, it awaits entries.
 use Rattle.std.proofs.Common.{◌≡◌, ℕ, suc, ◌+◌, ◌-◌, ℤ, Bool, false, List, [], ◌∷◌, ◌++◌, length, Option, None, refl, sym, ap, ◌∙◌, subst, arith, append-nil}
 use Rattle.yf_chars.specs.declared.context.Ctx.{Ctx}
 use Rattle.yf_chars.specs.Text.{code}
@@ -39,7 +39,7 @@ module _ {t : List ℕ} {n : ℤ} {d : Ctx} {base : Base} {frames : List Frame} 
       let z : 0 ≡ a.layer.limit = omega arith in
       all_fails a.tied.below (content_fails f.over a.tied.entries a.tied.open_there (awaited_node a.node) (subst (λ e. Parses t e (AContent n d q) None) z f.none))
 
--- within a collection, the entries of one that a bracket opens are awaited after it
+-- within a collection, one that a bracket opens awaits entries after it
 pub bracket_awaits : {t : List ℕ} {e i : ℕ} {n : ℤ} {d : Ctx} (sequence : Bool) → in_flow d ≡ d → code t i ≡ opening sequence
     → SeparationAwaited t e sequence n d d i 0 (only [] 0) (i + 1)
 bracket_awaits {t} {e} {i} {n} {d} sequence q b = record { past = λ k cs g. subst (λ z. EntriesAwaited t e sequence n d z i 0 (noting (only [] 0) cs) k) q (entries_opened k cs b g) }

@@ -1,4 +1,4 @@
--- A collection that is closed is a node of the entry round it, or the outermost one.
+-- A closed collection is a node of the entry around it, or the outermost one.
 use Rattle.std.proofs.Common.{◌≡◌, ℕ, suc, ◌+◌, ◌<◌, ℤ, Bool, true, false, List, [], ◌∷◌, ◌++◌, length, Some, None, refl, sym, ap, ◌∙◌, subst, arith, append_assoc, append-nil, reverse}
 use Rattle.std.proofs.lemmas.List.{reverse-append}
 use Rattle.yf_chars.specs.declared.context.Ctx.{Ctx}
@@ -24,12 +24,12 @@ use Rattle.yf_flow.specs.StackMeaning.{first_events, NoteFilled, entryless, Note
 use Rattle.yf_flow.proofs.Ends.NotedLemmas.{noted_more, noted_ended, edited_here}
 use Rattle.yf_flow.proofs.Stack.TiedEnds.{written_as, written_same}
 
--- where a node begins, before its content at k
+-- the start of a node, before its content at k
 abbrev pub NodeStart : Before → ℕ → ℕ → Type 0
 NodeStart Bare p k = p ≡ k
 NodeStart (Propertied q cs i g) p k = p ≡ i
 
--- what is written where a collection ends, in the role of its node
+-- the events at the end of a collection, in the role of its node
 pub ended_meaning : (role : Role) (b : Before) (s p k j : ℕ) (sequence : Bool) (x : Meaning) → NodeStart b p k
     → Same (record {
       events = ended j (opened_event p b (entry_of role s) sequence k) ∷ (x.events ++ plain_event (end_of sequence) None ∷ []);
@@ -65,7 +65,7 @@ pub entry_more : (w : Meaning) (begin : EventInText) (x : Meaning) (pair : Bool)
 entry_more w begin x pair s y m =
     sym (plus_assoc (entries_written w begin x) (ahead pair s y) m) ∙ ap (λ z. entries_written w begin x ⊕ z) (ahead_plus pair s y m)
 
--- the events round those of the entries
+-- the events around those of the entries
 pub closed_same : (w x m : Meaning) (cs : List CommentValue) (first last : EventInText) (j : ℕ)
     → Same (record { events = first ∷ (x.events ++ last ∷ []); comments = cs ++ x.comments; escapes = x.escapes; finish = j }) m
     → Same (entries_written (noting w cs) first x ⊕ one last) (w ⊕ m)
@@ -108,7 +108,7 @@ frame_depth (of_collection c) = c.room
 frame_depth (of_pair p c) = p.room
 
 module _ {t : List ℕ} {n : ℤ} {d : Ctx} {base : Base} where
-  -- the node of the entry round it
+  -- the node of the entry around it
   pub closed_into : {frames rest : List Frame} {sequence : Bool} {i e l : ℕ} {c : Ctx} {w : Meaning} {begin : EventInText} {outer : Frame} {part : Part} (node : Node) (h k : ℕ) (x : Meaning)
       → Below t n d base frames sequence i c e w begin → frames ≡ outer ∷ rest → e ≡ suc l → Parses t e (AContent n c i) (Some (ended_at sequence i h x k))
       → node.end ≡ k + 1 → node.json ≡ true → node.deepest + l ≡ base.total + h

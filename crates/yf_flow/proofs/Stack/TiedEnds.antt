@@ -23,7 +23,7 @@ use Rattle.yf_flow.specs.Leaves.{GapRead, gap_read, gap_missing, IsClosing}
 use Rattle.yf_flow.specs.StackMeaning.{NotesFilled, PartSoFar, one, entries_written, kind_of, Base, AtEntry, AtPlace, AtClosing, AtEntryEnd, NoBase}
 use Rattle.yf_flow.proofs.Stack.TiedFails.{all_fails}
 
--- what was read of a separation
+-- the comments of a separation
 pub gap_of : {t : List ℕ} {n : ℤ} {c : Ctx} {i : ℕ} {old new : List CommentValue} {gap : TheGap.FlowGap} → GapRead t n c i old new gap
     → (cs : List CommentValue) × Gap t n c i gap.end cs × (new ≡ old ++ cs)
 gap_of (gap_read s) = (s.comments, longest_gap s.chosen, s.added)
@@ -64,7 +64,7 @@ closing_visible {t} sequence k e = end_visible k (closing_end sequence (code t k
 comma_visible : {t : List ℕ} (k : ℕ) → code t k ≡ 44 → Visible t k
 comma_visible {t} k e = end_visible k (comma_end (code t k) e)
 
--- where neither a comma nor the bracket is after the separation that is left, none is after the whole
+-- if neither a comma nor the bracket is after the rest of the separation, none is after the whole
 within_open : {t : List ℕ} {n : ℤ} {d : Ctx} {j p k : ℕ} {cs ds : List CommentValue} (sequence : Bool) → Within t n d j p cs → Gap t n d p k ds → code t k ≢ closing sequence → code t k ≢ 44
     → (m : ℕ) × (es : List CommentValue) × Gap t n d j m es × (code t m ≢ closing sequence) × (code t m ≢ 44)
 within_open {k = k} {ds = ds} sequence not_yet g a b = (k, ds, g, a, b)

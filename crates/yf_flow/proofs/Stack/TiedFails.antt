@@ -1,4 +1,4 @@
--- Where a node or an entry of an open collection is not derived, the outermost collection is not.
+-- If a node or an entry of an open collection is not derived, the outermost collection is not.
 use Rattle.std.proofs.Common.{ℕ, ℤ, Bool, List, None, subst}
 use Rattle.yf_chars.specs.declared.context.Ctx.{Ctx}
 use Rattle.yf_events.specs.Event.{EventInText}

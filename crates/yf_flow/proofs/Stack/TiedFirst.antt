@@ -1,4 +1,4 @@
--- Where an entry begins: the mapping that its sign belongs to, and the node that is awaited without one.
+-- The start of an entry: the mapping of its sign, and the node that is awaited without a sign.
 use Rattle.std.proofs.Common.{◌≡◌, ◌≢◌, ℕ, suc, max, ◌+◌, ◌-◌, ◌<◌, ◌≤◌, ℤ, Bool, true, false, List, [], ◌∷◌, ◌++◌, length, None, refl, sym, ap, ◌∙◌, subst, arith, append-nil, ⊎_elim}
 use Rattle.std.proofs.lemmas.Bool.{cases_eq}
 use Rattle.yf_chars.specs.declared.context.Ctx.{Ctx}
@@ -29,7 +29,7 @@ use Rattle.yf_flow.proofs.Stack.TiedEnds.{written_same, written_noting, closes_n
 use Rattle.yf_flow.proofs.Stack.TiedFails.{all_fails}
 use Rattle.yf_flow.proofs.Stack.TiedPairs.{kind_no_pair}
 
--- a sign is no line feed
+-- a sign is not a line feed
 pub sign_no_feed : {t : List ℕ} {n : ℤ} {d : Ctx} {s p : ℕ} {cs : List CommentValue} → SignAt t n d s cs p → code t s ≢ 10
 sign_no_feed (question_there e c) q = omega arith
 sign_no_feed (colon_there c) q = let e = c.colon in omega arith
@@ -42,7 +42,7 @@ mapping_kind : (sequence : Bool) (kind : CollectionKind) → kind ≡ kind_of se
 mapping_kind true kind e q = cc
 mapping_kind false kind e q = refl
 
--- an entry begins where the bracket is not
+-- an entry begins if the bracket is not at the offset
 pub first_begun : {t : List ℕ} {n : ℤ} {d : Ctx} {base : Base} {frames : List Frame} {top : Frame} {k : ℕ} {cs : List CommentValue} {old new : Part} → AtPlace t n d base frames top k old
     → (IsClosing top.kind (code t k) → ⊥) → new.events ≡ old.events → new.comments ≡ old.comments ++ cs → new.escapes ≡ old.escapes → (o : Frame) → o.kind ≡ top.kind → o.event ≡ top.event
     → o.depth ≡ top.depth → o.deepest ≡ top.deepest → o.entry ≡ k → o.role ≡ first_role top.kind → o.entry_event ≡ length old.events → AtFirst t n d base frames o cs new
@@ -160,7 +160,7 @@ module _ {t : List ℕ} {n : ℤ} {d : Ctx} {base : Base} {frames : List Frame} 
         written = pair_added (entries_written a.before a.begin a.known) cs top.entry event a.written ne x y z;
       }
 
--- a node is awaited where the entry begins
+-- a node is awaited at the start of the entry
 first_node_in : {t : List ℕ} {n : ℤ} {d : Ctx} {s e : ℕ} (sequence : Bool) (kind : CollectionKind) → kind ≡ kind_of sequence → (code t s ≡ 63 → Stuck (Separate t n d (s + 1))) → (ColonAt t false d s → ⊥)
     → NodeIn t n d s (first_role kind) sequence e false s 0 (only [] 0)
 first_node_in {t} {n} {d} {s} {e} true kind k f g =

@@ -34,7 +34,7 @@ key_no_item e = cc
 pub value_no_item : Value ≡ Item → ⊥
 value_no_item e = cc
 
--- the key of a single pair, from what is found after the white space after it
+-- the key of a single pair, from the text after the white space that follows it
 pub key_of_pair : {t : List ℕ} {d : Ctx} {s k : ℕ} {w : List ℕ} (f : ParsedNode) → Many t is_white f.end k w → KeyThere t d s f.json k → PairKey t d s f k
 key_of_pair {w = w} f m q = record { whites = w; run = m; line = q.line.line; short = q.line.short; colon = q.colon }
 

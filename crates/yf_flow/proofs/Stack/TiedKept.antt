@@ -1,4 +1,4 @@
--- The events before the outermost collection, and the one that begins it, are kept as they are.
+-- The events before the outermost collection, and the one that begins it, stay unchanged.
 use Rattle.std.proofs.Common.{◌≡◌, ℕ, suc, ◌≤◌, ℤ, Bool, List, [], ◌∷◌, ◌++◌, length, sym, ap, ◌∙◌, subst, arith, append_assoc, append-nil, length-append}
 use Rattle.yf_chars.specs.declared.context.Ctx.{Ctx}
 use Rattle.yf_comments.specs.Comment.{CommentValue}
@@ -51,7 +51,7 @@ begin_kept {t} {w} {old} {new} cs begin p a = record {
   escapes = a.escapes ∙ append-nil old.escapes ∙ p.escapes ∙ sym (append-nil w.escapes) ∙ sym (append-nil (w.escapes ++ []));
 }
 
--- it is noted as it is
+-- its note leaves it unchanged
 pub begin_noted : {t : List ℕ} {part : Part} (w : Meaning) (begin : EventInText) (x : Meaning) (last : EventInText) → NoteFilled t begin begin
     → PartSoFar t (suc (length w.events)) (entries_written w begin x ⊕ one last) part → PartSoFar t (length w.events) (entries_written w begin x ⊕ one last) part
 unfolding ◌⊕◌

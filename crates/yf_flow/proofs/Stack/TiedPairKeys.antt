@@ -1,4 +1,5 @@
--- An item that is the key of a single pair: its event notes the `:`, and the event that begins the pair is put before it.
+-- An item that is the key of a single pair: its event notes the `:`, and the event that begins the pair is put before
+-- it.
 use Rattle.std.proofs.Common.{◌≡◌, ◌≢◌, ℕ, suc, zero, max, ◌+◌, ◌<◌, ◌≤◌, ℤ, Bool, true, List, [], ◌∷◌, ◌++◌, length, take, drop, Some, None, refl, sym, ap, ◌∙◌, subst, arith, append-nil}
 use Rattle.yf_chars.specs.declared.context.Ctx.{Ctx}
 use Rattle.yf_chars.specs.Text.{code}
@@ -38,7 +39,7 @@ coloned_events : (s v : ℕ) (x : Meaning) → (entering s (Some v) x).events �
 unfolding entering
 coloned_events s v x = refl
 
--- what an item adds
+-- the events that an item adds
 pub item_written : {t : List ℕ} {kept : ℕ} {old : Part} (w x : Meaning) (s : ℕ) → PartSoFar t kept (w ⊕ (only [] 0 ⊕ entering s None x)) old → PartSoFar t kept (w ⊕ entering s None x) old
 unfolding ◌⊕◌ only
 item_written w x s p = p
@@ -70,7 +71,7 @@ item_length w begin x (item_in a) q = nothing_length w begin x
 item_length w begin x (key_in a b) q = absurd (key_no_item q)
 item_length w begin x (value_in a b) q = absurd (value_no_item q)
 
--- an item is awaited where its entry begins
+-- an item is awaited at the start of its entry
 item_here : {t : List ℕ} {n : ℤ} {d : Ctx} {s e p g : ℕ} {role : Role} {sequence pair : Bool} {y : Meaning} → NodeIn t n d s role sequence e pair p g y → role ≡ Item → p ≡ s
 item_here (item_in a) q = refl
 item_here (key_in a b) q = absurd (key_no_item q)

@@ -1,4 +1,4 @@
--- The end of an entry, and of the single pair that it is.
+-- The end of an entry, and of its single pair if it is one.
 use Rattle.std.proofs.Common.{◌≡◌, ◌≢◌, ℕ, suc, max, ℤ, Bool, true, false, List, [], ◌∷◌, ◌++◌, length, None, refl, sym, ap, ◌∙◌, subst, arith, append_assoc, append-nil}
 use Rattle.yf_chars.specs.declared.context.Ctx.{Ctx}
 use Rattle.yf_chars.specs.Text.{code}
@@ -25,7 +25,7 @@ pub kind_no_pair : (sequence : Bool) (kind : CollectionKind) → kind ≡ kind_o
 kind_no_pair true kind e q = cc
 kind_no_pair false kind e q = cc
 
--- an entry that is no single pair
+-- an entry that is not a single pair
 wrapped_end : {t : List ℕ} {n : ℤ} {d : Ctx} {base : Base} {frames under rest : List Frame} {sequence pair : Bool} {i e h g s j k at : ℕ} {c : Ctx} {w x : Meaning} {begin : EventInText} {cs : List CommentValue}
     {top : Frame} {part : Part} (z : Meaning) → FramesOfEntry base.total sequence pair e h g (length w.events) k top rest → (top.kind ≡ Pair → ⊥)
     → Below t n d base under sequence i c (suc (with_pair pair e)) w begin → EntriesAwaited t (with_pair pair e) sequence n c d i h x s → code t s ≢ closing sequence
@@ -82,7 +82,7 @@ pair_written {t} {kept} {old} {new} w begin x z s j cs p f a b c =
     written_as (sym (plus_assoc (w ⊕ one begin) x (noting (wrapped true s z) cs)))
     (written_same (closed_same all y (noting (wrapped true s z) cs) [] (ended j (pair_event s)) (plain_event mapping_ends None) j (pair_closed s j z cs f)) r)
 
--- a single pair, whose sequence goes on
+-- a single pair, with its sequence going on
 wrapped_pair : {t : List ℕ} {n : ℤ} {d : Ctx} {base : Base} {frames under rest : List Frame} {sequence pair : Bool} {i e h g s j at : ℕ} {c : Ctx} {w x : Meaning} {begin : EventInText}
     {cs : List CommentValue} {top : Frame} {old new : Part} (z : Meaning) (last : ℕ) → FramesOfEntry base.total sequence pair e h g (length w.events) (length (entries_written w begin x).events) top rest → top.kind ≡ Pair
     → Below t n d base under sequence i c (suc (with_pair pair e)) w begin → EntriesAwaited t (with_pair pair e) sequence n c d i h x s → code t s ≢ closing sequence

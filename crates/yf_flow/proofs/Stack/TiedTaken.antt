@@ -1,4 +1,4 @@
--- What becomes of the node that is awaited, with the entry that it begins.
+-- The result of the awaited node, with the entry that it begins.
 use Rattle.std.proofs.Common.{◌≡◌, ℕ, ℤ, Bool, true, false, List, ◌∷◌, Option, refl, sym, subst}
 use Rattle.yf_chars.specs.declared.context.Ctx.{Ctx}
 use Rattle.yf_events.specs.declared.event.Entry.{Entry}

@@ -37,7 +37,7 @@ pub unseparated_gap : {t : List ℕ} {n : ℤ} {c : Ctx} {i : ℕ} {old new : Li
 unseparated_gap (gap_read s) e = absurd (true≢false e)
 unseparated_gap (gap_missing u) e = (u.none, refl, u.same)
 
--- a frame that differs in what its entry awaits
+-- a frame that differs only in the awaited part of its entry
 pub same_framed : {total e h g m k : ℕ} {sequence pair : Bool} {f : Frame} {rest : List Frame} (o : Frame) → o.kind ≡ f.kind → o.event ≡ f.event → o.depth ≡ f.depth → o.deepest ≡ f.deepest
     → FramesOfEntry total sequence pair e h g m k f rest → FramesOfEntry total sequence pair e h g m k o rest
 same_framed {e = e} {h} {g} o a b c d (of_collection f) = of_collection (record { kind = a ∙ f.kind; event = b ∙ f.event; room = ap (λ z. z + e) c ∙ f.room; deepest = d ∙ f.deepest ∙ ap (λ z. z + max h g) (sym c) })

@@ -1,4 +1,4 @@
--- Where the events of a part of a tree are among all events.
+-- The position of the events of a part of a tree among all events.
 use Rattle.std.proofs.Common.{◌≡◌, ℕ, ◌+◌, List, [], ◌∷◌, ◌++◌, length, map, Some, refl, sym, ap, ◌∙◌, append_assoc}
 use Rattle.std.specs.Prelude.{slice_get}
 use Rattle.std.proofs.lemmas.List.{length-append}
@@ -6,7 +6,7 @@ use Rattle.yf_events.specs.Event.{EventInText}
 use Rattle.yf_forms.specs.Nodes.SingleAnswers.{NodeAt}
 use Rattle.yf_events.specs.Tree.{Node, flat}
 
--- these events are from the index on
+-- these events begin at the index
 pub record Among (es ys : List EventInText) (i : ℕ) : Type 0 where
   pub before : List EventInText
   pub after : List EventInText

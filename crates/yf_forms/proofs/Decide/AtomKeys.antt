@@ -1,4 +1,4 @@
--- Whether a scalar or an alias is an implicit key depends on nothing around it.
+-- Nothing around a scalar or an alias decides whether it is an implicit key.
 use Rattle.std.proofs.Common.{◌≡◌, ℕ, true, List, refl}
 use Rattle.yf_events.specs.Tree.{NodeOffsets, Node, scalar, alias, sequence, mapping}
 use Rattle.yf_events.specs.declared.event.ScalarStyle.{ScalarStyle}

@@ -1,4 +1,4 @@
--- How many events a node has, and how many forms.
+-- The number of events of a node, and of its forms.
 use Rattle.std.proofs.Common.{◌≡◌, ℕ, suc, ◌+◌, Bool, true, false, List, [], ◌∷◌, ◌++◌, length, refl, sym, ap, ◌∙◌}
 use Rattle.std.proofs.lemmas.List.{length-append, length-replicate}
 use Rattle.yf_events.specs.Event.{EventInText, sequence_starts, sequence_ends, mapping_starts, mapping_ends}
@@ -56,6 +56,6 @@ mutual
       two_counts (forms c (key_site c.style column k) k) _ (flat k) _ (forms_count c (key_site c.style column k) k)
       (two_counts (forms c (value_site c column k v) v) _ (flat v) _ (forms_count c (value_site c column k v) v) (pairs_forms c column ps))
 
--- the same of a node in the style of the house
+-- the counts for a node in the house style
 pub node_forms : (c : LayoutSetting) (site : Site) (t : List ℕ) (m : LayoutSetting) (x : Node) → length (forms c site (styled t m x)) ≡ length (flat x)
 node_forms c site t m x = forms_count c site (styled t m x) ∙ styled_count t m x

@@ -1,4 +1,4 @@
--- The forms that are of implicit keys are those of the implicit keys of the block mappings in a normal form.
+-- The forms of implicit keys are those of the implicit keys of the block mappings in a normal form.
 use Rattle.std.proofs.Common.{◌≡◌, ℕ, zero, suc, ◌+◌, ◌<◌, Bool, true, false, ◌&&◌, List, [], ◌∷◌, ◌++◌, length, get_or, flat_map, map, refl, sym, ap, ◌∙◌, ⊎_elim, arith}
 use Rattle.std.specs.Prelude.{◌||◌, ◌==◌, replicate, if◌then◌else◌}
 use Rattle.std.proofs.lemmas.Bool.{and_parts, cases_Bool}
@@ -17,12 +17,12 @@ use Rattle.yf_events.specs.Tree.{NodeOffsets, Node, scalar, alias, sequence, map
 use Rattle.yf_forms.proofs.Decide.CountLemmas.{two_counts, forms_count}
 use Rattle.yf_forms.proofs.Decide.SettledLemmas.{settled_count, settled_key, settled_value_entries, keys_by_entries}
 
--- the index of each form, and whether it is of an implicit key
+-- the index of each form, and whether it is an implicit key's
 abbrev flags : ℕ → List Form → List (ℕ × Bool)
 flags i [] = []
 flags i (f ∷ fs) = (i, f.is_implicit) ∷ flags (i + 1) fs
 
--- one of these forms is of an implicit key, and has that index
+-- one of these forms is an implicit key's, and has that index
 abbrev any_at : ℕ → ℕ → List Form → Bool
 any_at j i fs = begins_implicit (flags i fs) j
 
@@ -243,7 +243,7 @@ documents_flags t c j i (d ∷ ds) =
     (documents_flags t c j (i + length fs) ds ∙ moved_keys i j (λ n. keys_of_documents c n (map (normal_document t c) ds)) (document_long t c d))
     ∙ sym (joined (keys c (i + 1) (root_margins c.style) n.root) (keys_of_documents c (i + length (flat_document n)) (map (normal_document t c) ds)) j)
 
--- the form at an index is of an implicit key exactly where the normal form has one there
+-- the form at an index is an implicit key's if and only if the normal form has an implicit key there
 pub implicit_there : (t : List ℕ) (r : Lists) (s : Style) (ds : List DocumentTree) (i : ℕ)
     → (get_or (stream_forms t (setting_of r s) (setting_of r s) ds) i no_form).is_implicit ≡ begins_implicit (block_keys t r s ds) i
 implicit_there t r s ds i =

@@ -26,7 +26,7 @@ use Rattle.yf_forms.proofs.Decide.SiteLemmas.{is_kept_there}
 use Rattle.yf_forms.proofs.Decide.ValueLemmas.{event_of}
 use Rattle.yf_forms.proofs.Decide.WholeLemmas.{last_one, not_last, whole_if_kept, whole_if_leaf, whole_if_last, open_if}
 
--- what the pass is given: the text, with which comments it was measured, with what it is laid out, all events, and their measures
+-- the input of the pass: the text, the comments of the measures, the layout's setting, all events, and their measures
 pub record Known : Type 0 where
   pub text : List ℕ
   pub others : List CommentValue
@@ -35,7 +35,7 @@ pub record Known : Type 0 where
   pub measures : List Measure
   pub measured : AreMeasures text (record { style = setting.style; comments = others }) events measures
 
--- with what it was measured
+-- the setting with which it was measured
 abbrev pub by_of : Known → LayoutSetting
 by_of k = record { style = k.setting.style; comments = k.others }
 
@@ -91,7 +91,7 @@ past_node g (mapping at flow props pairs) i m list stack = refl
 abbrev level_at : Known → Site → Node → LayoutFrame
 level_at k site x = record { is_map = is_map x; column = up_to_greatest site.margins.entries; key = None }
 
--- at its site, where the stack after it is that one
+-- at its site, with the stack after it
 pub record AtSite (k : Known) (x : Node) (i : ℕ) (stack follows : List LayoutFrame) (site : Site) : Type 0 where
   pub place : next_place (given_of k) (event_of x) i (measure_of k.text (by_of k) i x) stack ≡ place_of site
   pub stack_is : next_stack (given_of k) (event_of x) i (measure_of k.text (by_of k) i x) stack ≡ follows
@@ -146,14 +146,14 @@ within_open : (b : Bool) (n : ℕ) (inner : List Form) → b ≡ false → inner
 within_open true n inner e = absurd cc
 within_open false n inner e = refl
 
--- of these events between its first and its last one
+-- these events between the first and the last one
 abbrev between : EventInText → List EventInText → EventInText → List EventInText
 between first ys last = first ∷ (ys ++ (last ∷ []))
 
 between_count : (first last : EventInText) (ys : List EventInText) → length (between first ys last) ≡ length ys + 2
 between_count first last ys = let e : length (ys ++ (last ∷ [])) ≡ length ys + 1 = length-append ys (last ∷ []) in omega (arith, e)
 
--- what is known of a collection with entries
+-- the facts about a collection with entries
 record Collection (k : Known) (x : Node) (ys : List EventInText) (first last : EventInText) : Type 0 where
   flat_is : flat x ≡ between first ys last
   event : first.event ≡ event_of x
@@ -247,8 +247,9 @@ empty_passed k x first last p list stack follows site rest f v t h a l s =
     ∙ ap (run k (last ∷ rest)) (begun_whole k x p (p + length (flat x)) list stack follows site a l s (whole_if_leaf (suc p) m (is_kept_in k site x) (is_own_leaf (suc p) x h ∙ t)) done)
     ∙ skipped_within k [] rest last list (form_there k site x) follows (p + length (flat x)) (omega (arith, two, l))
 
--- The pass over the events of a node at its site notes its forms. The stack stays as it is but for what its innermost mapping waits
--- for. The last event that needs no look is the one before the node at first, and the node's last one at the end.
+-- The pass over the events of a node at its site notes its forms. The stack changes only in the key that its
+-- innermost mapping waits for. The last event that needs no look is the one before the node at first, and the node's
+-- last one at the end.
 
 moved : {es ys : List EventInText} (p n : ℕ) → Among es ys (suc p + n) → Among es ys (suc (p + n))
 moved {es} {ys} p n a = let e : suc p + n ≡ suc (p + n) = omega arith in subst (λ i. Among es ys i) e a

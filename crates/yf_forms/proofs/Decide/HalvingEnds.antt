@@ -1,4 +1,4 @@
--- Where a search by halving ends: at one index alone, and among offsets in order at the one before which they are.
+-- The end of a search by halving: only one index, and for offsets in order the one before which they are smaller.
 use Rattle.std.proofs.Common.{ap, arith, Bool, None, Option, Some, ◌∙◌, ◌≡◌, ◌+◌, ◌<◌, ◌≤◌, false, get_or, length, lit<, lit≤, List, [], ◌∷◌, map, nat_lt, refl, slice_index, subst, sym, true, zero, suc, ℕ, ⊎_elim}
 use Rattle.std.proofs.lemmas.Bool.{cases_lt}
 use Rattle.std.proofs.lemmas.Bool.Decides.{nat_tests}
@@ -25,11 +25,11 @@ one_end (before_middle a b h) (none_left c) = absurd (omega arith)
 one_end (before_middle a b h) (after_middle c d i) = absurd (omega arith)
 one_end (before_middle a b h) (before_middle c d i) = one_end h i
 
--- among offsets out of order too: 1 is before 2 and 3 after it, and 5 is not looked at
+-- also for offsets out of order: 1 is before 2 and 3 after it, and 5 is not looked at
 pub out_of_order : Halves (5 ∷ 1 ∷ 3 ∷ []) 2 0 3 2
 out_of_order = after_middle (lit< tt) (lit< tt) (before_middle (lit< tt) (lit≤ tt) (none_left (lit≤ tt)))
 
--- it ends at the index before which all offsets are smaller, where none is from it on
+-- the search ends at the index before which all offsets are smaller, if none is from it on
 ends_at : (width : ℕ) (os : List ℕ) (x low high r : ℕ) → high ≤ low + width → high ≤ length os → low ≤ r → r ≤ high
     → ((k : ℕ) → k < r → slice_index os k < x) → ((k : ℕ) → r ≤ k → k < length os → x ≤ slice_index os k) → Halves os x low high r
 ends_at zero os x low high r w l a b f g = let e : low ≡ r = omega arith in subst (λ z. Halves os x low high z) e (none_left (omega arith))
@@ -75,7 +75,7 @@ pub halved_before : (xs : List Comment) (x low high end : ℕ) (d : Comment) →
     → Halves (map (λ (c : Comment). c.offset) xs) x low (middle low high) end → Halves (map (λ (c : Comment). c.offset) xs) x low high end
 halved_before xs x low high end d n l b h = before_middle n (rw (offset_at xs (middle low high) d (omega arith)) b) h
 
--- What is found.
+-- The results.
 
 pub halved_found : (xs : List Comment) (from to k : ℕ) (d : Comment) → Halves (map (λ (c : Comment). c.offset) xs) from 0 (length xs) k
     → k < length xs → (get_or xs k d).offset < to → HalvesBetween (map (λ (c : Comment). c.offset) xs) from to (Some k)
@@ -97,7 +97,7 @@ halved_past xs from to k h l =
     let e : length (map (λ (c : Comment). c.offset) xs) ≡ length xs = length-map xs (λ (c : Comment). c.offset) in
     not_found {k = k} (rw e h) (λ b. absurd (omega arith))
 
--- What is found is one alone.
+-- The result is unique.
 
 before_both : (os : List ℕ) (to j k : ℕ) → j ≡ k → slice_index os j < to → to ≤ slice_index os k → ⊥
 before_both os to j k e l g = let f = ap (λ n. slice_index os n) e in omega arith

@@ -1,4 +1,4 @@
--- What one comment tells of those before it and after it, and a walk that finds out whether comments are in order.
+-- The order of comments around one of them, and a walk that checks whether comments are in order.
 use Rattle.std.proofs.Common.{arith, ◌≡◌, ◌+◌, ◌-◌, ◌<◌, ◌≤◌, ap, false, get_or, length, List, nat_lt, true, ℕ}
 use Rattle.std.proofs.lemmas.List.{get_or_default}
 use Rattle.std.proofs.lemmas.List.Sorted.{all_adjacent_more}

@@ -1,4 +1,4 @@
--- The first comment of a kind, as an index, as the comment itself, and as halving finds it.
+-- The first comment of a kind: as an index, as the comment itself, and by halving.
 use Rattle.std.proofs.Common.{◌≡◌, ℕ, zero, suc, ◌<◌, ◌≤◌, Bool, true, false, ◌&&◌, List, [], ◌∷◌, length, map, Option, Some, None, refl, sym, ◌∙◌, arith}
 use Rattle.std.specs.Prelude.{◌^◌, ◌-◌, ◌+◌, min, nat_lt, nat_le, find, if◌then◌else◌, is_some, option_map, MatchOption, IfSome}
 use Rattle.std.specs.List.{AllWithin, HoldsAt}
@@ -10,7 +10,7 @@ use Rattle.yf_forms.proofs.Measure.OffsetLemmas.{same_order}
 use Rattle.yf_forms.specs.NormalForms.Forms.{first_index}
 use Rattle.yf_forms.specs.Nodes.OneLineFlows.{is_within}
 
--- after an offset is from the next one on, cut or not
+-- a number after an offset is at or after the next one, cut or not
 follows : (a x to n : ℕ) → a ≤ 2 ^ 64 - 1 → to ≤ 2 ^ 64 - 1 → n ≡ min (a + 1) (2 ^ 64 - 1) → (nat_le n x && nat_lt x to) ≡ (nat_lt a x && nat_lt x to)
 follows a x to n g h e = grind (arith, nat_tests)
 
@@ -50,7 +50,7 @@ found_index : (p : CommentValue → Bool) (xs : List Comment) (r : Option ℕ) �
 found_index p xs None l h = sym (none_index p xs h)
 found_index p xs (Some k) l h = sym (some_index p xs k l h.0 h.1)
 
--- what halving finds after an offset and before another one
+-- the result of halving after an offset and before another
 pub between_is : (xs : List Comment) (from to n : ℕ) (r : Option ℕ)
     → IsNonDecreasingBy (λ (c : CommentValue). c.offset) (map comment_value xs) → from ≤ 2 ^ 64 - 1 → to ≤ 2 ^ 64 - 1 → n ≡ min (from + 1) (2 ^ 64 - 1)
     → IfSome r (λ k. k < length xs)

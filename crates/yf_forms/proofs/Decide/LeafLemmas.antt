@@ -1,4 +1,4 @@
--- Where the leaves of a node begin, by the indices of their events.
+-- The starts of the leaves of a node, by the indices of their events.
 use Rattle.std.proofs.Common.{◌≡◌, ℕ, ◌+◌, ◌<◌, Bool, true, false, ◌&&◌, List, [], ◌∷◌, ◌++◌, length, map, Option, Some, None, refl, sym, ap, ◌∙◌, arith}
 use Rattle.std.specs.Prelude.{is_some, ◌==◌, nat_lt, if◌then◌else◌, slice_get}
 use Rattle.std.proofs.lemmas.Bool.{and_parts}
@@ -97,7 +97,7 @@ last_leaf es [] (s ∷ ss) other e = absurd cc
 last_leaf es (i ∷ is) [] other e = absurd cc
 last_leaf es (i ∷ is) (s ∷ ss) other e = ap (start_or other) (last_among es i is s ss e)
 
--- a node is its own first leaf exactly where it is a leaf with characters
+-- a node is its own first leaf if and only if it is a leaf with characters
 
 abbrev pub are_above : ℕ → List ℕ → Bool
 are_above i [] = true

@@ -1,4 +1,4 @@
--- The pass puts each node where its site says.
+-- The pass gives each node the margins of its site.
 use Rattle.std.proofs.Common.{◌≡◌, ℕ, ◌+◌, Bool, true, false, not, ◌&&◌, List, Option, Some, None, refl, sym, ap, ◌∙◌, arith}
 use Rattle.std.specs.Prelude.{◌||◌, is_some, if◌then◌else◌}
 use Rattle.std.proofs.lemmas.Bool.{and_parts}
@@ -22,7 +22,7 @@ use Rattle.yf_forms.proofs.Decide.LeafLemmas.{is_own_leaf}
 use Rattle.yf_forms.proofs.Decide.SiteLemmas.{filled_room, cut_twice, is_implicit_there}
 use Rattle.yf_forms.proofs.Decide.ValueLemmas.{event_of, styled_text, styled_sequence, colon_there, key_start_there, trailing_there, same_comment}
 
--- a site in numbers that are cut
+-- a site in cut numbers
 abbrev pub place_of : Site → LayoutContext
 place_of site = record {
   column = up_to_greatest site.margins.column;
@@ -31,7 +31,7 @@ place_of site = record {
   key_comment = site.key_comment;
 }
 
--- the comment trails the key still where the value's form is settled
+-- the comment still trails the key with the value's form settled
 
 as_it_is : (cs : List CommentValue) (k v : Node) (r : Bool) (j : ℕ) → is_filled_flow v ≡ false → key_comment_index cs k v ≡ Some j
     → comment_if (is_text v || r) j ≡ key_comment_index cs k v

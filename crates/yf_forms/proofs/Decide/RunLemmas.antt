@@ -12,7 +12,7 @@ use Rattle.yf_forms.specs.NormalForms.Forms.{no_form}
 use Rattle.yf_forms.specs.NormalForms.Measures.{no_measure}
 use Rattle.yf_chars.proofs.Tests.{below, not_below}
 
--- an event that gets a look, and one that gets none
+-- an event that gets a look, and one that gets no look
 
 pub looked_at : (g : DecideInput) (ms : List Measure) (e : EventValue) (i : ℕ) (list : List Form) (stack : List LayoutFrame) (done : ℕ) → done < i → length list ≡ i
     → next g ms e (state list stack done) ≡ past g e i (get_or ms i no_measure) list stack

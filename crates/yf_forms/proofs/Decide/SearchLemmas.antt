@@ -1,4 +1,4 @@
--- Where a search among comments may begin: for the comments, and for what a reading knows of them.
+-- The start of a search among comments: for the comments, and for their values in a reading.
 use Rattle.std.proofs.Common.{arith, ◌≡◌, ◌⊎◌, ◌∙◌, ap, Bool, false, true, inl, inr, length, List, [], ◌∷◌, map, None, Option, refl, subst, sym, ℕ, ⊎_elim}
 use Rattle.std.specs.Prelude.{◌||◌, if◌then◌else◌}
 use Rattle.std.proofs.lemmas.List.{get_or-map, length-map}
@@ -35,7 +35,7 @@ pub begins_next : (cs : List CommentValue) (near next : ℕ) → StaysUnknown ne
     → MayBegin (λ (c : CommentValue). c.offset) cs next
 begins_next cs near next k m = ⊎_elim (λ u. inl (k u)) (λ s. inr s) m
 
--- What a search among them finds.
+-- The results of a search among them.
 
 same_offsets : (xs : List Comment) → map (λ (c : Comment). c.offset) xs ≡ map (λ (c : CommentValue). c.offset) (map comment_value xs)
 same_offsets [] = refl
@@ -50,7 +50,7 @@ pub halves_in_comments : (xs : List Comment) (cs : List CommentValue) (from : �
 halves_in_comments xs cs from to other o e f h =
     subst (λ os. HalvesAfter os from other o) (offsets_in xs cs e) (subst (λ t. HalvesAfter (map (λ (c : Comment). c.offset) xs) from t o) f h)
 
--- the offset before which is searched, of a leaf, of what can be kept, and of neither
+-- the offset before which the search looks: for a leaf, for a node that can be kept, and for others
 
 pub leaf_picked : (r leaf kept : Bool) (to at : Option ℕ) → r ≡ leaf → r ≡ true → to ≡ at → to ≡ (if leaf || kept then at else None)
 leaf_picked r leaf kept to at e f g = rw (sym e ∙ f) g

@@ -1,4 +1,5 @@
--- A settled node has as many events, is an implicit key where it was one, and its entries are where they was.
+-- A settled node has the same number of events, is an implicit key if it was one, and has its entries at their old
+-- columns.
 use Rattle.std.proofs.Common.{◌≡◌, ℕ, suc, ◌+◌, Bool, true, false, not, ◌&&◌, length, refl, sym, ap, ◌∙◌, ⊎_elim}
 use Rattle.std.specs.Prelude.{nat_le, if◌then◌else◌}
 use Rattle.std.proofs.lemmas.Bool.{and_parts, cases_Bool}
@@ -37,7 +38,7 @@ mutual
       two_counts (flat (settled c (key_margins c.style column k) k)) _ (flat k) _ (settled_count c (key_margins c.style column k) k)
       (two_counts (flat (settled c (value_margins c column k v) v)) _ (flat v) _ (settled_count c (value_margins c column k v) v) (settled_pairs_count c column ps))
 
--- an implicit key fits where it is
+-- an implicit key fits at its column
 
 filled_key : (s : Style) (column : ℕ) (flow : Bool) (v w : Node) → is_implicit s column v ≡ ((flow && fits s column v) && (is_implicit s column v))
     → is_implicit s column w ≡ false → is_implicit s column (if flow && fits s (key_column s column v) v then v else w) ≡ is_implicit s column v
@@ -107,7 +108,7 @@ pub settled_value_entries : (c : LayoutSetting) (column : ℕ) (k v : Node)
 settled_value_entries c column k v =
     same_entries c column (settled c (key_margins c.style column k) k) (settled c (value_margins c column k v) v) k v (settled_key c column k) (settled_sequence c (value_margins c column k v) v)
 
--- the keys in a node depend on where its entries are alone
+-- the keys in a node depend only on the column of its entries
 pub keys_by_entries : (c : LayoutSetting) (i : ℕ) (margins other : Margins) (x : Node) → margins.entries ≡ other.entries → keys c i margins x ≡ keys c i other x
 keys_by_entries c i margins other (scalar at props style text lines) e = refl
 keys_by_entries c i margins other (alias at name) e = refl

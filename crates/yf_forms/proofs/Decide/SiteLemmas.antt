@@ -1,5 +1,5 @@
--- The pass finds of a node at its site what the definitions say: whether it is kept, whether it is an implicit key, and what its key
--- and its value come to.
+-- The pass finds for a node at its site the values of the definitions: whether it is kept, whether it is an implicit
+-- key, and the margins of its key and its value.
 use Rattle.std.proofs.Common.{◌≡◌, ℕ, ◌+◌, ◌-◌, ◌≤◌, Bool, true, false, not, ◌&&◌, List, refl, ap, ◌∙◌, arith}
 use Rattle.std.specs.Prelude.{◌^◌, min, nat_lt, nat_le, if◌then◌else◌}
 use Rattle.std.proofs.lemmas.Bool.Decides.{nat_tests}
@@ -13,7 +13,7 @@ use Rattle.yf_forms.specs.NormalForms.Normal.{LayoutSetting, Margins, styled, fi
 use Rattle.yf_forms.specs.Nodes.OneLine.{width, written}
 use Rattle.yf_events.specs.Tree.{Node, scalar, alias, sequence, mapping, no_items, item, no_pairs, pair, is_filled_flow}
 
--- numbers that are cut
+-- cut numbers
 
 pub cut_room : (s : Style) (column w : ℕ) → nat_le (further (up_to_greatest column) (up_to_greatest w)) s.max_line ≡ nat_le (column + w) s.max_line
 cut_room s column w = room column w s.max_line s.max_line_to where
@@ -28,7 +28,7 @@ cut_key w = by w where
 pub cut_twice : (a b : ℕ) → further (up_to_greatest a) b ≡ up_to_greatest (a + b)
 cut_twice a b = omega arith
 
--- a flow collection with entries stays one where it may be kept
+-- a flow collection with entries stays one if it may be kept
 
 pub can_be_kept : (t : List ℕ) (m : LayoutSetting) (x : Node) → (is_filled_flow x && may_be_kept t m.comments x) ≡ is_filled_flow (styled t m x)
 can_be_kept t m (scalar at props style text lines) = refl
@@ -40,7 +40,7 @@ can_be_kept t m (mapping at flow props no_pairs) = refl
 can_be_kept t m (mapping at true props (pair k v ps)) = refl
 can_be_kept t m (mapping at false props (pair k v ps)) = refl
 
--- a node fits as its width does
+-- a node fits if its width does
 
 filled_one_line : (x : Node) → is_filled_flow x ≡ true → is_one_line x ≡ true
 filled_one_line (scalar at props style text lines) e = absurd cc
@@ -54,7 +54,7 @@ room_of : (s : Style) (column : ℕ) (x : Node) → is_one_line x ≡ true
     → has_room s (up_to_greatest column) (width_if (is_one_line x) (written s x)) ≡ fits s column x
 room_of s column x e = ap (λ b. has_room s (up_to_greatest column) (width_if b (written s x))) e ∙ cut_room s column (width (written s x))
 
--- a flow collection with entries has room where it fits
+-- a flow collection with entries has room if and only if it fits
 pub filled_room : (s : Style) (column : ℕ) (x : Node) → is_filled_flow x ≡ true
     → has_room s (up_to_greatest column) (width_if (is_one_line x) (written s x)) ≡ fits s column x
 filled_room s column x e = room_of s column x (filled_one_line x e)
@@ -67,7 +67,7 @@ is_kept_there t m margins i x = rw (can_be_kept t m x) (by (is_filled_flow (styl
   by true e = filled_room m.style margins.column (styled t m x) e
   by false e = refl
 
--- an implicit key is found by its width
+-- the width of a key decides whether it is implicit
 
 implicit_leaf : (s : Style) (column : ℕ) (text : List ℕ) (b : Bool)
     → may_be_implicit s (up_to_greatest column) false (width_if b text) ≡ (b && nat_le (width text) 1023)

@@ -1,4 +1,4 @@
--- The pass finds where the value of an implicit key is, and which comment trails the key.
+-- The pass finds the margins of an implicit key's value, and the comment that trails the key.
 use Rattle.std.proofs.Common.{◌≡◌, ℕ, Bool, true, false, not, ◌&&◌, List, [], ◌∷◌, map, Option, Some, None, refl, sym, ap, ◌∙◌}
 use Rattle.std.specs.Prelude.{◌||◌, is_some, codes, if◌then◌else◌, slice_get, nat_lt}
 use Rattle.std.specs.Str.{chars}
@@ -27,7 +27,7 @@ use Rattle.yf_forms.proofs.Decide.LeafLemmas.{node_starts, first_start, first_le
 use Rattle.yf_forms.proofs.Decide.SiteLemmas.{can_be_kept}
 use Rattle.yf_forms.proofs.Texts.OneLineRuns.{quoted_colon}
 
--- what of a node is the same in the style of the house
+-- the parts of a node that the house style doesn't change
 
 abbrev pub event_of : Node → EventValue
 event_of (scalar at props style text lines) = scalar_node props style text
@@ -166,7 +166,7 @@ trailing_there cs es t m k i x start h a e =
     ∙ ap (λ w. if is_text (styled t m x) || is_filled_flow (styled t m x) then w else None)
     (between_first cs start (leaves (styled t m x)) ∙ ap (λ n. index_between cs n (leaves (styled t m x))) e)
 
--- a comment is found as an index where it is found itself
+-- a comment is found as an index if and only if the comment itself is found
 pub same_comment : (cs : List CommentValue) (k v : Node) → is_some (key_comment_index cs k v) ≡ is_some (key_comment cs k v)
 same_comment cs k v = by (is_text v || is_filled_flow v) (leaves v) where
   by : (b : Bool) (ss : List Span)

@@ -30,7 +30,7 @@ top (x ∷ xs) n o l p g =
           ∙ ap reverse (set-append_seam s.0 s.1 [] w) ∙ reverse-append s.0 (w ∷ []);
     }
 
--- where the next node is in the innermost collection, and how that is noted there
+-- the margins of the next node in the innermost collection, and the note of it there
 
 pub placed_on_top : (g : DecideInput) (e : EventValue) (i : ℕ) (m : Measure) (xs : List LayoutFrame) (n : ℕ) (o : LayoutFrame) (p : LayoutContext)
     → n ≡ length xs → 0 < n → o ≡ get_or xs (n - 1) o → ((others : List LayoutFrame) → p ≡ next_place g e i m (o ∷ others)) → p ≡ next_place g e i m (reverse xs)

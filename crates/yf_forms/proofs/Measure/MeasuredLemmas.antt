@@ -60,7 +60,7 @@ at_seam xs ys i m e = ap (λ n. slice_get (xs ++ (m ∷ ys)) n) (sym e) ∙ here
   here [] = refl
   here (x ∷ xs) = here xs
 
--- what an event does not change
+-- the parts that an event does not change
 pub record Keeps (f g : MeasuredSoFar) : Type 0 where
   pub longer : length g.list ≡ length f.list + 1
   pub below : Below (length f.list) f.stack → Below (length g.list) g.stack

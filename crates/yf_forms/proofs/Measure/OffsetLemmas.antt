@@ -23,7 +23,7 @@ one_passes p [] k l h = absurd (omega arith)
 one_passes p (x ∷ xs) zero l h = rw (h x) refl
 one_passes p (x ∷ xs) (suc k) l h = ap (λ w. p (comment_value x) || w) (one_passes p xs k (omega arith) h) ∙ or_true (p (comment_value x))
 
--- the order is that of the offsets alone
+-- only the offsets decide the order
 pub same_order : (xs : List Comment) → IsNonDecreasingBy (λ (c : CommentValue). c.offset) (map comment_value xs) → IsNonDecreasingBy (λ (c : Comment). c.offset) xs
 same_order xs s i j d a b =
     let long : length (map comment_value xs) ≡ length xs = length-map xs comment_value in

@@ -1,4 +1,5 @@
--- The pass over the events of a node notes its measure, and those of the nodes in it, and hands it to the collection around it.
+-- The pass over the events of a node notes its measure and those of the nodes in it, and hands the node to the
+-- collection around it.
 use Rattle.std.proofs.Common.{◌≡◌, ℕ, suc, ◌+◌, ◌-◌, true, false, List, [], ◌∷◌, ◌++◌, length, set, refl, sym, ap, ◌∙◌, arith, append_assoc, append-nil}
 use Rattle.std.proofs.Math.Seq.{set-append_seam}
 use Rattle.std.proofs.lemmas.Bool.{and_parts}
@@ -62,7 +63,7 @@ mutual
       let f = pairs_length t c (i + length (flat k) + length (flat v)) ps in
       a ∙ (rw (d, e, f) (sym b))
 
--- an open collection stays where it began
+-- an open collection keeps its start
 
 items_start : (t : List ℕ) (c : LayoutSetting) (i : ℕ) (xs : Items) (o : Open) → (with_items t c i xs o).start ≡ o.start
 items_start t c i no_items o = refl

@@ -115,7 +115,7 @@ Runs t c es i list stack = (length list ≡ i) × (pass t c (drop i es) (found l
 abbrev pub Texts : List EventInText → ℕ → Type 0
 Texts es i = have_texts (drop i es) ≡ true → have_texts es ≡ true
 
--- the event at an index, by what is told of it
+-- the event at an index, by its parts
 record IsAt (es : List EventInText) (i : ℕ) (v : EventValue) (s : Option Span) : Type 0 where
   e : EventInText
   event : e.event ≡ v
@@ -146,7 +146,7 @@ runs_on t c es i v s list next stack above h k r p =
       rw add-one (ap (pass t c (drop (suc i) es)) step ∙ ap (λ w. pass t c w (found list stack)) (sym x.cut) ∙ r.1),
     )
 
--- what the event at an index is, and its place
+-- the event at an index, and its span
 pub no_place : EventInText
 no_place = record { event = stream_starts; span = None; tag_offset = None; entry = None; folded = [] }
 

@@ -21,7 +21,7 @@ use Rattle.yf_forms.proofs.Texts.WidthLemmas.{cut_both, width_join, utf8_head}
 use Rattle.yf_forms.proofs.Texts.TreeTexts.{written_utf8, colon_utf8, texts_join, pair_texts}
 use Rattle.yf_forms.proofs.ListLemmas.{three_lists}
 
--- a node as the collection around it sees it
+-- a node as seen by the collection around it
 
 abbrev pub is_alias : Node → Bool
 is_alias (scalar at props style text lines) = false
@@ -36,7 +36,7 @@ ended_of t c i x = record {
   is_alias = is_alias x;
 }
 
--- leaves in a row
+-- leaves one after another
 
 pub first_join : (is js : List ℕ) → or_else (first_of is) (first_of js) ≡ first_of (is ++ js)
 first_join [] js = refl
@@ -89,7 +89,7 @@ pub and_assoc : (a b c : Bool) → ((a && b) && c) ≡ (a && (b && c))
 and_assoc true b c = refl
 and_assoc false b c = refl
 
--- one node more: what is before it, the node, and what is after it
+-- one more node: the text before it, the node, and the text after it
 pub one_more : (b k : Bool) (y before w follows : List ℕ) → IsUtf8 y → IsUtf8 before → IsUtf8 w
     → sum_of (width_if b y) (sum_of (width_if true before) (sum_of (width_if k w) (width_if true follows)))
     ≡ width_if (b && k) (y ++ (before ++ (w ++ follows)))
@@ -100,7 +100,7 @@ one_more b k y before w follows u v z =
     ap (λ s. sum_of (width_if true before) s) e1 ∙ sum_join true k before (w ++ follows) v in
     ap (λ s. sum_of (width_if b y) s) e2 ∙ sum_join b k y (before ++ (w ++ follows)) u
 
--- collections with a node or more: the text so far, where they may be kept, and the leaves so far
+-- collections with a node or more: the text so far, if they may be kept, and the leaves so far
 abbrev pub filled : ℕ → Bool → ℕ → Bool → Bool → List ℕ → List ℕ → Open
 filled i is_map props_width is_key b y ls = record {
   start = i;
@@ -217,7 +217,7 @@ colon_filled at props Double b text lines = refl
 colon_filled at props Literal b text lines = refl
 colon_filled at props Folded b text lines = refl
 
--- a key that may be kept is no empty node, so a space is before its `:` only where it is an alias
+-- a key that may be kept is not an empty node, so a space comes before its `:` only if it is an alias
 pub kept_colon : (t : List ℕ) (c : LayoutSetting) (k : Node) → may_be_kept t c.comments k ≡ true → colon_after (styled t c k) ≡ space (is_alias k) ++ (58 ∷ [])
 kept_colon t c (scalar at props Plain [] lines) e = absurd cc
 kept_colon t c (scalar at props Plain (b ∷ text) lines) e = colon_filled at props (wanted Plain (b ∷ text) c.style) b text (lines_in (wanted Plain (b ∷ text) c.style) lines)
@@ -231,7 +231,7 @@ kept_colon t c (alias at name) e = refl
 kept_colon t c (sequence at flow props items) e = refl
 kept_colon t c (mapping at flow props pairs) e = refl
 
--- a key and its value in a row
+-- a key and its value, one after the other
 key_value : (w gap v : List ℕ) → (w ++ gap) ++ (58 ∷ 32 ∷ (v ++ [])) ≡ w ++ ((gap ++ (58 ∷ [])) ++ (32 ∷ v))
 key_value w gap v =
     append_assoc w gap _ ∙ ap (λ z. w ++ z) (ap (λ z. gap ++ (58 ∷ 32 ∷ z)) (append-nil v) ∙ sym (append_assoc gap (58 ∷ []) (32 ∷ v)))

@@ -1,4 +1,4 @@
--- The normal form made in place: one event is given its form, and the rest stays.
+-- The normal form made in place: one event gets its form, and the rest stays.
 use Rattle.std.proofs.Common.{◌≡◌, ℕ, zero, suc, ◌+◌, Bool, List, [], ◌∷◌, ◌++◌, Some, length, take, drop, get_or, map, add-one, refl, sym, ap, ◌∙◌, subst, arith, append_assoc}
 use Rattle.std.specs.Prelude.{slice_get}
 use Rattle.std.proofs.lemmas.Option.{slice_get_within, same_Some}
@@ -73,7 +73,7 @@ take_edited f [] i x e = absurd (omega (arith, slice_get_within [] i x e))
 take_edited f (y ∷ es) zero x e = ap (λ w. f w ∷ []) (same_Some _ _ e)
 take_edited f (y ∷ es) (suc i) x e = ap (λ w. y ∷ w) (take_edited f es i x e)
 
--- the event at an index of which this is known
+-- the event at an index with this value
 record Found (es : List EventInText) (i : ℕ) (v : EventValue) : Type 0 where
   placed : EventInText
   at : slice_get es i ≡ Some placed
@@ -84,7 +84,7 @@ found [] i v e = absurd (omega (arith, slice_get_within [] i v e))
 found (x ∷ es) zero v e = record { placed = x; at = refl; is = same_Some _ _ e }
 found (x ∷ es) (suc i) v e = let f = found es i v e in record { placed = f.placed; at = f.at; is = f.is }
 
--- one more event, of a list in which those before it are in their normal form
+-- one more event of a list that has the events before it in their normal form
 pub step_in_place : (q : Style) (ms : List Measure) (fs : List Form) (es after all : List EventInText) (i u v : ℕ) (event : EventValue) (m : Measure) (g : Form)
     (b : Bool) (s : ScalarStyle) → slice_get (map (λ e. e.event) es) i ≡ Some event → m ≡ get_or ms i no_measure → g ≡ get_or fs i no_form
     → v ≡ kept_until u m g → ((q : Style) → restyled_event q b event ≡ restyled_event q (is_flow_at i v m) event) → s ≡ wanted_of_event event q → after ≡ edited (formed b s) i es
@@ -107,7 +107,7 @@ step_in_place q ms fs es after all i u v event m g b s at k n w c styles is befo
 pub same_long : (f : EventInText → EventInText) (es after : List EventInText) (i : ℕ) → after ≡ edited f i es → length after ≡ length es
 same_long f es after i is = ap length is ∙ length-edited f i es
 
--- the lists, whose events alone are changed
+-- the lists, with only the events changed
 pub in_place : (q : Style) (ms : List Measure) (fs : List Form) (r before : Lists) (es : List EventInText) → before ≡ r → es ≡ normal_from q ms 0 0 fs before.events
     → IsRestyled q r (record before { events = es }) × (es ≡ normal_from q ms 0 0 fs r.events)
 in_place q ms fs r before es same e =

@@ -1,5 +1,5 @@
--- The pass that writes the events of the normal form: of a node that begins outside of collections on one line it gives the events
--- of the node with its forms settled, and within one those of the node with its styles.
+-- The pass that writes the events of the normal form: for a node outside of collections on one line it gives the
+-- events of the node with its forms settled, and within one those of the node with its styles.
 use Rattle.std.proofs.Common.{◌≡◌, ℕ, zero, suc, ◌+◌, ◌-◌, ◌<◌, ◌≤◌, Bool, true, false, not, ◌&&◌, ◌||◌, List, [], ◌∷◌, ◌++◌, length, map, replicate, get_or, Some, refl, sym, ap, ◌∙◌, subst, arith, append_assoc}
 use Rattle.std.specs.Prelude.{nat_lt, if◌then◌else◌, slice_get, drop}
 use Rattle.std.specs.List.{flat_map}
@@ -25,7 +25,7 @@ use Rattle.yf_forms.proofs.Decide.AmongLemmas.{Among, node_at, front, back, afte
 use Rattle.yf_forms.proofs.Decide.LeafLemmas.{items_above, not_first, pairs_above, same}
 use Rattle.yf_forms.proofs.NormalForms.RestyledLemmas.{restyled_length}
 
--- nothing differs but styles and brackets
+-- only styles and brackets differ
 pub pass_restyles : (q : Style) (ms : List Measure) (i u : ℕ) (fs : List Form) (es : List EventInText)
     → SameButStyles q es (normal_from q ms i u fs es)
 pass_restyles q ms i u fs [] = none_left
@@ -33,8 +33,8 @@ pass_restyles q ms i u fs (e ∷ es) =
     let v = kept_until u (get_or ms i no_measure) (get_or fs 0 no_form) in
     one_more (is_flow_at i v (get_or ms i no_measure)) (pass_restyles q ms (i + 1) v (drop 1 fs) es)
 
--- the pass makes the events ys of the events xs, which have these forms and are from the index i on; before them the last kept
--- collection ends at the index u, and after them at v
+-- the pass makes the events ys of the events xs, which have these forms and begin at the index i; before them the
+-- last kept collection ends at the index u, and after them at v
 pub record Becomes (q : Style) (ms : List Measure) (i u v : ℕ) (gs : List Form) (xs ys : List EventInText) : Type 0 where
   pub is : (fs : List Form) (es : List EventInText)
       → normal_from q ms i u (gs ++ fs) (xs ++ es) ≡ ys ++ normal_from q ms (i + length xs) v fs es
@@ -111,7 +111,7 @@ shorter xs zs i u l = let n : length (xs ++ zs) ≡ length xs + length zs = leng
 inner : (xs : List EventInText) (e z : EventInText) (i u : ℕ) → i + length (e ∷ (xs ++ (z ∷ []))) ≤ u → (i < u) × (i + 1 + length xs ≤ u)
 inner xs e z i u l = let n : length (xs ++ (z ∷ [])) ≡ length xs + 1 = length-append xs (z ∷ []) in (omega (arith, l, n), omega (arith, l, n))
 
--- what is within a collection that may be kept
+-- the nodes within a collection that may be kept
 but_first : (a x xs : Bool) → (a && x && xs) ≡ true → (x && xs) ≡ true
 but_first true x xs h = h
 but_first false x xs h = absurd cc
@@ -169,7 +169,7 @@ mutual
 
 -- Outside of collections on one line.
 
--- the same, where nothing is kept after them
+-- outside of them, with nothing kept after them
 record Outside (q : Style) (ms : List Measure) (i u : ℕ) (gs : List Form) (xs ys : List EventInText) : Type 0 where
   until : ℕ
   ended : until ≤ i + length xs
@@ -237,12 +237,12 @@ measure_at : {t : List ℕ} {c : LayoutSetting} {es : List EventInText} {ms : Li
     → get_or ms i no_measure ≡ measure_of t c i x
 measure_at {t} {c} {es} {ms} m i x a = got ms i no_measure (measure_of t c i x) (m.each i x (node_at x a))
 
--- a list of events becomes one of the same length
+-- a list of events becomes one of equal length
 same_length : {q : Style} {ms : List Measure} {i u v : ℕ} {gs : List Form} {xs ys : List EventInText} → Becomes q ms i u v gs xs ys → length ys ≡ length xs
 same_length {q} {ms} {i} {u} {v} {gs} {xs} {ys} b =
     ap length (sym (append-nil ys) ∙ sym (b.is [] [])) ∙ restyled_length (pass_restyles q ms i u (gs ++ []) (xs ++ [])) ∙ ap length (append-nil xs)
 
--- a collection with entries, whose forms say whether it is kept
+-- a collection with entries; its form says whether it is kept
 abbrev form : Bool → Site → Form
 form r site = record { is_kept = r; is_implicit = site.is_implicit; key_comment = site.key_comment; column = up_to_greatest site.margins.entries }
 
@@ -270,7 +270,7 @@ filled_mapping site at flow true props ys zs f m l o w false = block_outside (fo
 filled_mapping site at flow true props ys zs f m l o w true =
     kept_outside (form true site) _ _ refl m (ap (λ n. replicate n no_form) (same_length (w refl))) (λ b. refl) (w refl)
 
--- where a node ends, and whether it is its own first leaf
+-- the end of a node, and whether it is its own first leaf
 last_at : {t : List ℕ} {c : LayoutSetting} {es : List EventInText} {ms : List Measure} → AreMeasures t c es ms → (i : ℕ) (x : Node) → Among es (flat x) i
     → (e z : EventInText) (xs : List EventInText) → flat x ≡ e ∷ (xs ++ (z ∷ [])) → (get_or ms i no_measure).last ≡ i + 1 + length xs
 last_at {ms = ms} m i x a e z xs s =

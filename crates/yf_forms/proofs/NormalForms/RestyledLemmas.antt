@@ -1,4 +1,4 @@
--- Laws of restyled readings: they are well nested where the reading is, and have the same content.
+-- Laws of restyled readings: they are well nested if the reading is, and have its content.
 use Rattle.std.proofs.Common.{◌≡◌, ℕ, zero, suc, Bool, true, false, List, [], ◌∷◌, if◌then◌else◌, chars, Option, Some, None, length, map, refl, sym, ap, ◌∙◌}
 use Rattle.std.specs.List.{flat_map, zip}
 use Rattle.yf_lines.specs.Steady.{is_steady}
@@ -26,12 +26,12 @@ pub restyled_length : {q : Style} {es fs : List EventInText} → SameButStyles q
 restyled_length none_left = refl
 restyled_length (one_more flow r) = ap suc (restyled_length r)
 
--- all but the events is the same
+-- everything but the events is equal
 pub restyled_whole : {q : Style} (r m : Lists) → SameButStyles q r.events m.events → m.resolved ≡ r.resolved → m.comments ≡ r.comments
     → m.on_leaf_line ≡ r.on_leaf_line → m.documents ≡ r.documents → m.escapes ≡ r.escapes → IsRestyled q r m
 restyled_whole r m s a b c d e = record { events = s; rest = rw (sym a, sym b, sym c, sym d, sym e) refl }
 
--- the lists fit each other where those of the reading do
+-- the lists fit each other if those of the reading do
 pub still_fits : {q : Style} {r m : Lists} → IsRestyled q r m → ListsFit r → ListsFit m
 still_fits {q} {r} {m} s f = record {
   tags = ap (λ w. length w.resolved) s.rest ∙ f.tags ∙ sym (restyled_length s.events);
@@ -69,7 +69,7 @@ same_run {q} (one_more {e} {es} {fs} flow r) room top below =
     same_follow (move_at top e.event) room below _ _ (same_run r)
     ∙ ap (λ m. follow m room below (λ w t b. run w t b (map (λ e. e.event) fs))) (sym (same_move q flow top e.event))
 
--- where the one list is a stream, the other is
+-- if one list is a stream, the other is too
 pub still_stream : (d : ℕ) {q : Style} {r m : Lists} → IsRestyled q r m → IsStream d (events_of r) → IsStream d (events_of m)
 still_stream d s n = is_stream d _ (sym (same_run s.events d Stream []) ∙ complete n)
 
@@ -120,7 +120,7 @@ same_nodes none_left tags = refl
 same_nodes (one_more flow r) [] = refl
 same_nodes {q} (one_more {e} flow r) (tag ∷ tags) = rw (same_items q flow e.event tag, same_nodes r tags) refl
 
--- what a restyled reading says is what the reading says
+-- a restyled reading has the content of the reading
 pub same_content : {q : Style} {r m : Lists} → IsRestyled q r m → content_of m ≡ content_of r
 unfolding content_of nodes_of
 same_content {q} {r} {m} s = ap content_of s.rest ∙ ap (λ w. record { directives = (content_of r).directives; nodes = w }) (same_nodes s.events r.resolved)

@@ -1,4 +1,4 @@
--- Laws of texts without what ends them, and of the lines of a block scalar.
+-- Laws of texts without their ends, and of the lines of a block scalar.
 use Rattle.std.proofs.Common.{◌≡◌, ◌≢◌, ℕ, zero, suc, ◌+◌, ◌-◌, ◌<◌, Bool, true, false, eqb-true, ◌==◌, List, [], ◌∷◌, ◌++◌, Option, Some, None, IfSome, Result, Ok, Err, encode_utf8, flat_map, get_or, length, map, replicate, take, drop, refl, sym, ap, ◌∙◌, subst, ⊎_elim, arith, append-nil, append_assoc, if◌then◌else◌}
 use lib.Utf8.{encode}
 use Rattle.std.proofs.lemmas.Bool.{cases_eq, ne_eqb}
@@ -62,7 +62,7 @@ pub cut_none : (p : ℕ → Bool) (bs : List ℕ) (b : ℕ) → p b ≡ false �
 cut_none p [] b e = rw e refl
 cut_none p (c ∷ bs) b e = rw (none_after p (c ∷ bs) b e, cut_none p bs b e) refl
 
--- what is cut off the end leaves the same
+-- cutting off the end leaves the result unchanged
 pub same_cut : (R : List ℕ → Option ℕ → Type 0) (f : List ℕ → List ℕ) → ((m : List ℕ) (n : ℕ) → R m (Some n) → f m ≡ f (take (length m - n) m))
     → (s : List ℕ) (ns : List ℕ) (r : List ℕ) → CutsSuffixes R s ns r → f s ≡ f r
 same_cut R f one s [] r e = ap f (sym e)

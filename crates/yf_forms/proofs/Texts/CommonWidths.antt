@@ -1,4 +1,4 @@
--- Characters that are spelled by themselves in double quotes, as most are.
+-- Characters that need no escape in double quotes, as most are.
 use Rattle.std.proofs.Common.{◌≡◌, ℕ, true, ap, length}
 use Rattle.yf_chars.specs.Common.{is_common}
 use Rattle.yf_chars.specs.Escape.{spelled}

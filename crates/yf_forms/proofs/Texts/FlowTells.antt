@@ -1,4 +1,4 @@
--- The text of a flow collection from the measures of flow collections alone.
+-- The text of a flow collection from the measures of flow collections only.
 use Rattle.std.proofs.Common.{◌≡◌, ℕ, ◌+◌, true, false, List, [], ◌++◌, Some, None, length, get_or, refl, sym, ap, ◌∙◌, subst}
 use Rattle.std.proofs.lemmas.Option.{get_or_from_slice_get}
 use Rattle.yf_events.specs.Event.{EventInText}

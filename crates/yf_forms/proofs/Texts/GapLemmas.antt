@@ -1,4 +1,4 @@
--- Laws of the white space, line breaks and comments that are at the head of a list.
+-- Laws of the white space, line breaks and comments at the head of a list.
 use Rattle.std.proofs.Common.{◌≡◌, ◌≢◌, ℕ, suc, ◌+◌, ◌<◌, ◌≤◌, Bool, true, false, List, [], ◌∷◌, length, take, drop, get_or, min, max, ⊎_elim, ap, ◌∙◌, sym, subst, refl, arith, add-one, drop-cons}
 use Rattle.std.proofs.lemmas.Bool.{ne_eqb, cases_lt}
 use Rattle.std.proofs.lemmas.List.{take_min, length-take, get_or-take, drop_all}
@@ -36,7 +36,7 @@ pub gap_none : (k : Bool) (b : ℕ) (bs : List ℕ) → b ≢ 10 → b ≢ 13 �
 unfolding gap_len is_break_char is_white
 gap_none k b bs m n f s h d = rw (f, ne_eqb b 10 m, ne_eqb b 13 n, ne_eqb b 32 s, ne_eqb b 9 h, ne_eqb b 35 d) refl
 
--- the byte of that index is the first of those from it on, in the prefix of a list
+-- the byte at that index is the first of those from it on, in the prefix of a list
 pub drop_front : (xs : List ℕ) (n i : ℕ) → i < min n (length xs) → drop i (take (min n (length xs)) xs) ≡ get_or xs i 0 ∷ drop (i + 1) (take (min n (length xs)) xs)
 drop_front xs n i h =
     let ys = take (min n (length xs)) xs in
@@ -57,7 +57,7 @@ gap_over xs n i m k h e f =
     let g = ap (gap_len k) (drop_front xs n i h) ∙ f (drop (i + 1) (take (min n (length xs)) xs)) in
     omega (arith, e, g)
 
--- after the end is nothing
+-- nothing is after the end
 gap_of_none : (k : Bool) → gap_len k [] ≡ 0
 unfolding gap_len
 gap_of_none k = refl
@@ -72,7 +72,7 @@ pub past_gap_is : (t : List ℕ) (i n m : ℕ) → i + gap_len false (drop i (ta
 unfolding past_gap
 past_gap_is t i n m e = sym e ∙ ap (λ ys. i + gap_len false (drop i ys)) (take_min n t)
 
--- a pass over the gap that is at `at`, which has come to i: it ends there, or with the part of the text
+-- a pass over the gap at `at` that has come to i: it ends there, or with the part of the text
 pub gap_ends : (t bs : List ℕ) (n stop i at : ℕ) (k : Bool) → bs ≡ t → stop ≡ min n (length bs) → i < stop
     → at + gap_len false (drop at (take stop bs)) ≡ i + gap_len k (drop i (take stop bs)) → ((cs : List ℕ) → gap_len k (get_or bs i 0 ∷ cs) ≡ 0)
     → i ≡ past_gap t at n

@@ -1,4 +1,4 @@
--- Where a pass over events adds the text of a kept collection: what `kept_text_of` then is.
+-- A pass over events adds the text of a kept collection: `kept_text_of`.
 use Rattle.std.proofs.Common.{◌≡◌, ℕ, ◌+◌, ◌-◌, ◌≤◌, true, false, ◌&&◌, List, [], length, Some, None, refl, sym, ap, subst, ◌∙◌, arith, true≢false}
 use Rattle.std.specs.Prelude.{get_or}
 use Rattle.std.proofs.lemmas.Option.{get_or_from_slice_get}
@@ -13,7 +13,7 @@ use Rattle.yf_forms.proofs.Texts.OneLineRuns.{flat_filled}
 use Rattle.yf_forms.specs.NormalForms.Normal.{LayoutSetting}
 use Rattle.yf_events.specs.Tree.{Node, scalar, alias, sequence, mapping, flat, is_collection, is_filled_flow}
 
--- A kept collection's text as an answer
+-- A kept collection's text as a result
 
 filled_collection : (x : Node) → is_filled_flow x ≡ true → is_collection x ≡ true
 filled_collection (scalar at props style text lines) e = absurd (true≢false (sym e))
@@ -31,7 +31,7 @@ kept_text_some t c x es s i last new a e n l k =
 pub kept_text_none : (t : List ℕ) (c : LayoutSetting) (x : Node) → (is_filled_flow x && may_be_kept t c.comments x) ≡ false → kept_text_of t c x ≡ None
 kept_text_none t c x k = rw k refl
 
--- the same from the measure at the node's index
+-- the result from the measure at the node's index
 
 measure_at : (t : List ℕ) (c : LayoutSetting) (es : List EventInText) (ms : List Measure) (i : ℕ) (x : Node) → AreMeasures t c es ms → NodeAt es i x
     → get_or ms i no_measure ≡ measure_of t c i x

@@ -1,4 +1,4 @@
--- What the events of a flow collection add that may be kept is its text on one line.
+-- The events of a flow collection that may be kept add its text on one line.
 use Rattle.std.proofs.Common.{◌≡◌, ℕ, zero, suc, ◌+◌, ◌-◌, ◌≤◌, Bool, true, false, not, ◌&&◌, List, [], ◌∷◌, ◌++◌, chars, codes, Some, length, map, take, drop, refl, sym, ap, ◌∙◌, append_assoc, append-nil, arith, true≢false, take_at, drop_at}
 use Rattle.std.specs.Prelude.{reverse, slice_get}
 use Rattle.std.proofs.lemmas.Bool.{and_parts}
@@ -76,7 +76,7 @@ written_is t c x k =
     spaced_filled (props_text (props_of (styled t c x))) (bare c.style (styled t c x)) (node_filled t c x k)
     ∙ ap (λ p. space_after (props_text p) ++ bare c.style (styled t c x)) (same_props t c x)
 
--- and where it is a key, what is before its value is its `:`
+-- and if it is a key, its `:` comes before its value
 
 abbrev is_alias : Node → Bool
 is_alias (scalar at props style text lines) = false
@@ -172,7 +172,7 @@ pairs_inside t c at flow props x y ps k r s u stack es =
     ∙ pairs_close (codes "{") (written c.style (styled t c x)) (colon_after (styled t c x)) (codes " ") (written c.style (styled t c y)) (more_pairs c.style (styled_pairs t c ps)) (codes "}")
     (run c.style stack es)
 
--- what may be kept holds nodes that may
+-- a collection that may be kept holds nodes that may be kept
 
 pub kept_items : (t : List ℕ) (c : LayoutSetting) (at : NodeOffsets) (flow : Bool) (props : PropsValue) (x : Node) (xs : Items)
     → may_be_kept t c.comments (sequence at flow props (item x xs)) ≡ true → (may_be_kept t c.comments x ≡ true) × (items_may_be_kept t c.comments xs ≡ true)
@@ -280,7 +280,7 @@ between_node es first last x n e =
     ∙ ap (take (length (flat x))) (ap (drop first) n.is ∙ drop_at n.before (flat x ++ n.after) first n.index)
     ∙ take_at (flat x) n.after (length (flat x)) refl
 
--- so the events of one that may be kept add its text
+-- so the events of a collection that may be kept add its text
 pub kept_run : (t : List ℕ) (c : LayoutSetting) (x : Node) (es : List EventInText) (first last : ℕ) → NodeAt es first x
     → last + 1 ≡ first + length (flat x) → is_collection x ≡ true → may_be_kept t c.comments x ≡ true → run c.style [] (between first last es) ≡ bare c.style (styled t c x)
 kept_run t c x es first last n e b k =
@@ -313,7 +313,7 @@ run_step q stack next k last es v old new all h l a n i =
     rw (e1, e2) (append_assoc old (added q stack one.0.event) (run q (next_open stack one.0.event) (between (k + 1) last es))
     ∙ ap (λ w. old ++ run q stack w) (sym one.1) ∙ i)
 
--- nothing is left after the last one, nor past the end
+-- nothing is left after the last one or past the end
 pub run_end : (q : Style) (stack : List Expected) (k last : ℕ) (es : List EventInText) (old all : List ℕ) → last + 1 ≤ k
     → old ++ run q stack (between k last es) ≡ all → old ≡ all
 unfolding run

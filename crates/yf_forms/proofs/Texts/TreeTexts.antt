@@ -1,4 +1,4 @@
--- The texts of a node are UTF-8 where those of its events are.
+-- The texts of a node are UTF-8 if those of its events are.
 use Rattle.std.proofs.Common.{◌≡◌, ℕ, true, ◌&&◌, List, [], ◌∷◌, ◌++◌, refl}
 use Rattle.std.specs.Str.{IsUtf8, is_utf8}
 use Rattle.std.proofs.lemmas.Bool.{and_parts}
@@ -14,7 +14,7 @@ use Rattle.yf_events.specs.Tree.{Node, scalar, alias, sequence, mapping, Items, 
 use Rattle.yf_forms.specs.Nodes.ScalarStyles.{wanted}
 use Rattle.yf_forms.proofs.Texts.WidthLemmas.{utf8_head, utf8_spaced, single_utf8, double_utf8}
 
--- events in a row
+-- events one after another
 pub texts_join : (xs ys : List EventInText) → have_texts (xs ++ ys) ≡ true → (have_texts xs ≡ true) × (have_texts ys ≡ true)
 texts_join [] ys e = (refl, e)
 texts_join (x ∷ xs) ys e =

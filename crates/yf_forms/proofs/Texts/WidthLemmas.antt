@@ -40,7 +40,7 @@ cut_first a b = cut_first_at _ a b
 pub not_cut : (a : ℕ) → a < 2 ^ 64 → up_to_greatest a ≡ a
 not_cut a l = cut_at_most _ a (omega arith)
 
--- texts in a row
+-- texts one after another
 
 pub width_join : (x y : List ℕ) → IsUtf8 x → width (x ++ y) ≡ width x + width y
 width_join x y u = ap length (chars-append x y u) ∙ length-append (chars x) (chars y)
@@ -202,7 +202,7 @@ one_counted f cs c w v e g =
     ap length (flat_map-append f cs (c ∷ [])) ∙ length-append (flat_map f cs) (flat_map f (c ∷ [])) ∙ ap (λ xs. length (flat_map f cs) + length xs) last in
     g ∙ more_at _ 2 (length (flat_map f cs)) w (length (f c)) e ∙ ap (λ n. up_to_greatest (2 + n)) (sym both)
 
--- how long a spelling is
+-- the length of a spelling
 
 pub by_letter : (c : ℕ) → is_some (short_name c) ≡ true → length (spelled c) ≡ 2
 by_letter c e = go (short_name c) refl e where
@@ -227,7 +227,7 @@ by_four c n e f = ap length (not_by_letter c n ∙ spelled_four c e f)
 pub by_itself : (c : ℕ) → is_some (short_name c) ≡ false → is_by_two c ≡ false → is_by_four c ≡ false → length (spelled c) ≡ 1
 by_itself c n e f = ap length (not_by_letter c n ∙ spelled_self c e f)
 
--- where hidden characters are escaped
+-- with hidden characters escaped
 pub by_few : (c : ℕ) → is_spelled_out c ≡ true → c < 0x10000 → length (spelled_out c) ≡ 6
 unfolding two_digits
 by_few c e l = ap length (spelled_apart c e ∙ few_digits c l)

@@ -1,4 +1,4 @@
--- The text of a flow collection that may be kept on one line, from the measures of flow collections alone.
+-- The text of a flow collection that may be kept on one line, from the measures of flow collections only.
 use Rattle.std.specs.Prelude.{◌≡◌, ℕ, true, if◌then◌else◌, List, [], Option, Some, None}
 use Rattle.yf_events.specs.Event.{EventInText}
 use Rattle.yf_events.specs.Tree.{Node}
@@ -10,12 +10,12 @@ use Rattle.yf_forms.specs.NormalForms.Measures.{AreMeasures}
 use Rattle.yf_forms.specs.NormalForms.Normal.{LayoutSetting}
 use Rattle.yf_forms.specs.Passes.OneLinePass.{between, run}
 
--- what is answered of the flow collection that the event at an index begins, whatever text was measured
+-- the result for the flow collection that the event at an index begins, for any measured text
 pub record TellsFlow (es : List EventInText) (s : Style) (ms : List Measure) (i : ℕ) (answer : Option (List ℕ)) : Type 0 where
   pub tells : (t : List ℕ) (c : LayoutSetting) → c.style ≡ s → AreMeasures t c (flows_alone 0 es) ms → (x : Node) → NodeAt es i x → is_flow x ≡ true
       → answer ≡ kept_text_of t c x
 
--- what is answered whatever was measured: the text of the events from an index to the last of the measure there, where it says that
--- they may be kept
+-- the result for any measures: the text of the events from an index to the last one of the measure there, if the
+-- measure allows keeping it
 abbrev pub text_measured : Style → List EventInText → ℕ → Measure → Option (List ℕ)
 text_measured house es i m = if m.can_be_kept then Some (run house [] (between i m.last es)) else None

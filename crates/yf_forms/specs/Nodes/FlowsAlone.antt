@@ -1,4 +1,4 @@
--- The events of a reading of which those outside of its flow collections say nothing.
+-- The events of a reading, with those outside of its flow collections replaced by events that mean nothing.
 use Rattle.std.specs.Prelude.{ℕ, zero, suc, Bool, false, not, if◌then◌else◌, List, [], ◌∷◌, Option, None}
 use Rattle.yf_events.specs.Event.{EventValue, EventInText, sequence_starts, sequence_ends, mapping_starts, mapping_ends, stream_starts}
 use Rattle.yf_events.specs.Tree.{Node, scalar, alias, sequence, mapping}
@@ -19,7 +19,7 @@ abbrev pub one_less : ℕ → ℕ
 one_less zero = zero
 one_less (suc d) = d
 
--- how many collections are open after an event of a flow collection
+-- the number of open collections after an event of a flow collection
 abbrev pub depth_after : ℕ → EventValue → ℕ
 depth_after d (sequence_starts flow props) = suc d
 depth_after d (mapping_starts flow props) = suc d
@@ -27,7 +27,7 @@ depth_after d sequence_ends = one_less d
 depth_after d mapping_ends = one_less d
 depth_after d _ = d
 
--- whether an event is outside of all flow collections, and begins none
+-- whether an event is outside of all flow collections and begins none
 abbrev pub is_outside : ℕ → EventValue → Bool
 is_outside zero e = not (begins_flow e)
 is_outside (suc d) e = false
@@ -48,7 +48,7 @@ abbrev pub flows_alone : ℕ → List EventInText → List EventInText
 flows_alone d [] = []
 flows_alone d (e ∷ es) = seen d e ∷ flows_alone (next_depth d e.event) es
 
--- how many are open after all these events
+-- the number of open collections after all these events
 abbrev pub depths : ℕ → List EventInText → ℕ
 depths d [] = d
 depths d (e ∷ es) = depths (next_depth d e.event) es

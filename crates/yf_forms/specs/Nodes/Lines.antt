@@ -1,4 +1,4 @@
--- Lines of text: their end, and a comment at their end.
+-- Lines of text: their ends, and comments at their ends.
 use Rattle.std.specs.Prelude.{ℕ, Bool, true, false, if◌then◌else◌, List, [], ◌∷◌, ◌++◌}
 use Rattle.std.specs.List.{list_all}
 use Rattle.yf_chars.specs.Class.{is_white}
@@ -11,7 +11,7 @@ is_empty_text (b ∷ bs) = false
 abbrev pub ended : List ℕ → List ℕ
 ended text = text ++ (10 ∷ [])
 
--- a comment's text without the white space that ends it
+-- a comment's text without the white space at its end
 abbrev pub trimmed : List ℕ → List ℕ
 trimmed [] = []
 trimmed (b ∷ bs) = if list_all is_white (b ∷ bs) then [] else b ∷ trimmed bs

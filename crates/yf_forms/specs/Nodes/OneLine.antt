@@ -1,4 +1,4 @@
--- The text of a node that is written on one line.
+-- The text of a node on one line.
 use Rattle.std.specs.Prelude.{ℕ, List, [], ◌∷◌, ◌++◌, chars, codes, length, Option, Some, None}
 use Rattle.yf_props.specs.Props.{PropsValue, TagValue}
 use Rattle.yf_props.specs.Props.TagValue.{IsVerbatim, IsShort, IsNonSpecific}
@@ -8,17 +8,17 @@ use Rattle.yf_events.specs.declared.event.ScalarStyle.TheVariants.{Plain, Single
 use Rattle.yf_forms.specs.declared.style.Style.{Style}
 use Rattle.yf_events.specs.Tree.{Node, scalar, alias, sequence, mapping, Items, no_items, item, Pairs, no_pairs, pair, props_of}
 
--- how many characters a text has
+-- the number of characters of a text
 abbrev pub width : List ℕ → ℕ
 width text = length (chars text)
 
--- two parts with one space between them, where neither is missing
+-- two parts with one space between them, if both have characters
 abbrev pub spaced : List ℕ → List ℕ → List ℕ
 spaced [] y = y
 spaced (b ∷ x) [] = b ∷ x
 spaced (b ∷ x) (c ∷ y) = (b ∷ x) ++ (32 ∷ c ∷ y)
 
--- a part with the space that is between it and one before it, or one after it
+-- a part with the space between it and the part before it, or the part after it
 abbrev pub space_before : List ℕ → List ℕ
 space_before [] = []
 space_before (c ∷ y) = 32 ∷ c ∷ y
@@ -27,7 +27,7 @@ abbrev pub space_after : List ℕ → List ℕ
 space_after [] = []
 space_after (b ∷ x) = (b ∷ x) ++ 32 ∷ []
 
--- properties are spelled as they were read, the anchor before the tag
+-- properties are written as they were read, the anchor before the tag
 abbrev pub anchor_text : Option (List ℕ) → List ℕ
 anchor_text None = []
 anchor_text (Some name) = 38 ∷ name
@@ -49,7 +49,7 @@ scalar_text s Double text = double_bytes_in s.invisible (chars text)
 scalar_text s Literal text = []
 scalar_text s Folded text = []
 
--- the `:` after a key; before it is a space where it would be read as a part of the key: after an alias, and after
+-- the `:` after a key, with a space before it if it would be read as a part of the key: after an alias, and after
 -- properties without a text
 abbrev pub colon_after_props : List ℕ → List ℕ
 colon_after_props [] = codes ":"
@@ -60,8 +60,8 @@ colon_after (scalar at props Plain [] lines) = colon_after_props (props_text pro
 colon_after (alias at name) = codes " :"
 colon_after x = codes ":"
 
--- the text of a node without its properties; a flow collection from bracket to bracket, with one space after each comma and
--- each `:`, and a single pair as a mapping
+-- the text of a node without its properties; a flow collection from bracket to bracket, with one space after each
+-- comma and each `:`, and a single pair as a mapping
 abbrev mutual
   pub bare : Style → Node → List ℕ
   bare s (scalar at props style text lines) = scalar_text s style text
@@ -83,6 +83,6 @@ abbrev mutual
       codes ", " ++ (spaced (props_text (props_of k)) (bare s k) ++ (colon_after k ++ (codes " " ++ (spaced (props_text (props_of v)) (bare s v)
       ++ more_pairs s ps))))
 
--- the same with its properties
+-- the text of a node with its properties
 abbrev pub written : Style → Node → List ℕ
 written s x = spaced (props_text (props_of x)) (bare s x)

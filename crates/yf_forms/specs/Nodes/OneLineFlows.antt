@@ -1,4 +1,4 @@
--- Which flow collections may be written on one line, wherever they are: those between whose brackets no comment is, and
+-- The flow collections that may be written on one line at any column: those without a comment between their brackets
 -- that hold no empty scalar, and only aliases, empty collections, quoted scalars and plain scalars that stay plain.
 use Rattle.std.specs.Prelude.{ℕ, Bool, true, false, not, ◌&&◌, nat_lt, nat_le, List, [], ◌∷◌, Option, Some, None}
 use Rattle.std.specs.List.{list_any}
@@ -11,12 +11,12 @@ use Rattle.yf_events.specs.declared.event.Span.{Span}
 use Rattle.yf_forms.specs.Nodes.ContentStart.{content_start}
 use Rattle.yf_events.specs.Tree.{Node, scalar, alias, sequence, mapping, Items, no_items, item, Pairs, no_pairs, pair}
 
--- a comment is from one offset on, and before another one
+-- a comment is at or after one offset, and before another
 abbrev pub is_within : ℕ → ℕ → CommentValue → Bool
 is_within from to c = nat_le from c.offset && nat_lt c.offset to
 
--- a comment is between the brackets of a collection with these properties; of a single pair, between its beginning and its
--- end
+-- a comment is between the brackets of a collection with these properties, or between the start and the end of a
+-- single pair
 abbrev pub has_comment : List ℕ → List CommentValue → Option Span → PropsValue → Bool
 has_comment t cs None props = false
 has_comment t cs (Some span) props = list_any (is_within (content_start t span props) span.end) cs
@@ -30,7 +30,7 @@ scalar_may_be_kept Double text = true
 scalar_may_be_kept Literal text = false
 scalar_may_be_kept Folded text = false
 
--- whether a node may be a flow collection on one line, or are within one: t is the text, cs are its comments
+-- whether a node may be a flow collection on one line, or within one; t is the text, cs are its comments
 abbrev mutual
   pub may_be_kept : List ℕ → List CommentValue → Node → Bool
   may_be_kept t cs (scalar at props style text lines) = scalar_may_be_kept style text

@@ -27,13 +27,14 @@ begins_bare [] = false
 begins_bare (e ∷ []) = false
 begins_bare (e ∷ f ∷ es) = is_unmarked f.event
 
--- the comment is after the beginning of the first document, and before the first leaf with characters and the second document
+-- the comment is after the beginning of the first document, and before the first leaf with characters and the second
+-- document
 abbrev pub leads : Lists → CommentValue → Bool
 leads r c = (documents_before r c.offset == 1) && (leaves_before r c.offset == 0)
 
 abbrev pub has_lead : Lists → Bool
 has_lead r = list_any (leads r) r.comments
 
--- where the style keeps it so, and no comment would be moved out of the document
+-- the style keeps it so, and no comment would be moved out of the document
 abbrev pub is_bare : Lists → Style → Bool
 is_bare r s = keeps_starts s && (begins_bare r.events && not (has_lead r))

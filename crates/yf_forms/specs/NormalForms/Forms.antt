@@ -1,5 +1,5 @@
--- Which form each node of a reading is given: whether it is a flow collection on one line, whether it is an implicit key, which
--- comment trails its key, and where its entries are. Columns are cut at the greatest number that they are given by.
+-- The form of each node of a reading: whether it is a flow collection on one line, whether it is an implicit key, the
+-- comment that trails its key, and the column of its entries. Columns are cut at the greatest `usize`.
 use Rattle.std.specs.Prelude.{◌≡◌, ℕ, Bool, true, false, not, is_some, ◌&&◌, ◌||◌, nat_lt, if◌then◌else◌, List, [], ◌∷◌, ◌++◌, length, replicate, flat_map, option_map, suc, Option, Some, None}
 use Rattle.std.specs.List.Sorted.{IsNonDecreasingBy}
 use Rattle.yf_comments.specs.Comment.{CommentValue}
@@ -27,13 +27,13 @@ abbrev pub index_between : List CommentValue → ℕ → List Span → Option �
 index_between cs from [] = None
 index_between cs from (s ∷ ss) = first_index (λ c. nat_lt from c.offset && nat_lt c.offset s.start) cs
 
--- of the comment that trails an implicit key before this value
+-- the index of the comment that trails an implicit key before this value
 abbrev pub key_comment_index : List CommentValue → Node → Node → Option ℕ
 key_comment_index cs k v = if is_text v || is_filled_flow v then index_between cs (key_start k) (leaves v) else None
 
 -- Sites.
 
--- where a node is, and what it is there
+-- the margins of a node, and its role
 pub record Site : Type 0 where
   pub margins : Margins
   -- whether it is an implicit key
@@ -47,7 +47,7 @@ site_at margins = record { margins = margins; is_implicit = false; key_comment =
 abbrev pub key_site : Style → ℕ → Node → Site
 key_site s column k = record { margins = key_margins s column k; is_implicit = is_implicit s column k; key_comment = None }
 
--- a comment trails an implicit key where the value's form is settled so
+-- a comment trails an implicit key, with the value's form settled
 abbrev pub value_comment : LayoutSetting → ℕ → Node → Node → Option ℕ
 value_comment c column k v =
     if is_implicit c.style column k then key_comment_index c.comments k (settled c (value_margins c column k v) v) else None
@@ -58,14 +58,15 @@ value_site c column k v =
 
 -- Forms.
 
--- what an event is given that begins no node, or one within a collection on one line
+-- the form of an event that begins no node, or a node within a collection on one line
 abbrev pub no_form : Form
 no_form = record { is_kept = false; is_implicit = false; key_comment = None; column = 0 }
 
 abbrev pub is_kept_at : Style → Margins → Node → Bool
 is_kept_at s margins x = is_filled_flow x && fits s margins.column x
 
--- of a node whose scalars have their styles, and whose flow collections with entries are those that may be kept
+-- the form of a node with the styles of its scalars, and with flow collections with entries for those that may be
+-- kept
 abbrev pub form_of : Style → Site → Node → Form
 form_of s site x = record {
   is_kept = is_kept_at s site.margins x;
@@ -74,7 +75,7 @@ form_of s site x = record {
   column = up_to_greatest site.margins.entries;
 }
 
--- the forms of so many events within a collection, where it is kept on one line and where it is not
+-- the forms of the events within a collection, if it is kept on one line and if it is not
 abbrev pub forms_within : Bool → ℕ → List Form → List Form
 forms_within true count inner = replicate count no_form
 forms_within false count inner = inner
@@ -93,7 +94,7 @@ abbrev mutual
       ∷ (forms_within (is_kept_at c.style site.margins (mapping at flow props pairs)) (length (flat_pairs pairs))
       (forms_of_pairs c site.margins.entries pairs) ++ (no_form ∷ []))
 
-  -- in a block collection whose entries are at that column
+  -- the forms in a block collection with entries at that column
   pub forms_of_items : LayoutSetting → ℕ → Items → List Form
   forms_of_items c column no_items = []
   forms_of_items c column (item x xs) = forms c (site_at (inner_margins c.style column)) x ++ forms_of_items c column xs
@@ -103,8 +104,8 @@ abbrev mutual
   forms_of_pairs c column (pair k v ps) =
       forms c (key_site c.style column k) k ++ (forms c (value_site c column k v) v ++ forms_of_pairs c column ps)
 
--- The forms of the events of a stream of these documents, whose scalars get the style of the house; m says with which comments the
--- reading was measured, and t is the text.
+-- The forms of the events of a stream of these documents, with the scalars in the house style; m has the comments
+-- with which the reading was measured, and t is the text.
 
 abbrev pub document_forms : List ℕ → LayoutSetting → LayoutSetting → DocumentTree → List Form
 document_forms t m c d = no_form ∷ (forms c (site_at (root_margins c.style)) (styled t m d.root) ++ (no_form ∷ []))
@@ -112,8 +113,8 @@ document_forms t m c d = no_form ∷ (forms c (site_at (root_margins c.style)) (
 abbrev pub stream_forms : List ℕ → LayoutSetting → LayoutSetting → List DocumentTree → List Form
 stream_forms t m c ds = no_form ∷ (flat_map (document_forms t m c) ds ++ (no_form ∷ []))
 
--- What holds of the trees of texts: an alias and an empty collection have characters, and a scalar has none exactly where it is an
--- empty node, which is plain, empty and without properties.
+-- The property of the trees of texts: an alias and an empty collection have characters, and a scalar has none if and
+-- only if it is an empty node, which is plain, empty and without properties.
 
 abbrev pub is_nothing : List ℕ → Bool
 is_nothing [] = true
@@ -151,8 +152,9 @@ abbrev pub documents_are_placed : List DocumentTree → Bool
 documents_are_placed [] = true
 documents_are_placed (d ∷ ds) = is_placed d.root && documents_are_placed ds
 
--- Decisions: these are the forms of the events of the reading r in the house style s, if its comments ascend and its trees are placed
--- as those of texts are. Whatever text and comments it was measured with in that style, the widths ms say how its scalars are written.
+-- Decisions: these are the forms of the events of the reading r in the house style s, if its comments ascend and its
+-- trees are placed like those of texts. The text and the comments of the measures ms may be any, in that style; ms
+-- gives the widths of its scalars.
 pub record AreForms (r : Lists) (s : Style) (ms : List Measure) (fs : List Form) : Type 0 where
   pub are : IsNonDecreasingBy (λ c. c.offset) r.comments → (t : List ℕ) (cs : List CommentValue) (ds : List DocumentTree) → TreesOf r ds
       → documents_are_placed ds ≡ true → AreMeasures t (record { style = s; comments = cs }) r.events ms

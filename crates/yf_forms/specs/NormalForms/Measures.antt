@@ -1,5 +1,5 @@
--- What is found of each node of a reading: where it ends, how wide it is on one line, and where its leaves are. Widths are
--- numbers of characters, cut at the greatest number that they are given by.
+-- The measure of each node of a reading: its end, its width on one line, and its leaves. Widths are numbers of
+-- characters, cut at the greatest `usize`.
 use Rattle.std.specs.Prelude.{◌≡◌, ℕ, ◌+◌, ◌-◌, ◌^◌, min, ◌==◌, Bool, true, false, ◌&&◌, is_some, if◌then◌else◌, List, [], ◌∷◌, ◌++◌, length, slice_get, Option, Some, None}
 use Rattle.yf_events.specs.Event.{EventInText}
 use Rattle.yf_events.specs.declared.event.ScalarStyle.{ScalarStyle}
@@ -12,11 +12,11 @@ use Rattle.yf_forms.specs.NormalForms.Normal.{LayoutSetting, styled}
 use Rattle.yf_forms.specs.Nodes.OneLine.{width, scalar_text, written}
 use Rattle.yf_events.specs.Tree.{Node, scalar, alias, sequence, mapping, Items, no_items, item, Pairs, no_pairs, pair, flat, is_filled_flow}
 
--- a number, or the greatest of a `usize` where it is greater
+-- a number, or the greatest `usize` if the number is greater
 abbrev pub up_to_greatest : ℕ → ℕ
 up_to_greatest n = min n (2 ^ 64 - 1)
 
--- how many characters a text has, where it is written on one line
+-- the number of characters of a text, if it is written on one line
 abbrev pub width_if : Bool → List ℕ → Option ℕ
 width_if true text = Some (up_to_greatest (width text))
 width_if false text = None
@@ -29,16 +29,16 @@ is_one_line_style Double = true
 is_one_line_style Literal = false
 is_one_line_style Folded = false
 
--- how many characters a scalar has in that style
+-- the number of characters of a scalar in that style
 abbrev pub scalar_width : Style → ScalarStyle → List ℕ → Option ℕ
 scalar_width s style text = width_if (is_one_line_style style) (scalar_text s style text)
 
--- two widths with a space between them, where neither part is missing
+-- two widths with a space between them, if both parts have characters
 abbrev pub joined_width : ℕ → ℕ → ℕ
 joined_width one other = if one == 0 then other else (if other == 0 then one else up_to_greatest (one + other + 1))
 
--- whether a node is written on one line, whose scalars have their styles, and whose filled flow collections are those that may be
--- kept
+-- whether a node is written on one line, with the styles of its scalars, and with filled flow collections for those
+-- that may be kept
 abbrev pub is_one_line : Node → Bool
 is_one_line (scalar at props style text lines) = is_one_line_style style
 is_one_line (alias at name) = true
@@ -47,8 +47,8 @@ is_one_line (sequence at flow props (item x xs)) = flow
 is_one_line (mapping at flow props no_pairs) = true
 is_one_line (mapping at flow props (pair k v ps)) = flow
 
--- the indices of the events that begin the leaves with characters in a node, in order; the event at index i begins the node. An
--- alias and an empty collection have characters
+-- the indices of the events that begin the leaves with characters in a node, in order; the event at index i begins
+-- the node. An alias and an empty collection have characters
 abbrev mutual
   pub leaf_indices : ℕ → Node → List ℕ
   leaf_indices i (scalar at props style text lines) = if is_some at.span then i ∷ [] else []
@@ -88,7 +88,7 @@ measure_of t c i x = record {
   last_leaf = last_of (leaf_indices i x);
 }
 
--- what an event is given that begins no node, and an index past the end
+-- the measure of an event that begins no node, and of an index past the end
 abbrev pub no_measure : Measure
 no_measure = record { last = 0; width = None; can_be_kept = false; first_leaf = None; last_leaf = None }
 
@@ -96,10 +96,11 @@ no_measure = record { last = 0; width = None; can_be_kept = false; first_leaf = 
 pub record AreMeasures (t : List ℕ) (c : LayoutSetting) (es : List EventInText) (ms : List Measure) : Type 0 where
   pub each : (i : ℕ) (x : Node) → NodeAt es i x → slice_get ms i ≡ Some (measure_of t c i x)
 
--- What is answered of the node that the event at an index begins: its text on one line, where it is a collection that may be kept.
+-- The result for the node that the event at an index begins: its text on one line, if it is a collection that may be
+-- kept.
 pub record IsKeptText (t : List ℕ) (c : LayoutSetting) (es : List EventInText) (i : ℕ) (answer : Option (List ℕ)) : Type 0 where
   pub is : (x : Node) → NodeAt es i x → answer ≡ kept_text_of t c x
 
--- the same from measures, whatever text they are of
+-- the result from measures, for any text that they measure
 pub record TellsKept (es : List EventInText) (s : Style) (ms : List Measure) (i : ℕ) (answer : Option (List ℕ)) : Type 0 where
   pub tells : (t : List ℕ) (c : LayoutSetting) → c.style ≡ s → AreMeasures t c es ms → IsKeptText t c es i answer

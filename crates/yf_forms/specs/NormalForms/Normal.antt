@@ -1,5 +1,5 @@
--- The normal form of a reading: the style of each scalar, and which flow collections are written on one line. Columns count
--- from 0, in characters.
+-- The normal form of a reading: the style of each scalar, and the flow collections on one line. Columns count from 0,
+-- in characters.
 use Rattle.std.specs.Prelude.{◌≡◌, ℕ, ◌+◌, Bool, true, false, not, is_some, ◌&&◌, ◌||◌, nat_lt, nat_le, if◌then◌else◌, List, [], ◌∷◌, map, find, Option, Some, None}
 use Rattle.yf_comments.specs.Comment.{CommentValue}
 use Rattle.yf_events.specs.declared.event.Entry.{Entry}
@@ -12,14 +12,15 @@ use Rattle.yf_forms.specs.Nodes.OneLine.{width, written, colon_after}
 use Rattle.yf_events.specs.Tree.{Node, scalar, alias, sequence, mapping, Items, no_items, item, Pairs, no_pairs, pair, DocumentTree, TreesOf, flat_stream, standing, leaves, is_text, is_filled_flow, is_sequence}
 use Rattle.yf_forms.specs.Nodes.ScalarStyles.{lines_in, wanted}
 
--- what the layout depends on beside a reading's trees: the settings, and the comments
+-- the input of the layout besides a reading's trees: the settings, and the comments
 pub record LayoutSetting : Type 0 where
   pub style : Style
   pub comments : List CommentValue
 
--- Styles, and which flow collections may be kept on one line wherever they are.
+-- Styles, and the flow collections that may be kept on one line at any column.
 
--- each scalar in the style of the house, with its lines where it is folded; a collection stays a flow collection where it is empty, or may be kept
+-- each scalar in the house style, with its lines if it is folded; a collection stays a flow collection if it is empty
+-- or may be kept
 abbrev mutual
   pub styled : List ℕ → LayoutSetting → Node → Node
   styled t c (scalar at props style text lines) =
@@ -38,28 +39,29 @@ abbrev mutual
   styled_pairs t c no_pairs = no_pairs
   styled_pairs t c (pair k v ps) = pair (styled t c k) (styled t c v) (styled_pairs t c ps)
 
--- Columns. From here on a node is one whose scalars have their styles, and whose flow collections with entries are those that
+-- Columns. From here on the scalars of a node have their styles, and its flow collections with entries are those that
 -- are kept on one line, or may be.
 
--- where a node is: the column at which it begins, its properties counted; where its entries are if it is a block
--- collection; where its lines are if it is a block scalar
+-- the margins of a node: the column at which it begins, with its properties; the column of its entries if it is a
+-- block collection; the column of its lines if it is a block scalar
 pub record Margins : Type 0 where
   pub column : ℕ
   pub entries : ℕ
   pub lines : ℕ
 
--- a document's root; a node after a `-`, a `?` or the `:` of an explicit value, in an entry at that column
+-- the margins of a document's root, and of a node after a `-`, a `?` or the `:` of an explicit value, in an entry at
+-- that column
 abbrev pub root_margins : Style → Margins
 root_margins s = record { column = 0; entries = 0; lines = s.indent }
 
 abbrev pub inner_margins : Style → ℕ → Margins
 inner_margins s column = record { column = column + s.indent; entries = column + s.indent; lines = column + s.indent }
 
--- written on one line from that column on, the node ends at the last column that a line may have, or before it
+-- on one line from that column on, the node ends at or before the last column of a line
 abbrev pub fits : Style → ℕ → Node → Bool
 fits s column x = nat_le (column + width (written s x)) s.max_line
 
--- a key is implicit where it is written on one line, in an entry at that column, with so many characters at most
+-- a key is implicit if it is written on one line in an entry at that column, with at most 1023 characters
 abbrev pub is_one_line_key : Style → ℕ → Node → Bool
 is_one_line_key s column (scalar at props Plain text lines) = true
 is_one_line_key s column (scalar at props Single text lines) = true
@@ -75,10 +77,11 @@ is_one_line_key s column (mapping at flow props (pair k v ps)) = flow && fits s 
 abbrev pub is_implicit : Style → ℕ → Node → Bool
 is_implicit s column k = is_one_line_key s column k && nat_le (width (written s k)) 1023
 
--- The comment that trails an implicit key: the first one after the beginning of the key's last leaf (of its entry, where the
--- key is an empty node) and before the value's first leaf, where the value is a leaf with characters or is kept on one line.
+-- The comment that trails an implicit key: the first one after the start of the key's last leaf (or of its entry, if
+-- the key is an empty node) and before the value's first leaf, if the value is a leaf with characters or is kept on
+-- one line.
 
--- where the last of these leaves begins, or the other offset where there is none
+-- the start of the last of these leaves, or the other offset if there is none
 abbrev pub last_start : ℕ → List Span → ℕ
 last_start other [] = other
 last_start other (s ∷ ss) = last_start s.start ss
@@ -98,8 +101,8 @@ first_between cs from (s ∷ ss) = find (λ c. nat_lt from c.offset && nat_lt c.
 abbrev pub key_comment : List CommentValue → Node → Node → Option CommentValue
 key_comment cs k v = if is_text v || is_filled_flow v then first_between cs (key_start k) (leaves v) else None
 
--- the value of an implicit key in an entry at that column begins after the key, its `:` and a space, or on the next line where
--- a comment trails the key; a sequence's entries may be at the key's column
+-- the column of the value of an implicit key in an entry at that column: after the key, its `:` and a space, or on
+-- the next line if a comment trails the key; a sequence's entries may be at the key's column
 abbrev pub value_column : LayoutSetting → ℕ → Node → Node → ℕ
 value_column c column k v =
     if is_some (key_comment c.comments k v) then column + c.style.indent else column + width (written c.style k) + width (colon_after k) + 1
@@ -114,7 +117,7 @@ value_of_implicit c column k v = record {
   lines = column + c.style.indent;
 }
 
--- a key, and its value, in an entry at that column
+-- the column of a key, and of its value, in an entry at that column
 abbrev pub key_column : Style → ℕ → Node → ℕ
 key_column s column k = if is_implicit s column k then column else column + s.indent
 
@@ -124,7 +127,7 @@ key_margins s column k = record (inner_margins s column) { column = key_column s
 abbrev pub value_margins : LayoutSetting → ℕ → Node → Node → Margins
 value_margins c column k v = if is_implicit c.style column k then value_of_implicit c column k v else inner_margins c.style column
 
--- Which flow collections are kept: those that may be, and that end in time where they begin. Outer ones are decided before
+-- The kept flow collections: those that may be kept, and that fit at their column. Outer ones are decided before
 -- inner ones, and each other one becomes a block collection.
 abbrev mutual
   pub settled : LayoutSetting → Margins → Node → Node
@@ -140,7 +143,7 @@ abbrev mutual
       else mapping at false props (pair (settled c (key_margins c.style margins.entries k) k) (settled c (value_margins c margins.entries k v) v)
       (settled_pairs c margins.entries ps))
 
-  -- in a block collection whose entries are at that column
+  -- in a block collection with entries at that column
   pub settled_items : LayoutSetting → ℕ → Items → Items
   settled_items c column no_items = no_items
   settled_items c column (item x xs) = item (settled c (inner_margins c.style column) x) (settled_items c column xs)
@@ -150,7 +153,7 @@ abbrev mutual
   settled_pairs c column (pair k v ps) =
       pair (settled c (key_margins c.style column k) k) (settled c (value_margins c column k v) v) (settled_pairs c column ps)
 
--- the normal form of a document's tree, where t is the text
+-- the normal form of a document's tree; t is the text
 abbrev pub normal_document : List ℕ → LayoutSetting → DocumentTree → DocumentTree
 normal_document t c d = record d { root = settled c (root_margins c.style) (styled t c d.root) }
 

@@ -1,4 +1,4 @@
--- Measures and forms as they are kept in rows: of each number that may be missing, a note tells whether it is there.
+-- Measures and forms in rows: for each optional number, a note whether it is present.
 use Rattle.std.specs.Prelude.{ℕ, Bool, true, false, Option, Some, None}
 use Rattle.yf_forms.specs.declared.form.decide.Form.{Form}
 use Rattle.yf_forms.specs.declared.form.forms.PackedForm.{PackedForm}

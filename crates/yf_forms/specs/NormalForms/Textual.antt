@@ -1,4 +1,4 @@
--- Readings as texts have them. `Reading::build` takes lists that no text has; of those nothing is promised of the layout.
+-- Readings as texts have them. `Reading::build` takes lists that no text has; nothing is promised of their layout.
 use Rattle.std.specs.Prelude.{◌≡◌, true, List}
 use Rattle.std.specs.List.Sorted.{IsNonDecreasingBy}
 use Rattle.yf_comments.specs.Comment.{CommentValue}
@@ -10,8 +10,8 @@ use Rattle.yf_forms.specs.NormalForms.Forms.{documents_are_placed}
 abbrev pub CommentsAscend : Lists → Type 0
 CommentsAscend r = IsNonDecreasingBy (λ (c : CommentValue). c.offset) r.comments
 
--- what the normal form of a reading depends on: it has trees, a leaf has a place in the text exactly where it has characters, and the
--- comments are in order
+-- the conditions for the normal form of a reading: it has trees, a leaf has a span if and only if it has characters,
+-- and the comments are in order
 pub record IsTextual (r : Lists) : Type 0 where
   pub trees : List DocumentTree
   pub of_reading : TreesOf r trees

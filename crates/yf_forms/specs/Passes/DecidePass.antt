@@ -14,7 +14,7 @@ use Rattle.yf_forms.specs.declared.style.Style.{Style}
 use Rattle.yf_forms.specs.NormalForms.Forms.{first_index, no_form}
 use Rattle.yf_forms.specs.NormalForms.Measures.{up_to_greatest, no_measure}
 
--- what the pass looks at
+-- the input of the pass
 pub record DecideInput : Type 0 where
   pub style : Style
   pub comments : List CommentValue
@@ -23,16 +23,16 @@ pub record DecideInput : Type 0 where
 abbrev pub given : Style → List CommentValue → List EventInText → DecideInput
 given style comments events = record { style = style; comments = comments; events = events }
 
--- Places.
+-- Margins.
 
--- so many columns further on
+-- a column further to the right
 abbrev pub further : ℕ → ℕ → ℕ
 further column n = up_to_greatest (column + n)
 
 abbrev pub place_at : ℕ → LayoutContext
 place_at column = record { column = column; entries = column; is_implicit = false; key_comment = None }
 
--- a node of that width ends in time
+-- a node of that width fits at the column
 abbrev pub has_room : Style → ℕ → Option ℕ → Bool
 has_room s column None = false
 has_room s column (Some width) = nat_le (further column width) s.max_line
@@ -42,12 +42,12 @@ may_be_implicit s column can_be_kept None = false
 may_be_implicit s column can_be_kept (Some width) =
     if nat_lt 1023 width then false else (if can_be_kept then has_room s column (Some width) else true)
 
--- the node that the event at index i begins is a leaf with characters, where this is its first one
+-- the node that the event at index i begins is a leaf with characters, if its first leaf is this one
 abbrev pub is_leaf_at : ℕ → Option ℕ → Bool
 is_leaf_at i None = false
 is_leaf_at i (Some leaf) = leaf == i
 
--- where the text of the node begins that an event begins, if it has characters
+-- the start of the text of an event's node, if it has characters
 abbrev pub start_of_span : Option (Option Span) → Option ℕ
 start_of_span None = None
 start_of_span (Some None) = None
@@ -69,7 +69,7 @@ start_or other (Some start) = start
 abbrev pub key_start : List EventInText → ℕ → Option ℕ → ℕ
 key_start es i leaf = start_or (start_of_entry (slice_get (map (λ e. e.entry) es) i)) (leaf_start es leaf)
 
--- a space is before the `:` of a key
+-- a space comes before the `:` of a key
 abbrev pub has_space : EventValue → Bool → Bool
 has_space (scalar_node props Plain []) leaf = leaf
 has_space (alias_node name) leaf = true
@@ -105,7 +105,7 @@ begins_sequence _ = false
 abbrev pub value_entries : Style → EventValue → ℕ → ℕ
 value_entries s e column = if begins_sequence e && not s.seq_indent then column else further column s.indent
 
--- a comment stays where it trails the key
+-- a comment stays if it trails the key
 abbrev pub comment_if : Bool → ℕ → Option ℕ
 comment_if true comment = Some comment
 comment_if false comment = None
@@ -120,7 +120,7 @@ context_after s i m width column entries (Some comment) = record {
   key_comment = comment_if (is_leaf_at i m.first_leaf || has_room s (further column s.indent) m.width) comment;
 }
 
--- of the value of an implicit key
+-- the margins and the role of an implicit key's value
 abbrev pub value_place : DecideInput → EventValue → ℕ → Measure → PendingKey → ℕ → LayoutContext
 value_place g e i m key column =
     context_after g.style i m key.width column (value_entries g.style e column) (trailing_comment g.comments g.events key.start i m)
@@ -133,7 +133,7 @@ key_place s column implicit = record {
   key_comment = None;
 }
 
--- of a key, where none waits for its value, and of a value
+-- the margins and the role of a key, if none waits for its value, and of a value
 abbrev pub place_in_map : DecideInput → EventValue → ℕ → Measure → ℕ → Option PendingKey → LayoutContext
 place_in_map g e i m column None = key_place g.style column (may_be_implicit g.style column m.can_be_kept m.width)
 place_in_map g e i m column (Some key) =
@@ -143,7 +143,7 @@ abbrev pub key_after : DecideInput → EventValue → ℕ → Measure → ℕ �
 key_after g e i m column None = Some (key_of g.events e i m (may_be_implicit g.style column m.can_be_kept m.width))
 key_after g e i m column (Some key) = None
 
--- where block collections are open, the innermost first
+-- the margins and the role of the next node in the open block collections, the innermost first
 
 abbrev pub next_place : DecideInput → EventValue → ℕ → Measure → List LayoutFrame → LayoutContext
 next_place g e i m [] = place_at 0
@@ -178,7 +178,7 @@ form_at s place m = record {
   column = place.entries;
 }
 
--- the last event of a node that has no event to look at, or that the event alone is
+-- whether the node needs no look at further events, or is only this event
 abbrev pub is_whole : ℕ → Measure → Bool → Bool
 is_whole i m kept = if kept then true else (if is_leaf_at i m.first_leaf then true else m.last == i)
 
@@ -207,7 +207,7 @@ past g sequence_ends i m list stack = state (list ++ no_form ∷ []) (outside st
 past g mapping_ends i m list stack = state (list ++ no_form ∷ []) (outside stack) i
 past g _ i m list stack = state (list ++ no_form ∷ []) stack i
 
--- the event at the index after the forms so far; it gets no look where it is within a node on one line
+-- the event at the index after the forms so far; it gets no look within a node on one line
 abbrev pub next : DecideInput → List Measure → EventValue → DecideState → DecideState
 next g ms e f =
     if nat_lt f.done (length f.list) then past g e (length f.list) (get_or ms (length f.list) no_measure) f.list f.stack

@@ -1,4 +1,4 @@
--- What is given where the form of a node is decided.
+-- The input when the form of a node is decided.
 use Rattle.yf_forms.specs.Passes.DecidePass.{DecideInput, given}
 use Rattle.yf_forms.specs.declared.form.layout_context.EventFacts.{EventFacts}
 

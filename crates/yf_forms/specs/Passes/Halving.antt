@@ -1,4 +1,4 @@
--- Where a search by halving ends, whatever order the offsets are in.
+-- The end of a search by halving, for offsets in any order.
 use Rattle.std.specs.Prelude.{◌≡◌, ℕ, ◌+◌, ◌-◌, ◌/◌, ◌<◌, ◌≤◌, ◌⊎◌, length, List, Option, Some, None, slice_index}
 use Rattle.std.specs.List.Sorted.{IsNonDecreasingBy}
 use Rattle.yf_forms.specs.declared.form.comments_before.TheConstants.{UNKNOWN}
@@ -6,8 +6,8 @@ use Rattle.yf_forms.specs.declared.form.comments_before.TheConstants.{UNKNOWN}
 abbrev pub middle : ℕ → ℕ → ℕ
 middle low high = low + (high - low) / 2
 
--- the search for an offset among those from one index up to another ends at an index: it looks at the one in the middle, and goes on after
--- it where that is smaller, else before it
+-- the search for an offset among those from one index up to another ends at an index: it looks at the one in the
+-- middle, and goes on after it if that is smaller, and before it otherwise
 pub data Halves (offsets : List ℕ) (offset : ℕ) : ℕ → ℕ → ℕ → Type 0 where
   none_left : {low high : ℕ} → high ≤ low → Halves offsets offset low high low
   after_middle : {low high end : ℕ} → low < high → slice_index offsets (middle low high) < offset → Halves offsets offset (middle low high + 1) high end
@@ -15,16 +15,16 @@ pub data Halves (offsets : List ℕ) (offset : ℕ) : ℕ → ℕ → ℕ → Ty
   before_middle : {low high end : ℕ} → low < high → offset ≤ slice_index offsets (middle low high) → Halves offsets offset low (middle low high) end
       → Halves offsets offset low high end
 
--- the index of an offset from one on and before another that is found so: where the search for the one ends, if the offset there is before the
--- other
+-- the index of an offset at or after one and before another, by halving: the end of the search for the first, if the
+-- offset there is before the second
 pub data HalvesBetween (offsets : List ℕ) (from to : ℕ) : Option ℕ → Type 0 where
   found : {k : ℕ} → Halves offsets from 0 (length offsets) k → k < length offsets → slice_index offsets k < to → HalvesBetween offsets from to (Some k)
   not_found : {k : ℕ} → Halves offsets from 0 (length offsets) k → (k < length offsets → to ≤ slice_index offsets k) → HalvesBetween offsets from to None
 
--- a search may begin there and find what halving finds: it is told nothing, or the offsets are in order
+-- a search may begin there and find the results of halving: `near` is unknown, or the offsets are in order
 abbrev pub MayBegin : {X : Type 0} → (X → ℕ) → List X → ℕ → Type 0
 MayBegin offset_of xs near = (near ≡ UNKNOWN) ⊎ IsNonDecreasingBy offset_of xs
 
--- where one search is told nothing, so is the next
+-- if `near` is unknown to one search, it is unknown to the next
 abbrev pub StaysUnknown : ℕ → ℕ → Type 0
 StaysUnknown near next = near ≡ UNKNOWN → next ≡ UNKNOWN

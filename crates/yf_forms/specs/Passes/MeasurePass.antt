@@ -16,17 +16,17 @@ use Rattle.yf_forms.specs.NormalForms.Normal.{LayoutSetting}
 use Rattle.yf_forms.specs.Nodes.OneLine.{width, spaced, props_text, scalar_text}
 use Rattle.yf_forms.specs.Nodes.ScalarStyles.{wanted}
 
--- a leaf where it has characters
+-- the index of a leaf, if it has characters
 abbrev pub leaf_if : Option Span → ℕ → Option ℕ
 leaf_if None i = None
 leaf_if (Some span) i = Some i
 
--- the first of two that is there
+-- the first of two that is present
 abbrev pub or_else : Option ℕ → Option ℕ → Option ℕ
 or_else (Some i) other = Some i
 or_else None other = other
 
--- the sum of two widths, where both are there
+-- the sum of two widths, if both are present
 abbrev pub sum_of : Option ℕ → Option ℕ → Option ℕ
 sum_of (Some a) (Some b) = Some (up_to_greatest (a + b))
 sum_of (Some a) None = None
@@ -78,11 +78,11 @@ opened t cs i span props flow is_map = record {
   last_leaf = None;
 }
 
--- a comma and its space, or a `:` and its space, are before each node but the first
+-- a comma and its space, or a `:` and its space, come before each node but the first
 abbrev pub separator_width : Open → ℕ
 separator_width o = if o.is_empty then 0 else 2
 
--- an alias as a key has a space after it
+-- a space comes after an alias that is a key
 abbrev pub space_width : Open → Ended → ℕ
 space_width o e = if o.is_key && e.is_alias then 1 else 0
 
@@ -129,7 +129,7 @@ closed_filled o end = record {
 abbrev pub closed : Open → ℕ → Ended
 closed o end = if o.is_empty then closed_empty o end else closed_filled o end
 
--- what has been found so far: the measures of the events, and the open collections, the innermost first
+-- the results so far: the measures of the events, and the open collections, the innermost first
 pub record MeasuredSoFar : Type 0 where
   pub list : List Measure
   pub stack : List Open
@@ -138,7 +138,7 @@ abbrev pub handed : Ended → List Open → List Open
 handed e [] = []
 handed e (o ∷ os) = with_node o e ∷ os
 
--- a node that has ended, in the list and in the collection that holds it
+-- an ended node, in the list and in the collection around it
 abbrev pub noted : ℕ → Ended → MeasuredSoFar → MeasuredSoFar
 noted i e f = record { list = set f.list i e.measure; stack = handed e f.stack }
 
@@ -149,7 +149,7 @@ abbrev pub popped : ℕ → List Measure → List Open → MeasuredSoFar
 popped i list [] = record { list = list; stack = [] }
 popped i list (o ∷ os) = noted o.start (closed o i) (record { list = list; stack = os })
 
--- past the event at index i, whose place in the list is there already
+-- past the event at index i, which is already in the list
 abbrev pub passed : List ℕ → LayoutSetting → ℕ → Option Span → EventValue → MeasuredSoFar → MeasuredSoFar
 passed t c i span (scalar_node props style text) f = noted i (ended_scalar c.style i span props style text) f
 passed t c i span (alias_node name) f = noted i (ended_alias i name) f
@@ -159,7 +159,7 @@ passed t c i span sequence_ends f = popped i f.list f.stack
 passed t c i span mapping_ends f = popped i f.list f.stack
 passed t c i span _ f = f
 
--- the same with its place
+-- past the next event, with its place in the list
 abbrev pub past : List ℕ → LayoutSetting → EventInText → MeasuredSoFar → MeasuredSoFar
 past t c e f = passed t c (length f.list) e.span e.event (record { list = f.list ++ no_measure ∷ []; stack = f.stack })
 

@@ -1,5 +1,4 @@
--- How one pass over the events of a reading gives those of its normal form, from what was measured of its nodes and from their
--- forms.
+-- The events of the normal form of a reading, by one pass over its events, its measures and its forms.
 use Rattle.std.specs.Prelude.{ℕ, ◌+◌, ◌||◌, Bool, nat_lt, if◌then◌else◌, List, [], ◌∷◌, drop, get_or}
 use Rattle.yf_forms.specs.declared.style.Style.{Style}
 use Rattle.yf_events.specs.Event.{EventInText}
@@ -14,7 +13,7 @@ use Rattle.yf_forms.specs.NormalForms.Restyled.{restyled}
 abbrev pub kept_until : ℕ → Measure → Form → ℕ
 kept_until until m f = if f.is_kept then m.last else until
 
--- a collection is between brackets where it is empty, and before the end of a collection on one line
+-- a collection is between brackets if it is empty, or before the end of a collection on one line
 abbrev pub is_flow_at : ℕ → ℕ → Measure → Bool
 is_flow_at i until m = is_leaf_at i m.first_leaf || nat_lt i until
 

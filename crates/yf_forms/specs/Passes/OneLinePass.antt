@@ -1,4 +1,4 @@
--- The text on one line that events add from one to the next, with what comes next between each pair of brackets that is open.
+-- The text on one line that events add, with the next node or bracket for each pair of open brackets.
 use Rattle.std.specs.Prelude.{ℕ, ◌+◌, ◌-◌, Bool, true, false, List, [], ◌∷◌, ◌++◌, codes, take, drop}
 use Rattle.yf_forms.specs.declared.style.Style.{Style}
 use Rattle.yf_props.specs.Props.{PropsValue}
@@ -8,7 +8,7 @@ use Rattle.yf_forms.specs.declared.form.kept.Expected.TheVariants.{FirstItem, It
 use Rattle.yf_forms.specs.Nodes.OneLine.{props_text, scalar_text, space_after}
 use Rattle.yf_forms.specs.Nodes.ScalarStyles.{wanted}
 
--- what is before a node: nothing, a comma, or the `:` of its key
+-- the separator before a node: nothing, a comma, or the `:` of its key
 abbrev pub separator : Expected → List ℕ
 separator FirstItem = []
 separator Item = codes ", "
@@ -17,7 +17,7 @@ separator Key = codes ", "
 separator Value = codes ": "
 separator ValueOfAlias = codes " : "
 
--- what comes next after a key, and after any node; the flag says whether it is an alias
+-- the next node or bracket after a key, and after any node; the flag is whether it is an alias
 abbrev pub value_of : Bool → Expected
 value_of true = ValueOfAlias
 value_of false = Value
@@ -30,7 +30,8 @@ expected_after is_alias Key = value_of is_alias
 expected_after is_alias Value = Key
 expected_after is_alias ValueOfAlias = Key
 
--- The same where brackets are open, the innermost first. Outside of all brackets nothing is before a node.
+-- The separators and the next nodes in open brackets, the innermost first. Outside of all brackets, nothing comes
+-- before a node.
 abbrev pub separator_in : List Expected → List ℕ
 separator_in [] = []
 separator_in (e ∷ stack) = separator e
@@ -43,7 +44,7 @@ abbrev pub outside : List Expected → List Expected
 outside [] = []
 outside (e ∷ stack) = stack
 
--- what is before a node's text: its properties too, but not those of the outermost collection
+-- the separator and the properties before a node's text, but not the properties of the outermost collection
 abbrev pub before_text : List Expected → PropsValue → List ℕ
 before_text stack props = separator_in stack ++ space_after (props_text props)
 
@@ -51,7 +52,7 @@ abbrev pub before_bracket : List Expected → PropsValue → List ℕ
 before_bracket [] props = []
 before_bracket (e ∷ stack) props = before_text (e ∷ stack) props
 
--- what an event adds, and what comes next after it
+-- the text that an event adds, and the next node or bracket after it
 abbrev pub added : Style → List Expected → EventValue → List ℕ
 added house stack (scalar_node props style text) = before_text stack props ++ scalar_text house (wanted style text house) text
 added house stack (alias_node name) = separator_in stack ++ (42 ∷ name)
@@ -76,11 +77,11 @@ next_open stack stream_ends = stack
 next_open stack (document_starts marked) = stack
 next_open stack (document_ends marked) = stack
 
--- what all events add
+-- the text that all events add
 unfoldable pub run : Style → List Expected → List EventInText → List ℕ
 run house stack [] = []
 run house stack (e ∷ es) = added house stack e.event ++ run house (next_open stack e.event) es
 
--- the events from one index to another, this one too
+-- the events from one index to another, including both
 abbrev pub between : ℕ → ℕ → List EventInText → List EventInText
 between first last es = take (last + 1 - first) (drop first es)

@@ -1,4 +1,4 @@
-//! What is known of a collection whose nodes are measured, from its beginning to its end.
+//! The state of a collection while its nodes are measured.
 ghost use Rattle.std.specs.Prelude.{◌≡◌, ◌&&◌, false, map, not, MatchOption};
 ghost use Rattle.std.specs.List.Sorted.{IsNonDecreasingBy};
 ghost use Rattle.std.specs.Str.{IsUtf8};
@@ -19,13 +19,13 @@ use yf_comments::comment::Comment;
 use yf_events::event::Span;
 use yf_props::props::Props;
 
-/// A collection whose end has not come yet.
+/// A collection that has not ended yet.
 #[derive(Clone, Copy)]
 pub struct Open {
     pub start: usize,
     pub is_map: bool,
     pub props_width: usize,
-    /// The width of its text so far without the brackets, `None` where it cannot be kept.
+    /// The width of its text so far without the brackets, or `None` if it can't be kept.
     pub sum: Option<usize>,
     pub is_empty: bool,
     /// Whether its next node is a key.
@@ -34,7 +34,7 @@ pub struct Open {
     pub last_leaf: Option<usize>,
 }
 
-/// Whether a comment is between the brackets of a collection with these properties.
+/// Returns whether a comment is between the brackets of a collection with these properties.
 fn has_comment(text: &str, comments: &[Comment], span: Option<Span>, props: &Props) -> bool
     ensures has { IsNonDecreasingBy (λ c. c.offset) comments.now
         → result ≡ Kept.has_comment text.now (map comment_value comments.now) span (props_value props.now) }
@@ -54,7 +54,7 @@ fn has_comment(text: &str, comments: &[Comment], span: Option<Span>, props: &Pro
     }
 }
 
-/// The width of an empty text, where a collection may be kept.
+/// Returns the width of an empty text, 0, or `None` if the collection can't be kept.
 fn first_sum(
     text: &str,
     comments: &[Comment],
@@ -75,7 +75,7 @@ fn first_sum(
     None
 }
 
-/// The collection that the event at an index begins, before its first node.
+/// Returns the collection that the event at an index begins, before its first node.
 #[inline(always)]
 pub(crate) fn opened(
     text: &str,
@@ -102,7 +102,7 @@ pub(crate) fn opened(
     }
 }
 
-/// An empty collection, which is a leaf.
+/// Returns an empty collection, which is a leaf.
 fn empty_collection(collection: &Open, end: usize) -> Ended
     ensures { result ≡ Measuring.closed_empty collection.now end }
 {
@@ -121,7 +121,7 @@ fn empty_collection(collection: &Open, end: usize) -> Ended
     }
 }
 
-/// The width from bracket to bracket, with the properties.
+/// Returns the width from bracket to bracket, with the properties.
 fn joined_sum(collection: &Open) -> Option<usize>
     ensures { result ≡ Measuring.joined_sum collection.now.props_width collection.now.sum }
 {
@@ -131,7 +131,7 @@ fn joined_sum(collection: &Open) -> Option<usize>
     }
 }
 
-/// The node that a collection is, which ends with the event at that index.
+/// Returns a collection as an ended node. Its last event is at the index `end`.
 #[inline(always)]
 pub(crate) fn closed(collection: &Open, end: usize) -> Ended
     ensures { result ≡ Measuring.closed collection.now end }
@@ -154,14 +154,15 @@ pub(crate) fn closed(collection: &Open, end: usize) -> Ended
     }
 }
 
-/// A comma with the space after it, or a `:` with it, is before each node but the first.
+/// Returns the width before the next node: none before the first one, and otherwise a comma and a space, or a `:` and
+/// a space.
 fn separator_width(collection: &Open) -> usize
     ensures { result ≡ Measuring.separator_width collection.now }
 {
     if collection.is_empty { 0 } else { 2 }
 }
 
-/// An alias as a key has one more space after it.
+/// Returns the width of the additional space after an alias that is a key.
 fn space_width(collection: &Open, node: &Ended) -> usize
     ensures { result ≡ Measuring.space_width collection.now node.now }
 {
@@ -173,7 +174,7 @@ fn space_width(collection: &Open, node: &Ended) -> usize
     0
 }
 
-/// The width of the text so far with one more node.
+/// Returns the width of the text so far with one more node.
 #[inline(always)]
 fn sum_with(collection: &Open, node: &Ended) -> Option<usize>
     ensures { result ≡ (Measuring.with_node collection.now node.now).sum }

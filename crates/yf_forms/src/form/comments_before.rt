@@ -1,4 +1,4 @@
-//! Where comments are among the nodes.
+//! Searches for comments by byte offset.
 ghost use Rattle.std.specs.Prelude.{◌≡◌, ◌+◌, ◌<◌, ◌≤◌, ◌⊎◌, drop, false, length, map, nat_lt, true, ℕ, IfSome, MatchOption};
 ghost use Rattle.std.specs.List.{AllWithin, HoldsAt};
 ghost use Rattle.std.specs.List.Sorted.{IsNonDecreasingBy, IsPartitionPoint};
@@ -9,12 +9,14 @@ ghost use Rattle.yf_forms.specs.Nodes.OneLineFlows.{is_within};
 
 use yf_comments::comment::Comment;
 
-/// Where a search begins that goes by halving alone: no list has as many comments.
+/// The start of a search that only halves. No list has as many comments.
 const UNKNOWN: usize = usize::MAX;
 
-/// Where the first search for an offset begins in a pass over so many events: at the first comment, where there are no more comments
-/// than events and they are in the order of the text. Where they are not, which no reading of a text has, what a search finds would
-/// depend on where it begins; and more comments than events are not all looked at.
+/// Returns the start of the first search for an offset in a pass over `events` events.
+///
+/// It is the first comment if the comments are in the order of the text and there are at most as many as events, and
+/// `UNKNOWN` otherwise. No reading of a text has its comments out of order; the results of a search in them would
+/// depend on its start. If there are more comments than events, their order is not checked.
 pub(crate) fn first_search(comments: &[Comment], events: usize) -> usize
     ensures rising { result ≡ 0 → IsNonDecreasingBy (λ c. c.offset) comments.now }
     ensures either { (result ≡ 0) ⊎ (result ≡ UNKNOWN) }
@@ -32,7 +34,7 @@ pub(crate) fn first_search(comments: &[Comment], events: usize) -> usize
     0
 }
 
-/// An index before which each comment begins before the byte offset, as far as the comment before `near` tells.
+/// Returns an index before which each comment begins before the byte offset, by the comment before `near`.
 #[inline(always)]
 fn low_by(comments: &[Comment], near: usize, offset: usize) -> usize
     ensures near { result ≤ near }
@@ -50,7 +52,7 @@ fn low_by(comments: &[Comment], near: usize, offset: usize) -> usize
     0
 }
 
-/// An index from which on no comment begins before the byte offset, as far as the comment at `near` tells.
+/// Returns an index from which on no comment begins before the byte offset, by the comment at `near`.
 #[inline(always)]
 fn high_by(comments: &[Comment], near: usize, offset: usize) -> usize
     ensures near { (k : ℕ) → k ≤ near → k ≤ length comments.now → k ≤ result }
@@ -67,8 +69,8 @@ fn high_by(comments: &[Comment], near: usize, offset: usize) -> usize
     comments.len()
 }
 
-/// How many comments begin before the byte offset, found at once where it is `near`, else by halving; the comments are in
-/// the order of the text.
+/// Returns how many comments begin before the byte offset: at once if the count is `near`, and by halving otherwise.
+/// The comments are in the order of the text.
 #[inline(always)]
 pub(crate) fn count_near(comments: &[Comment], near: usize, offset: usize) -> usize
     requires { MayBegin (λ c. c.offset) comments.now near }
@@ -90,7 +92,7 @@ pub(crate) fn count_near(comments: &[Comment], near: usize, offset: usize) -> us
     low
 }
 
-/// How many comments begin before the byte offset, found by halving; the comments are in the order of the text.
+/// Returns how many comments begin before the byte offset, by halving. The comments are in the order of the text.
 pub fn count_before(comments: &[Comment], offset: usize) -> usize
     ensures within { result ≤ length comments.now }
     ensures halves { IsNonDecreasingBy (λ c. c.offset) comments.now
@@ -100,8 +102,8 @@ pub fn count_before(comments: &[Comment], offset: usize) -> usize
     count_near(comments, UNKNOWN, offset)
 }
 
-/// The first comment that begins at the byte offset `from` or later and before `to`, as an index. `near` is where the
-/// search begins, and where it ended from then on, unless it is unknown.
+/// Returns the index of the first comment that begins at or after the byte offset `from` and before `to`. The search
+/// begins at `near` and sets it to its end, unless `near` is `UNKNOWN`.
 #[inline(always)]
 pub(crate) fn first_near(
     comments: &[Comment],
@@ -130,7 +132,7 @@ pub(crate) fn first_near(
     None
 }
 
-/// The first comment that begins at the byte offset `from` or later and before `to`, as an index.
+/// Returns the index of the first comment that begins at or after the byte offset `from` and before `to`.
 pub fn first_between(comments: &[Comment], from: usize, to: usize) -> Option<usize>
     ensures within { IfSome result (λ k. k < length comments.now) }
     ensures first { IsNonDecreasingBy (λ c. c.offset) comments.now
@@ -143,7 +145,7 @@ pub fn first_between(comments: &[Comment], from: usize, to: usize) -> Option<usi
     first_near(comments, &mut near, from, to)
 }
 
-/// The index of the first comment, from an index on, that does not begin before the byte offset.
+/// Returns the index of the first comment, from an index on, that does not begin before the byte offset.
 pub fn first_after(comments: &[Comment], from: usize, offset: usize) -> usize
     ensures { result ≡ from + count_to offset (drop from (map comment_value comments.now)) }
 {

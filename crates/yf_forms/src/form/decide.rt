@@ -1,5 +1,5 @@
-//! Which form the house style gives each node: one pass over the events, outer nodes before inner ones. Columns count
-//! from 0 here.
+//! The form that the house style gives each node: one pass over the events, outer nodes before inner ones. Columns
+//! count from 0 here.
 ghost use Rattle.std.specs.Prelude.{◌<◌, ◌≡◌, get_or, length, reverse, IfOk, MatchResult};
 ghost use Rattle.std.specs.List.Sorted.{IsNonDecreasingBy};
 ghost use Rattle.yf_events.specs.Event.{event_value};
@@ -29,15 +29,15 @@ pub struct Form {
     pub is_kept: bool,
     /// Whether it is a key of a block mapping that is written without `?`.
     pub is_implicit: bool,
-    /// Of the value of such a key the comment, as an index, that ends the key's line, so that the value begins on the next
-    /// line; `None` where the value begins on the key's line.
+    /// For the value of such a key, the index of the comment that ends the key's line, so that the value begins on
+    /// the next line. `None` if the value begins on the key's line.
     pub key_comment: Option<usize>,
-    /// Of a block collection the column of its entries.
+    /// For a block collection, the column of its entries.
     pub column: usize,
 }
 
 impl Form {
-    /// What an event is given that begins no node, or one inside of a collection that is written on one line.
+    /// The form of an event that begins no node, or a node within a collection on one line.
     pub const NONE: Form = Form {
         is_kept: false,
         is_implicit: false,
@@ -46,7 +46,7 @@ impl Form {
     };
 }
 
-/// What forms are decided of: a reading, what was measured of it, and the style.
+/// The input of a decision: a reading, its measures, and the style.
 #[derive(Clone, Copy)]
 struct MeasuredReading<'r, 'a> {
     reading: &'r Reading<'a>,
@@ -54,7 +54,7 @@ struct MeasuredReading<'r, 'a> {
     style: &'r Style,
 }
 
-/// Whether a node that the event at an index begins holds no node to look at.
+/// Returns whether the node that the event at an index begins holds no node to look at.
 #[inline(always)]
 fn is_whole(measure: &Measure, i: usize, is_kept: bool) -> bool
     ensures { result ≡ Deciding.is_whole i measure.now is_kept }
@@ -68,8 +68,8 @@ fn is_whole(measure: &Measure, i: usize, is_kept: bool) -> bool
     measure.last == i
 }
 
-/// Gives a node its form, and answers the index of the last event that needs no look: the node's last one, or of a block
-/// collection the first one.
+/// Gives a node its form. Returns the index of the last event that needs no look: the node's last event, or the first
+/// event of a block collection.
 #[inline(always)]
 fn node(
     list: &mut Forms,
@@ -105,7 +105,7 @@ fn node(
     Ok(facts.i)
 }
 
-/// Goes past one event, and answers the index of the last one that needs no look.
+/// Passes one event. Returns the index of the last event that needs no look.
 #[inline(always)]
 fn pass(
     list: &mut Forms,
@@ -142,7 +142,7 @@ fn pass(
     }
 }
 
-/// Goes past one event, which gets no look up to the index `done`, and answers that index from here on.
+/// Passes one event, with a look only if it is after the index `done`. Returns the new `done`.
 #[inline(always)]
 fn advance(
     list: &mut Forms,
@@ -176,7 +176,7 @@ fn advance(
     Ok(done)
 }
 
-/// Decides the forms of all nodes of a reading that was measured, in one pass.
+/// Decides the forms of all nodes of a measured reading, in one pass.
 pub fn decide(
     alloc: Global,
     measures: &Measures,
@@ -215,12 +215,12 @@ fn implicit_within(
     Ok(forms.at(i).is_implicit)
 }
 
-/// Whether the house style writes the key of a block mapping that the event at an index begins without `?`, in the layout
-/// of a reading of the text. Of an event that begins no key it is false.
+/// Returns whether the event at an index begins a key of a block mapping that the house style writes without `?`, in
+/// the layout of a reading of the text. Returns `false` for an event that begins no key.
 ///
 /// # Errors
 ///
-/// `Fault::Memory` where a growth of memory was refused.
+/// Fails with `Fault::Memory` if the allocator refuses memory.
 pub fn implicit_key(
     alloc: Global,
     src: &Src,

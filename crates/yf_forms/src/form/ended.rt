@@ -1,4 +1,4 @@
-//! What is known of a node that has ended, and the nodes that end where they begin: scalars and aliases.
+//! Ended nodes, and the nodes that end where they begin: scalars and aliases.
 ghost use Rattle.std.specs.Prelude.{◌≡◌, false};
 ghost use Rattle.std.specs.Str.{IsUtf8};
 ghost use Rattle.yf_forms.specs.Nodes.OneLineFlows.{scalar_may_be_kept};
@@ -16,7 +16,7 @@ use crate::text::width::{char_count, joined_width, props_width, scalar_width};
 use yf_events::event::{ScalarStyle, Span};
 use yf_props::props::Props;
 
-/// A node that has ended, as the collection sees it that holds it: `inside` is its width where it may be in kept text.
+/// An ended node, as seen by the collection around it. `inside` is its width if it may be in kept text.
 #[derive(Clone, Copy)]
 pub struct Ended {
     pub measure: Measure,
@@ -24,7 +24,7 @@ pub struct Ended {
     pub is_alias: bool,
 }
 
-/// Whether a scalar that is to have the style `wanted` may be in kept text: a quoted one, or a plain one with characters
+/// Returns whether a scalar with the wanted style may be in kept text: a quoted one, or a plain one with characters
 /// that stays plain.
 #[inline(always)]
 fn may_be_inside(written: ScalarStyle, wanted: ScalarStyle, text: &str) -> bool
@@ -42,7 +42,7 @@ fn may_be_inside(written: ScalarStyle, wanted: ScalarStyle, text: &str) -> bool
     }
 }
 
-/// The node is a leaf where it has characters, and so a part of the text.
+/// Returns the index of the leaf if it has characters, and so a part of the text.
 #[inline(always)]
 fn leaf_if(span: Option<Span>, i: usize) -> Option<usize>
     ensures { result ≡ Measuring.leaf_if span i }
@@ -53,7 +53,7 @@ fn leaf_if(span: Option<Span>, i: usize) -> Option<usize>
     }
 }
 
-/// A leaf that is a scalar or an alias, of that width.
+/// Returns the measure of a scalar or an alias of that width.
 #[inline(always)]
 fn leaf(i: usize, width: Option<usize>, leaf: Option<usize>) -> Measure
     ensures { result ≡ record { last = i; width = width; can_be_kept = false; first_leaf = leaf; last_leaf = leaf } }
@@ -67,7 +67,7 @@ fn leaf(i: usize, width: Option<usize>, leaf: Option<usize>) -> Measure
     }
 }
 
-/// How many characters a scalar has in a style, with its properties; `None` where it is a block scalar.
+/// Returns the number of characters of a scalar in a style, with its properties, or `None` if it is a block scalar.
 #[inline(always)]
 fn width_in_style(props: &Props, style: ScalarStyle, text: &str, house: &Style) -> Option<usize>
     ensures width { result ≡ width_if (is_one_line_style style) (spaced (props_text (props_value props.now)) (scalar_text house.now style text.now)) }
@@ -80,7 +80,7 @@ fn width_in_style(props: &Props, style: ScalarStyle, text: &str, house: &Style) 
     }
 }
 
-/// The scalar that the event at an index is.
+/// Returns the scalar at an index of the events.
 #[inline(always)]
 pub(crate) fn scalar(
     i: usize,
@@ -110,7 +110,7 @@ pub(crate) fn scalar(
     }
 }
 
-/// The alias that the event at an index is.
+/// Returns the alias at an index of the events.
 pub(crate) fn alias(i: usize, name: &str) -> Ended
     ensures ended { result ≡ Measuring.ended_alias i name.now }
     ensures utf8 { IsUtf8 name.now }

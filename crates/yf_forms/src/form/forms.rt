@@ -9,7 +9,7 @@ use std::alloc::{AllocError, Global};
 use std::marker::Model;
 use yf_lines::packed_lines::narrow;
 
-/// A form, with a note whether there is a comment.
+/// A form in few bytes, with a note whether it has a comment.
 #[derive(Clone, Copy)]
 pub struct PackedForm {
     column: u32,
@@ -46,7 +46,7 @@ fn unpacked(packed: &PackedForm) -> Form
     }
 }
 
-/// The forms of all events of a reading. In a contract it is the list of them.
+/// The forms of all events of a reading. In a contract it is their list.
 #[derive(Drop)]
 pub struct Forms {
     list: Vec<PackedForm>,
@@ -80,14 +80,14 @@ impl Forms {
         Ok(())
     }
 
-    /// Of how many events there are forms.
+    /// Returns the number of forms, one for each event.
     pub fn len(&self) -> usize
         ensures { result ≡ length self.now }
     {
         self.list.len()
     }
 
-    /// The form of the event at an index, which is `Form::NONE` past the end.
+    /// Returns the form of the event at an index, or `Form::NONE` past the end.
     pub fn at(&self, i: usize) -> Form
         ensures { result ≡ get_or self.now i no_form }
     {

@@ -23,7 +23,7 @@ use yf_lines::fault::Fault;
 use yf_lines::source_text::Src;
 use yf_props::props::Props;
 
-/// What comes next between two brackets.
+/// The next node or bracket between two brackets.
 #[derive(Clone, Copy)]
 enum Expected {
     FirstItem,
@@ -35,7 +35,7 @@ enum Expected {
     ValueOfAlias,
 }
 
-/// Appends what is before a node: nothing, a comma, or the `:` of its key.
+/// Appends the separator before a node: nothing, a comma, or the `:` of its key.
 #[inline(always)]
 fn push_separator(out: &mut String, expected: Expected) -> Result<(), AllocError>
     ensures { OnOk result (string_bytes out.new ≡ string_bytes out.old ++ OneLineRun.separator expected) }
@@ -48,7 +48,7 @@ fn push_separator(out: &mut String, expected: Expected) -> Result<(), AllocError
     }
 }
 
-/// What comes next after a node.
+/// Returns the node or bracket that comes after a node.
 fn expected_after(is_alias: bool, expected: Expected) -> Expected
     ensures { result ≡ OneLineRun.expected_after is_alias expected }
 {
@@ -64,14 +64,14 @@ fn expected_after(is_alias: bool, expected: Expected) -> Expected
     }
 }
 
-/// What comes next between each two brackets that are open, the innermost last.
+/// The next node or bracket for each pair of open brackets, the innermost last.
 #[derive(Drop)]
 struct Brackets {
     open: Vec<Expected>,
 }
 
 impl Brackets {
-    /// Appends what is before the next node, and goes past that node.
+    /// Appends the separator before the next node, and passes the node.
     fn before_node(&mut self, out: &mut String, is_alias: bool) -> Result<(), AllocError>
         ensures adds { OnOk result (string_bytes out.new ≡ string_bytes out.old ++ separator_in (reverse self.old.open.items)) }
         ensures next { OnOk result (reverse self.new.open.items ≡ expected_after_in is_alias (reverse self.old.open.items)) }
@@ -86,7 +86,7 @@ impl Brackets {
         }
     }
 
-    /// Appends what is before the text of a node that is no alias.
+    /// Appends the separator and the properties before the text of a node other than an alias.
     #[inline(always)]
     fn before_text(&mut self, out: &mut String, props: &Props) -> Result<(), AllocError>
         ensures adds { OnOk result (string_bytes out.new ≡ string_bytes out.old ++ OneLineRun.before_text (reverse self.old.open.items)
@@ -104,7 +104,8 @@ impl Brackets {
         push_props_before(out, &written)
     }
 
-    /// Appends what is before a collection's bracket. The properties of the outermost one are left out.
+    /// Appends the separator and the properties before a collection's bracket, but not the properties of the
+    /// outermost collection.
     #[inline(always)]
     fn before_bracket(&mut self, out: &mut String, props: &Props) -> Result<(), AllocError>
         ensures adds { OnOk result (string_bytes out.new ≡ string_bytes out.old ++ OneLineRun.before_bracket (reverse self.old.open.items)
@@ -117,7 +118,7 @@ impl Brackets {
         self.before_text(out, props)
     }
 
-    /// Begins a collection with these properties, between whose brackets `first` comes first.
+    /// Begins a collection with these properties. `first` comes first between its brackets.
     #[inline(always)]
     fn begin(
         &mut self,
@@ -177,7 +178,7 @@ impl Brackets {
     }
 }
 
-/// Appends what the events add from the one index to the other.
+/// Appends the text that the events from one index to the other add.
 fn push_between(
     text: &mut String,
     brackets: &mut Brackets,
@@ -198,11 +199,12 @@ fn push_between(
     Ok(())
 }
 
-/// The text on one line, from bracket to bracket, of the flow collection that the event at an index begins. `None` where
-/// it cannot be kept, wherever it is: where a comment is between its brackets, or it holds an empty scalar or a
-/// plain one that does not stay plain. `None` too of an empty collection, and of an event that begins no flow collection.
-/// The measures are those of the reading; of an event that begins a flow collection they may be those of flow collections
-/// alone.
+/// Returns the text on one line, from bracket to bracket, of the flow collection that the event at an index begins.
+///
+/// Returns `None` if the collection can't be kept at any column: a comment is between its brackets, or it holds an
+/// empty scalar or a plain one that does not stay plain. Returns `None` too for an empty collection, and for an event
+/// that begins no flow collection. The measures are those of the reading; for a flow collection, those of flow
+/// collections are enough.
 pub fn kept_text_of(
     alloc: Global,
     measures: &Measures,
@@ -224,7 +226,7 @@ pub fn kept_text_of(
     Ok(Some(text))
 }
 
-/// Appends, from bracket to bracket on one line, the flow collection whose events are from the one index to the other.
+/// Appends the flow collection with the events from one index to the other, on one line from bracket to bracket.
 pub fn push_kept(
     alloc: Global,
     text: &mut String,
@@ -258,14 +260,16 @@ fn kept_within(
     kept_text_of(alloc, &measures, reading, i, style)
 }
 
-/// The text on one line, from bracket to bracket, of the flow collection that the event at an index begins in a reading
-/// of the text: `[a, b]`, `{a: b}`, and a single pair as `[{a: b}]`. `None` where it cannot be kept, whatever the longest
-/// line may be: where a comment is between its brackets, or it holds an empty scalar or a plain one that does not
-/// stay plain. `None` too of an empty collection, and of an event that begins no flow collection.
+/// Returns the text on one line, from bracket to bracket, of the flow collection that the event at an index begins in
+/// a reading of the text: `[a, b]`, `{a: b}`, and a single pair as `[{a: b}]`.
+///
+/// Returns `None` if the collection can't be kept at any length of lines: a comment is between its brackets, or it
+/// holds an empty scalar or a plain one that does not stay plain. Returns `None` too for an empty collection, and for
+/// an event that begins no flow collection.
 ///
 /// # Errors
 ///
-/// `Fault::Memory` where a growth of memory was refused.
+/// Fails with `Fault::Memory` if the allocator refuses memory.
 pub fn kept_text(
     alloc: Global,
     src: &Src,

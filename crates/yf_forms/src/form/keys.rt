@@ -1,5 +1,4 @@
-//! Keys of block mappings: which are written without `?`, how wide they are, and where they begin. Columns count from 0
-//! here.
+//! Keys of block mappings: those written without `?`, their widths and their starts. Columns count from 0 here.
 ghost use Rattle.std.specs.Prelude.{◌<◌, ◌≡◌, length};
 ghost use Rattle.yf_events.specs.Event.{event_value};
 ghost use Rattle.yf_forms.specs.Nodes.ImplicitKeys as Keys;
@@ -12,21 +11,21 @@ use crate::style::Style;
 use yf_events::event::{Event, ScalarStyle};
 use yf_events::reading::Reading;
 
-/// How many characters a key has at most that is written without `?`, its `:` not counted.
+/// The most characters of a key that is written without `?`, not counting its `:`.
 pub const KEY_WIDTH: usize = 1023;
 
-/// A key whose value has not come yet.
+/// A key that waits for its value.
 #[derive(Clone, Copy)]
 pub(crate) struct PendingKey {
     pub(crate) is_implicit: bool,
-    /// How many characters it has with the `:`, and a space before that where it needs one.
+    /// The number of its characters with the `:`, and with the space before that if it needs one.
     pub(crate) width: usize,
-    /// The byte offset at which its last leaf begins, or its entry where it has none.
+    /// The byte offset of its last leaf, or of its entry if it has no leaf.
     pub(crate) start: usize,
 }
 
-/// Whether a key is written without `?`: a leaf on one line or an empty node, or a flow collection that is kept at the
-/// entry's column, of no more characters than such a key may have.
+/// Returns whether a key is written without `?`: a leaf on one line, an empty node, or a flow collection kept at the
+/// entry's column, with at most `KEY_WIDTH` characters.
 pub(crate) fn is_implicit_key(measure: &Measure, column: usize, style: &Style) -> bool
     ensures { result ≡ Deciding.may_be_implicit style.now column measure.now.can_be_kept measure.now.width }
 {
@@ -44,8 +43,8 @@ pub(crate) fn is_implicit_key(measure: &Measure, column: usize, style: &Style) -
     }
 }
 
-/// Whether the house style writes a scalar or an alias without `?` where it is a key of a block mapping: nothing around it counts. Of other
-/// events it is false.
+/// Returns whether the house style writes a scalar or an alias without `?` as a key of a block mapping, whatever is
+/// around it. Returns `false` for other events.
 pub fn is_implicit_atom(event: &Event, style: &Style) -> bool
     ensures { result ≡ Keys.is_implicit_atom style.now (event_value event.now) }
 {
@@ -63,7 +62,7 @@ pub fn is_implicit_atom(event: &Event, style: &Style) -> bool
     }
 }
 
-/// Whether a space is before the `:` of this key: after an alias, and after properties alone.
+/// Returns whether a space comes before the `:` of this key: after an alias, and after properties without a text.
 pub fn has_space(event: &Event, is_leaf: bool) -> bool
     ensures { result ≡ Deciding.has_space (event_value event.now) is_leaf }
 {
@@ -83,7 +82,7 @@ pub fn has_space(event: &Event, is_leaf: bool) -> bool
     }
 }
 
-/// The byte offset at which a leaf begins.
+/// Returns the byte offset at which a leaf begins.
 pub(crate) fn leaf_start(reading: &Reading, leaf: Option<usize>) -> Option<usize>
     ensures { result ≡ Deciding.leaf_start reading.now.events leaf }
 {
@@ -101,7 +100,8 @@ pub(crate) fn leaf_start(reading: &Reading, leaf: Option<usize>) -> Option<usize
     }
 }
 
-/// The byte offset after which a comment trails a key: where its last leaf begins, or its entry where it has none.
+/// Returns the byte offset after which a comment trails a key: the start of its last leaf, or of its entry if it has
+/// no leaf.
 fn key_start(reading: &Reading, i: usize, last_leaf: Option<usize>) -> usize
     requires { i < length reading.now.events }
     ensures { result ≡ Deciding.key_start reading.now.events i last_leaf }
@@ -115,7 +115,7 @@ fn key_start(reading: &Reading, i: usize, last_leaf: Option<usize>) -> usize
     }
 }
 
-/// How many characters a key has with its `:`.
+/// Returns the number of characters of a key with its `:`.
 fn key_width(event: &Event, is_leaf: bool, width: Option<usize>) -> usize
     ensures { result ≡ Deciding.key_width width (Deciding.colon_width (event_value event.now) is_leaf) }
 {
@@ -126,7 +126,7 @@ fn key_width(event: &Event, is_leaf: bool, width: Option<usize>) -> usize
     }
 }
 
-/// The key that an event begins.
+/// Returns the key that an event begins.
 pub(crate) fn key_of(facts: &EventFacts, is_implicit: bool) -> PendingKey
     requires { facts.now.i < length facts.now.reading.now.events }
     ensures { result ≡ record {

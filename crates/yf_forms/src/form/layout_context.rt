@@ -1,4 +1,4 @@
-//! Where each node is in the block collections that are open round it. Columns count from 0 here.
+//! The margins of each node in the open block collections around it. Columns count from 0 here.
 ghost use Rattle.std.specs.Prelude.{◌<◌, ◌≡◌, ◌∷◌, ◌||◌, length, map, reverse, List, Some};
 ghost use Rattle.std.specs.List.Sorted.{IsNonDecreasingBy};
 ghost use Rattle.yf_comments.specs.Comment.{comment_value};
@@ -16,7 +16,7 @@ use yf_comments::comment::Comment;
 use yf_events::event::Event;
 use yf_events::reading::Reading;
 
-/// What is known of an event: the reading in which it is, at which index, what was measured of the node that it begins, and the style.
+/// An event of a reading with its index, the measure of the node that it begins, and the style.
 #[derive(Clone, Copy)]
 pub(crate) struct EventFacts<'r, 'a, 'e> {
     pub(crate) reading: &'r Reading<'a>,
@@ -26,7 +26,7 @@ pub(crate) struct EventFacts<'r, 'a, 'e> {
     pub(crate) style: &'r Style,
 }
 
-/// A block collection whose end has not come yet.
+/// A block collection that has not ended yet.
 #[derive(Clone, Copy)]
 pub(crate) struct LayoutFrame {
     pub(crate) is_map: bool,
@@ -34,10 +34,10 @@ pub(crate) struct LayoutFrame {
     pub(crate) key: Option<PendingKey>,
 }
 
-/// Where a node is, and what it is there.
+/// The margins of a node, and its role.
 #[derive(Clone, Copy)]
 pub(crate) struct LayoutContext {
-    /// The column at which it begins, its properties counted.
+    /// The column at which it begins, with its properties.
     pub(crate) column: usize,
     /// The column of its entries, if it is a block collection.
     pub(crate) entries: usize,
@@ -58,7 +58,7 @@ impl LayoutContext {
     }
 }
 
-/// Whether a node of that width fits that begins at the column.
+/// Returns whether a node of that width fits at the column.
 #[inline(always)]
 pub(crate) fn fits(column: usize, width: Option<usize>, style: &Style) -> bool
     ensures { result ≡ Deciding.has_room style.now column width }
@@ -69,7 +69,7 @@ pub(crate) fn fits(column: usize, width: Option<usize>, style: &Style) -> bool
     }
 }
 
-/// The first comment after the one byte offset and before the other; `near` is where the last search ended.
+/// Returns the first comment after one byte offset and before the other. `near` is the end of the last search.
 #[inline(always)]
 fn comment_between(comments: &[Comment], near: &mut usize, from: usize, to: usize) -> Option<usize>
     requires { MayBegin (λ c. c.offset) comments.now near.old }
@@ -81,7 +81,7 @@ fn comment_between(comments: &[Comment], near: &mut usize, from: usize, to: usiz
     first_near(comments, near, from.saturating_add(1), to)
 }
 
-/// The same, where there is something before which a comment may be.
+/// Like `comment_between`, with an optional second offset; returns `None` without it.
 #[inline(always)]
 fn comment_before(
     comments: &[Comment],
@@ -101,8 +101,8 @@ fn comment_before(
     }
 }
 
-/// The comment that trails an implicit key, whose last leaf begins at that offset, before a value that begins on the next
-/// line if there is one.
+/// Returns the comment that trails an implicit key with its last leaf at that offset, before a value that begins on
+/// the next line if there is such a comment.
 #[inline(always)]
 fn trailing_comment(
     reading: &Reading,
@@ -127,7 +127,7 @@ fn trailing_comment(
     None
 }
 
-/// The column of the entries of an implicit key's value, if it is a block collection.
+/// Returns the column of the entries of an implicit key's value, if it is a block collection.
 #[inline(always)]
 fn value_entries(event: &Event, column: usize, style: &Style) -> usize
     ensures { result ≡ Deciding.value_entries style.now (event_value event.now) column }
@@ -140,7 +140,7 @@ fn value_entries(event: &Event, column: usize, style: &Style) -> usize
     column.saturating_add(style.indent)
 }
 
-/// The comment, where it trails the key: where the value is a leaf, or fits on the next line.
+/// Returns the comment if it trails the key: the value is a leaf, or fits on the next line.
 fn comment_if(
     comment: usize,
     i: usize,
@@ -159,7 +159,7 @@ fn comment_if(
     None
 }
 
-/// Where the value of an implicit key is.
+/// Returns the margins and the role of an implicit key's value.
 #[inline(always)]
 fn value_place(
     facts: &EventFacts,
@@ -192,7 +192,7 @@ fn value_place(
     }
 }
 
-/// Where a key is.
+/// Returns the margins and the role of a key.
 #[inline(always)]
 fn key_place(column: usize, is_implicit: bool, style: &Style) -> LayoutContext
     ensures { result ≡ Deciding.key_place style.now column is_implicit }
@@ -206,7 +206,8 @@ fn key_place(column: usize, is_implicit: bool, style: &Style) -> LayoutContext
     }
 }
 
-/// Where a key or a value is that is the next node of a mapping. A key waits there for its value from here on.
+/// Returns the margins and the role of the next key or value of a mapping. A key waits there for its value from now
+/// on.
 #[inline(always)]
 fn place_in_map(level: &mut LayoutFrame, near: &mut usize, facts: &EventFacts) -> LayoutContext
     requires within { facts.now.i < length facts.now.reading.now.events }
@@ -238,7 +239,7 @@ fn place_in_map(level: &mut LayoutFrame, near: &mut usize, facts: &EventFacts) -
     }
 }
 
-/// Where the next node of a collection is, which is noted there.
+/// Returns the margins and the role of the next node of a collection, and notes the node there.
 #[inline(always)]
 fn place_within(level: &mut LayoutFrame, near: &mut usize, facts: &EventFacts) -> LayoutContext
     requires within { facts.now.i < length facts.now.reading.now.events }
@@ -257,8 +258,8 @@ fn place_within(level: &mut LayoutFrame, near: &mut usize, facts: &EventFacts) -
     LayoutContext::at(level.column.saturating_add(facts.style.indent))
 }
 
-/// Where the next node is that holds no other. That it is a key or a value is noted in the innermost open collection.
-/// Among the comments `near` is where the last search ended.
+/// Returns the margins and the role of the next node, and notes in the innermost open collection whether it is a key
+/// or a value. `near` is the end of the last search among the comments.
 #[inline(always)]
 pub(crate) fn place_node(
     stack: &mut Vec<LayoutFrame>,

@@ -1,4 +1,4 @@
-//! How wide each node is where it is written on one line: one pass over the events, inner nodes before outer ones.
+//! The width of each node on one line: one pass over the events, inner nodes before outer ones.
 ghost use Rattle.std.specs.Prelude.{◌<◌, ◌≡◌, [], ◌∷◌, ◌++◌, length, map, reverse, slice_get, true, IfOk, Option, Some};
 ghost use Rattle.std.specs.List.Sorted.{IsNonDecreasingBy};
 ghost use Rattle.yf_comments.specs.Comment.{comment_value};
@@ -21,15 +21,15 @@ use yf_events::event::{Event, Span};
 use yf_events::reading::Reading;
 use yf_lines::source_text::Src;
 
-/// What one pass finds of the node that an event begins.
+/// The results of one pass for the node that an event begins.
 #[derive(Clone, Copy)]
 pub struct Measure {
-    /// The index of the event with which the node ends: its own, or that of the collection's end.
+    /// The index of the node's last event: its own, or that of the collection's end.
     pub last: usize,
-    /// How many characters the node's text has on one line, with its properties. `None` where it is not written on one
-    /// line: as a block scalar, a block collection, or a flow collection that cannot be kept.
+    /// The number of characters of the node's text on one line, with its properties. `None` if it is not written on
+    /// one line: a block scalar, a block collection, or a flow collection that can't be kept.
     pub width: Option<usize>,
-    /// Whether the node is a flow collection with entries that can be kept, wherever it is.
+    /// Whether the node is a flow collection with entries that can be kept, at any column.
     pub can_be_kept: bool,
     /// The index of the event that begins the node's first leaf with characters. A leaf is its own first leaf.
     pub first_leaf: Option<usize>,
@@ -38,7 +38,7 @@ pub struct Measure {
 }
 
 impl Measure {
-    /// What an event is given that begins no node.
+    /// The measure of an event that begins no node.
     pub const NONE: Measure = Measure {
         last: 0,
         width: None,
@@ -47,7 +47,7 @@ impl Measure {
         last_leaf: None,
     };
 
-    /// Whether the node, which the event at that index begins, is a leaf with characters.
+    /// Returns whether the node that the event at that index begins is a leaf with characters.
     pub fn is_leaf(&self, i: usize) -> bool
         ensures { result ≡ is_leaf_at i self.now.first_leaf }
     {
@@ -58,7 +58,7 @@ impl Measure {
     }
 }
 
-/// Hands a node that has ended to the collection that holds it.
+/// Hands an ended node to the collection around it.
 #[inline(always)]
 fn hand(stack: &mut Vec<Open>, node: &Ended)
     ensures { reverse stack.new.items ≡ Measuring.handed node.now (reverse stack.old.items) }
@@ -69,7 +69,7 @@ fn hand(stack: &mut Vec<Open>, node: &Ended)
     }
 }
 
-/// Adds the measure of a leaf, and notes the leaf in the collection that holds it.
+/// Adds the measure of a leaf, and notes the leaf in the collection around it.
 #[inline(always)]
 fn add_leaf(
     list: &mut Measures,
@@ -103,7 +103,7 @@ fn close(list: &mut Measures, stack: &mut Vec<Open>, i: usize) -> Result<(), All
     }
 }
 
-/// Adds a collection to those whose end has not come yet.
+/// Adds a collection to those that have not ended yet.
 #[inline(always)]
 fn begin(list: &mut Measures, stack: &mut Vec<Open>, collection: Open) -> Result<(), AllocError>
     ensures { IfOk result (λ _. found list.new (reverse stack.new.items) ≡ Measuring.begun collection
@@ -114,7 +114,7 @@ fn begin(list: &mut Measures, stack: &mut Vec<Open>, collection: Open) -> Result
     Ok(())
 }
 
-/// Goes past one event.
+/// Passes one event.
 #[inline(always)]
 pub(crate) fn pass(
     list: &mut Measures,
@@ -162,7 +162,7 @@ pub(crate) fn pass(
     }
 }
 
-/// Goes past the event at an index. That most nodes have no properties is known before one of them is looked at.
+/// Passes the event at an index. Tries `bare_event` first, since most nodes have no properties.
 #[inline(always)]
 fn pass_at(
     list: &mut Measures,
@@ -196,7 +196,7 @@ fn pass_at(
     }
 }
 
-/// Measures all nodes of a reading of the text, which has these comments.
+/// Measures all nodes of a reading of the text with these comments.
 fn measured(
     alloc: Global,
     text: &str,
@@ -229,7 +229,7 @@ pub fn measure_text(
     Ok(measures)
 }
 
-/// The same of a text with its table of lines.
+/// Like `measure_text`, for a text with its table of lines.
 pub fn measure_all(
     alloc: Global,
     src: &Src,
@@ -242,8 +242,8 @@ pub fn measure_all(
     measure_text(alloc, src.text(), reading, style)
 }
 
-/// Measures all nodes of a normal reading, in one pass: no comment is between the brackets of its flow collections, so
-/// neither the text nor the comments are looked at.
+/// Measures all nodes of a normal reading, in one pass. No comment is between the brackets of its flow collections,
+/// so the pass needs neither the text nor the comments.
 pub fn measure_normal(
     alloc: Global,
     reading: &Reading,

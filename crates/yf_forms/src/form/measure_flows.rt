@@ -1,4 +1,4 @@
-//! The measures of flow collections alone: of what is outside of them nothing is looked at but the kind.
+//! The measures of flow collections only. Of the events outside of them, only the kind matters.
 ghost use Rattle.std.specs.Prelude.{◌<◌, ◌≡◌, [], ◌∷◌, ◌++◌, ◌+◌, ◌^◌, length, map, reverse, true, IfOk};
 ghost use Rattle.std.specs.List.Sorted.{IsNonDecreasingBy};
 ghost use Rattle.yf_comments.specs.Comment.{comment_value};
@@ -21,7 +21,8 @@ use yf_events::event::{Event, Span};
 use yf_events::reading::Reading;
 use yf_lines::source_text::Src;
 
-/// Whether an event is outside of all flow collections, where so many collections are open in one, and begins none.
+/// Returns whether an event is outside of all flow collections and begins none. `depth` is the number of collections
+/// open in one.
 #[inline(always)]
 fn is_outside(depth: usize, event: &Event) -> bool
     ensures { result ≡ FlowsAlone.is_outside depth (event_value event.now) }
@@ -36,7 +37,7 @@ fn is_outside(depth: usize, event: &Event) -> bool
     }
 }
 
-/// How many collections are open after an event of a flow collection.
+/// Returns how many collections are open after an event of a flow collection.
 #[inline(always)]
 fn depth_after(depth: usize, event: &Event) -> usize
     requires { depth + 1 < 2 ^ 64 }
@@ -51,7 +52,7 @@ fn depth_after(depth: usize, event: &Event) -> usize
     }
 }
 
-/// Goes past one event where so many collections are open in a flow collection, and answers how many are open then.
+/// Passes one event with `depth` collections open in a flow collection. Returns how many are open after it.
 #[inline(always)]
 fn pass_seen(
     list: &mut Measures,
@@ -80,7 +81,7 @@ fn pass_seen(
     Ok(depth_after(depth, event))
 }
 
-/// Measures the flow collections of a reading of the text, which has these comments, and the nodes in them.
+/// Measures the flow collections of a reading of the text with these comments, and the nodes in them.
 fn measured_flows(
     alloc: Global,
     text: &str,
@@ -111,8 +112,8 @@ fn measured_flows(
     Ok(list)
 }
 
-/// Measures the flow collections of a reading of the text, and the nodes in them, in one pass. The measure of any other node is
-/// `Measure::NONE`.
+/// Measures the flow collections of a reading of the text, and the nodes in them, in one pass. The measure of any
+/// other node is `Measure::NONE`.
 pub fn measure_flows(
     alloc: Global,
     src: &Src,

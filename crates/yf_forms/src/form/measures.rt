@@ -9,7 +9,7 @@ use std::alloc::{AllocError, Global};
 use std::marker::Model;
 use yf_lines::packed_lines::narrow;
 
-/// A measure: of each number that may be missing a note whether it is there.
+/// A measure, with a note for each optional number whether it is present.
 #[derive(Clone, Copy)]
 pub struct PackedMeasure {
     width: u32,
@@ -22,7 +22,7 @@ pub struct PackedMeasure {
     has_last_leaf: bool,
 }
 
-/// That of an event that begins no node.
+/// The measure of an event that begins no node.
 const NO_MEASURE: PackedMeasure = PackedMeasure {
     width: 0,
     last: 0,
@@ -67,7 +67,7 @@ fn unpacked(packed: &PackedMeasure) -> Measure
     }
 }
 
-/// The measures of all events of a reading. In a contract it is the list of them.
+/// The measures of all events of a reading. In a contract it is their list.
 #[derive(Drop)]
 pub struct Measures {
     list: Vec<PackedMeasure>,
@@ -92,7 +92,7 @@ impl Measures {
         }
     }
 
-    /// Adds that of an event that begins no node, or whose node has not ended yet.
+    /// Adds the measure of an event that begins no node, or a node that has not ended yet.
     #[inline(always)]
     pub(crate) fn push_none(&mut self) -> Result<(), AllocError>
         ensures { IfOk result (λ _. self.new ≡ self.old ++ no_measure ∷ []) }
@@ -101,7 +101,7 @@ impl Measures {
         Ok(())
     }
 
-    /// Adds the measure of the node that the next event begins, and ends.
+    /// Adds the measure of the node that the next event begins and ends.
     #[inline(always)]
     pub(crate) fn push(&mut self, measure: &Measure) -> Result<(), AllocError>
         ensures { IfOk result (λ _. self.new ≡ self.old ++ measure.now ∷ []) }
@@ -123,7 +123,7 @@ impl Measures {
         Ok(())
     }
 
-    /// The measure of the event at an index, which is `Measure::NONE` past the end.
+    /// Returns the measure of the event at an index, or `Measure::NONE` past the end.
     pub fn at(&self, i: usize) -> Measure
         ensures { result ≡ get_or self.now i no_measure }
     {

@@ -5,7 +5,7 @@ ghost use Rattle.yf_forms.specs.NormalForms.Packed as Packed;
 use std::alloc::AllocError;
 use yf_lines::packed_lines::narrow;
 
-/// The number where there is one, or 0.
+/// Returns the number, or 0 if there is none.
 #[inline(always)]
 pub(crate) fn narrow_if(number: Option<usize>) -> Result<u32, AllocError>
     ensures { IfOk result (λ n. Packed.some_if (is_some number) n ≡ number) }
@@ -16,7 +16,7 @@ pub(crate) fn narrow_if(number: Option<usize>) -> Result<u32, AllocError>
     }
 }
 
-/// The number, where it is there.
+/// Returns the number if it is present.
 #[inline(always)]
 pub(crate) fn some_if(is_there: bool, number: u32) -> Option<usize>
     ensures { result ≡ Packed.some_if is_there number }

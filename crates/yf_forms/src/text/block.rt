@@ -10,7 +10,7 @@ use crate::text::limit::limited;
 use std::alloc::AllocError;
 use yf_events::event::ScalarStyle;
 
-/// Appends spaces. Where a growth of memory is refused, all the room that there was is filled.
+/// Appends spaces. If memory is refused, fills all the room that was there.
 #[inline(always)]
 pub fn push_spaces(out: &mut String, count: usize) -> Result<(), AllocError>
     ensures { OnOk result (string_bytes out.new ≡ string_bytes out.old ++ replicate count 32) }
@@ -21,7 +21,7 @@ pub fn push_spaces(out: &mut String, count: usize) -> Result<(), AllocError>
     push_each_space(out, count)
 }
 
-/// Appends spaces one by one, where there is not room for all.
+/// Appends spaces one by one, without room for all.
 #[cold]
 #[inline(never)]
 fn push_each_space(out: &mut String, count: usize) -> Result<(), AllocError>
@@ -64,21 +64,22 @@ fn push_few_spaces(out: &mut String, count: usize) -> Result<(), AllocError>
     }
 }
 
-/// The text up to its last character that is no line feed.
+/// Returns the text up to its last character other than a line feed.
 fn without_feeds(text: &str) -> &str
     ensures { result.now ≡ without_final_feeds text.now }
 {
     text.trim_end_matches('\n')
 }
 
-/// How many line feeds a text ends with.
+/// Returns how many line feeds a text ends with.
 fn final_feeds(text: &str) -> usize
     ensures { result ≡ BlockLines.final_feeds text.now }
 {
     text.len().saturating_sub(without_feeds(text).len())
 }
 
-/// Whether the first character that is no line feed is a space, so that the indentation cannot be told from the content.
+/// Returns whether the first character other than a line feed is a space. Then the indentation can't be detected from
+/// the content.
 fn starts_with_space(text: &str) -> bool
     ensures { result ≡ begins_with_space text.now }
 {
@@ -90,15 +91,15 @@ fn starts_with_space(text: &str) -> bool
     false
 }
 
-/// Whether the header of a block scalar with this content has the sign that keeps all its final line feeds.
+/// Returns whether the header of a block scalar with this content has the sign that keeps all its final line feeds.
 pub fn is_kept_whole(text: &str) -> bool
     ensures { result ≡ is_kept_tail (BlockLines.final_feeds text.now) }
 {
     final_feeds(text) > 1
 }
 
-/// Appends the header of a block scalar with this content: `|` or `>`, the indentation where the content begins with a space,
-/// and the sign by the number of its final line feeds.
+/// Appends the header of a block scalar with this content: `|` or `>`, the indentation if the content begins with a
+/// space, and the sign for its final line feeds.
 pub fn push_header(
     out: &mut String,
     style: ScalarStyle,
@@ -123,7 +124,7 @@ fn push_style(out: &mut String, style: ScalarStyle) -> Result<(), AllocError>
     }
 }
 
-/// Appends the digit of the indentation, where the content begins with a space.
+/// Appends the digit of the indentation, if the content begins with a space.
 fn push_digit(out: &mut String, text: &str, indent: usize) -> Result<(), AllocError>
     requires { indent ≤ 9 }
     ensures { OnOk result (string_bytes out.new ≡ string_bytes out.old ++ digit_text indent text.now) }
@@ -144,7 +145,8 @@ fn push_sign(out: &mut String, text: &str) -> Result<(), AllocError>
     }
 }
 
-/// Appends a line of a block scalar at the column; an empty one has no spaces. Lines of more than `LONGEST` bytes get no further one.
+/// Appends a line of a block scalar at the column; an empty one has no spaces. Fails if the output already has more
+/// than `LONGEST` bytes.
 fn push_line(out: &mut String, line: &str, column: usize) -> Result<(), AllocError>
     ensures { OnOk result (string_bytes out.new ≡ string_bytes out.old ++ ended (line_at column line.now)) }
 {
@@ -166,7 +168,7 @@ fn push_tail(out: &mut String, text: &str, column: usize) -> Result<(), AllocErr
     Ok(())
 }
 
-/// Appends the lines of a text, which are cut at its line feeds.
+/// Appends the lines of a text, cut at its line feeds.
 fn push_lines(out: &mut String, text: &str, column: usize) -> Result<(), AllocError>
     ensures { OnOk result (string_bytes out.new ≡ string_bytes out.old ++ flat_map ended (map (line_at column) (cut_at_feeds text.now))) }
 {

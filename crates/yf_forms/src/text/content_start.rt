@@ -1,4 +1,4 @@
-//! Where the content of a node begins, after its properties (YAML 1.2.2, section 6.9).
+//! The start of a node's content, after its properties (YAML 1.2.2, section 6.9).
 ghost use Rattle.std.specs.Prelude.{◌≡◌, ◌≤◌, ◌-◌, ◌∷◌, ℕ, suc, List, Some, length, MatchOption};
 ghost use Rattle.yf_chars.specs.Text.{code};
 ghost use Rattle.yf_forms.specs.Nodes.ContentStart as ContentStart;
@@ -9,14 +9,14 @@ use yf_chars::text::is_char_at;
 use yf_events::event::Span;
 use yf_props::props::{Props, Tag};
 
-/// How many bytes an anchor is written with.
+/// Returns the number of bytes of an anchor.
 fn anchor_len(name: &str) -> usize
     ensures { result ≡ ContentStart.anchor_len (Some name.now) }
 {
     name.len() + 1
 }
 
-/// How many bytes a tag is written with.
+/// Returns the number of bytes of a tag.
 fn tag_len(tag: Tag) -> usize
     ensures { result ≡ ContentStart.tag_len (Some (tag_value tag.entry)) }
 {
@@ -27,7 +27,7 @@ fn tag_len(tag: Tag) -> usize
     }
 }
 
-/// How many bytes the property is written with that begins there; 0 where none begins.
+/// Returns the number of bytes of the property that begins at the offset, as written, or 0 if none begins there.
 fn written_len(text: &str, at: usize, props: &Props) -> usize
     ensures { result ≡ ContentStart.written_len (code text.now at) (props_value props.now) }
 {
@@ -46,7 +46,8 @@ fn written_len(text: &str, at: usize, props: &Props) -> usize
     0
 }
 
-/// How many bytes the property has that is at the byte offset, not past the end of the text; 0 where none is.
+/// Returns the number of bytes of the property at the byte offset, up to the end of the text, or 0 if none begins
+/// there.
 fn property_len(text: &str, at: usize, props: &Props) -> usize
     ensures len { result ≡ ContentStart.property_len text.now at (props_value props.now) }
     ensures within { result ≤ length text.now - at }
@@ -54,7 +55,7 @@ fn property_len(text: &str, at: usize, props: &Props) -> usize
     written_len(text, at, props).min(text.len().saturating_sub(at))
 }
 
-/// What a byte does to a separation: `None` where it is none of its bytes, else whether a comment goes on after it.
+/// Returns whether a comment goes on after a byte of a separation, or `None` if the byte is not part of one.
 fn after_byte(in_comment: bool, byte: u8) -> Option<bool>
     ensures { MatchOption result ((bs : List ℕ) → gap_len in_comment (byte ∷ bs) ≡ 0)
         (λ next. (bs : List ℕ) → gap_len in_comment (byte ∷ bs) ≡ suc (gap_len next bs)) }
@@ -80,7 +81,7 @@ fn after_byte(in_comment: bool, byte: u8) -> Option<bool>
     None
 }
 
-/// The byte offset after the white space, line breaks and comments that are there, and not past the end.
+/// Returns the byte offset after the white space, line breaks and comments at the offset, but not past `end`.
 fn past_gap(text: &str, at: usize, end: usize) -> usize
     ensures { result ≡ ContentStart.past_gap text.now at end }
 {
@@ -96,7 +97,7 @@ fn past_gap(text: &str, at: usize, end: usize) -> usize
     at.max(stop)
 }
 
-/// The byte offset after the property that is there, if one is, and after what separates it from what follows.
+/// Returns the byte offset after the property at the offset, if there is one, and the separation after it.
 fn past_second(text: &str, at: usize, end: usize, props: &Props) -> usize
     ensures { result ≡ ContentStart.past_second text.now at end (props_value props.now) }
 {
@@ -107,8 +108,8 @@ fn past_second(text: &str, at: usize, end: usize, props: &Props) -> usize
     past_gap(text, at + len, end)
 }
 
-/// The byte offset at which the content of a node begins, after its properties: at its first character, its quote, its
-/// bracket or its header. Of properties alone it is their end.
+/// Returns the byte offset at which the content of a node begins, after its properties: its first character, its
+/// quote, its bracket or its header. For properties without content it is their end.
 ///
 /// The span and the properties are those of a node of the text.
 pub fn content_start(text: &str, span: Span, props: &Props) -> usize

@@ -1,4 +1,4 @@
-//! The style in which a scalar is written.
+//! The style of a scalar in the house style.
 ghost use Rattle.std.specs.Prelude.{◌≡◌, ◌<◌, length, slice_get, IfSome};
 ghost use Rattle.yf_forms.specs.Nodes.ScalarStyles as Wanted;
 ghost use Rattle.yf_forms.specs.Nodes.ScalarStyles.{quoted_in, wanted, wanted_of_event};
@@ -11,8 +11,8 @@ use yf_lines::quotes::Quotes;
 use yf_lines::steady::is_steady;
 use yf_quoted::write::choose_in;
 
-/// The quotes that the house style takes for a text: the preferred ones, but single quotes only where each character is
-/// an nb-char (production 27) and none is a hidden one that is to be escaped, since they have no escapes.
+/// Returns the quotes of a text in the house style: the preferred ones, but single quotes only if each character is
+/// an nb-char (production 27) and no hidden one must be escaped, since single quotes have no escapes.
 fn quotes_of(text: &str, house: &Style) -> ScalarStyle
     ensures { result ≡ quoted_in text.now house.now }
 {
@@ -22,14 +22,14 @@ fn quotes_of(text: &str, house: &Style) -> ScalarStyle
     }
 }
 
-/// Whether the text has a character other than space and line feed, without which no block scalar is written.
+/// Returns whether the text has a character other than space and line feed. A block scalar needs one.
 fn has_block_content(text: &str) -> bool
     ensures { result ≡ Wanted.has_block_content text.now }
 {
     text.as_bytes().iter().any(|b| *b != b' ' && *b != b'\n')
 }
 
-/// The style in which the house style writes a scalar of this style and text.
+/// Returns the style in which the house style writes a scalar of this style and text.
 #[inline(always)]
 pub fn wanted_of(written: ScalarStyle, text: &str, house: &Style) -> ScalarStyle
     ensures { result ≡ wanted written text.now house.now }
@@ -57,9 +57,11 @@ pub fn wanted_of(written: ScalarStyle, text: &str, house: &Style) -> ScalarStyle
     }
 }
 
-/// The style in which the house style writes the scalar that the event at an index is: a plain one stays plain where its
-/// text is steady, a literal or folded one stays what it is where it has a character other than space and line feed, and
-/// any other is quoted. Of an event that is no scalar it is `Plain`. It takes no memory.
+/// Returns the style in which the house style writes the scalar at an index of the events, and `Plain` for another
+/// event.
+///
+/// A plain scalar stays plain if its text is steady. A literal or folded one keeps its style if it has a character
+/// other than space and line feed. Any other is quoted. The function allocates nothing.
 pub fn wanted_style(reading: &Reading, i: usize, style: &Style) -> ScalarStyle
     requires { i < length reading.now.events }
     ensures { IfSome (slice_get (events_of reading.now) i) (λ e. result ≡ wanted_of_event e style.now) }

@@ -1,4 +1,4 @@
-//! How many characters a node's text has that is written on one line. Numbers are cut at the greatest `usize`.
+//! The number of characters of a node's text on one line, at most the greatest `usize`.
 ghost use Rattle.std.specs.Prelude.{◌≡◌, chars, is_some, length, Some};
 ghost use Rattle.std.specs.Str.{IsUtf8};
 ghost use Rattle.yf_chars.specs.Common.{is_common};
@@ -18,14 +18,14 @@ use yf_events::event::ScalarStyle;
 use yf_lines::invisible::Invisible;
 use yf_props::props::{Props, Tag};
 
-/// How many bytes a text has.
+/// Returns the number of bytes of a text.
 fn byte_count(text: &str) -> usize
     ensures { result ≡ length text.now }
 {
     text.len()
 }
 
-/// How many characters a text has.
+/// Returns the number of characters of a text.
 #[inline(always)]
 fn counted(text: &str) -> usize
     ensures count { result ≡ up_to_greatest (width text.now) }
@@ -37,7 +37,7 @@ fn counted(text: &str) -> usize
     text.chars().count()
 }
 
-/// How many characters a text has.
+/// Returns the number of characters of a text.
 pub fn char_count(text: &str) -> usize
     ensures count { result ≡ up_to_greatest (width text.now) }
     ensures utf8 { IsUtf8 text.now }
@@ -45,7 +45,7 @@ pub fn char_count(text: &str) -> usize
     counted(text)
 }
 
-/// Whether a character is spelled by a backslash and a letter.
+/// Returns whether the spelling of a character is a backslash and a letter.
 #[tactic(auto, unfolding(yf_chars::specs::Escape::short_name))]
 fn is_by_letter(c: char) -> bool
     ensures { result ≡ is_some (Escape.short_name c) }
@@ -53,7 +53,7 @@ fn is_by_letter(c: char) -> bool
     matches!(c, '"' | '\\' | '\n' | '\t' | '\r' | '\0')
 }
 
-/// Whether it is an ASCII character that is spelled by itself, as most are.
+/// Returns whether it is an ASCII character that needs no escape, as most are.
 #[inline(always)]
 #[tactic(auto, unfolding(yf_chars::specs::Common::is_common, yf_chars::specs::Class::is_between))]
 fn is_common_char(c: char) -> bool
@@ -65,7 +65,7 @@ fn is_common_char(c: char) -> bool
     is_common(c as u8)
 }
 
-/// How many characters the spelling of one has in double quotes.
+/// Returns the number of characters of one's spelling in double quotes.
 fn spelled_width(c: char) -> usize
     ensures { result ≡ length (spelled c) }
 {
@@ -84,7 +84,7 @@ fn spelled_width(c: char) -> usize
     1
 }
 
-/// A quote is written twice in single quotes.
+/// Returns the number of characters of one's spelling in single quotes: a quote is written twice.
 fn twice_width(c: char) -> usize
     ensures { result ≡ length (twice c) }
 {
@@ -107,7 +107,7 @@ fn double_width(text: &str) -> usize
     width
 }
 
-/// How many characters the spelling of one has in double quotes where hidden ones are escaped.
+/// Returns the number of characters of one's spelling in double quotes, if hidden characters are escaped.
 fn spelled_out_width(c: char) -> usize
     ensures { result ≡ length (spelled_out c) }
 {
@@ -152,7 +152,7 @@ fn single_width(text: &str) -> usize
     width
 }
 
-/// How many characters a scalar has in a style on one line; `None` in a block style.
+/// Returns the number of characters of a scalar in a style on one line, or `None` for a block style.
 pub fn scalar_width(style: ScalarStyle, text: &str, house: &Style) -> Option<usize>
     ensures width { result ≡ Measures.scalar_width house.now style text.now }
     ensures utf8 { IsUtf8 text.now }
@@ -176,7 +176,7 @@ fn tag_width(tag: Tag) -> usize
     }
 }
 
-/// The widths of two parts with a space between them, where neither is missing.
+/// Returns the width of two parts with a space between them, if both have characters.
 pub fn joined_width(one: usize, other: usize) -> usize
     ensures { result ≡ Measures.joined_width one other }
 {
@@ -209,7 +209,7 @@ fn optional_tag_width(tag: &Option<Tag>) -> usize
     }
 }
 
-/// How many characters properties have: the anchor, a space and the tag.
+/// Returns the number of characters of properties: the anchor, a space and the tag.
 pub fn props_width(props: &Props) -> usize
     ensures width { result ≡ up_to_greatest (width (props_text (props_value props.now))) }
     ensures utf8 { IsUtf8 (props_text (props_value props.now)) }

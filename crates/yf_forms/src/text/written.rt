@@ -1,4 +1,4 @@
-//! The text of a node that is written on one line.
+//! The text of a node on one line.
 ghost use Rattle.std.specs.Prelude.{◌≡◌, ◌++◌, not, OnOk, Some};
 ghost use Rattle.std.specs.String.{string_bytes};
 ghost use Rattle.yf_props.specs.Props.{optional_tag_value, props_value, tag_value};
@@ -12,7 +12,7 @@ use yf_events::event::ScalarStyle;
 use yf_props::props::{Props, Tag};
 use yf_quoted::write::{push_double_in, push_single};
 
-/// Appends the text of a scalar in a style on one line; nothing of a block style.
+/// Appends the text of a scalar in a style on one line; appends nothing for a block style.
 pub fn push_scalar(
     out: &mut String,
     style: ScalarStyle,
@@ -49,7 +49,7 @@ fn push_tag(out: &mut String, tag: Tag) -> Result<(), AllocError>
     }
 }
 
-/// Whether one of two texts has a character.
+/// Returns whether one of two texts has a character.
 #[inline(always)]
 fn is_one_filled(one: &str, other: &str) -> bool
     ensures { result ≡ not (is_empty_text (one.now ++ other.now)) }
@@ -60,7 +60,7 @@ fn is_one_filled(one: &str, other: &str) -> bool
     true
 }
 
-/// Whether a tag is written.
+/// Returns whether a tag is written.
 #[inline(always)]
 fn has_tag(tag: &Option<Tag>) -> bool
     ensures { result ≡ not (is_empty_text (tag_text (optional_tag_value tag.now))) }
@@ -73,7 +73,7 @@ fn has_tag(tag: &Option<Tag>) -> bool
     }
 }
 
-/// Whether a node has properties.
+/// Returns whether a node has properties.
 #[inline(always)]
 pub fn has_props(props: &Props) -> bool
     ensures { result ≡ not (is_empty_text (props_text (props_value props.now))) }
@@ -84,7 +84,7 @@ pub fn has_props(props: &Props) -> bool
     }
 }
 
-/// Appends a tag, where there is one.
+/// Appends a tag, if there is one.
 fn push_optional_tag(out: &mut String, tag: &Option<Tag>) -> Result<(), AllocError>
     ensures { OnOk result (string_bytes out.new ≡ string_bytes out.old ++ tag_text (optional_tag_value tag.now)) }
 {
@@ -94,7 +94,7 @@ fn push_optional_tag(out: &mut String, tag: &Option<Tag>) -> Result<(), AllocErr
     }
 }
 
-/// Appends a tag after an anchor, where there is one, with a space between them.
+/// Appends a space and the tag after an anchor, if there is a tag.
 fn push_tag_after(out: &mut String, tag: &Option<Tag>) -> Result<(), AllocError>
     ensures { OnOk result (string_bytes out.new ≡ string_bytes out.old ++ space_before (tag_text (optional_tag_value tag.now))) }
 {
@@ -119,7 +119,8 @@ pub fn push_props(out: &mut String, props: &Props) -> Result<(), AllocError>
     }
 }
 
-/// The same of properties by value: what is handed on by address is in memory whether they are written or not.
+/// Like `push_props`, with the properties by value: a value passed by address is in memory even if it is never
+/// written.
 #[inline(never)]
 pub(crate) fn push_props_alone(out: &mut String, props: Props) -> Result<(), AllocError>
     ensures { OnOk result (string_bytes out.new ≡ string_bytes out.old ++ props_text (props_value props.entry)) }
@@ -127,7 +128,7 @@ pub(crate) fn push_props_alone(out: &mut String, props: Props) -> Result<(), All
     push_props(out, &props)
 }
 
-/// Appends properties with a space after them; nothing where there are none.
+/// Appends properties with a space after them, or nothing if there are none.
 #[inline(always)]
 pub fn push_props_before(out: &mut String, props: &Props) -> Result<(), AllocError>
     ensures { OnOk result (string_bytes out.new ≡ string_bytes out.old ++ space_after (props_text (props_value props.now))) }

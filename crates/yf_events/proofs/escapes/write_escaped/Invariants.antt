@@ -1,4 +1,4 @@
--- What is left of the text is what is still to be written.
+-- The rest of the text is still to be written.
 use Rattle.std.proofs.Common.{length}
 use Rattle.yf_events.specs.Notation.{escaped}
 use Rattle.yf_lines.proofs.OutputLemmas.{Progress}

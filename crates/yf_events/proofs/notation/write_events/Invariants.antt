@@ -1,4 +1,4 @@
--- What is left of the events is what is still to be written.
+-- The rest of the events is still to be written.
 use Rattle.std.proofs.Common.{drop}
 use Rattle.std.specs.List.{zip}
 use Rattle.yf_lines.proofs.OutputLemmas.{Progress}

@@ -1,4 +1,4 @@
--- What is left of the pieces is what is still to be written.
+-- The rest of the pieces is still to be written.
 use Rattle.std.proofs.Common.{drop}
 use Rattle.std.specs.List.{flat_map}
 use Rattle.yf_lines.proofs.OutputLemmas.{Progress}
