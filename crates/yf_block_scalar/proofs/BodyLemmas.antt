@@ -1,4 +1,4 @@
--- Laws of the lines of a block scalar: where they end, that they are unique, and how a scalar is read line by line.
+-- Laws of the lines of a block scalar: their ends, their uniqueness, and how the reader builds a scalar line by line.
 use Rattle.std.proofs.Common.{◌≡◌, ◌≢◌, ℕ, zero, suc, ◌+◌, ◌-◌, ◌<◌, ◌≤◌, ℤ, max, Bool, true, false, true≢false, List, [], ◌∷◌, ◌++◌, length, MatchBool, take, slice_range, refl, sym, ap, ◌∙◌, subst, arith, ⊎_elim, ◌⊎◌, append_assoc, append-nil, add-zero, length-append}
 use Rattle.std.proofs.Math.Seq.{take-append_seam}
 use Rattle.std.proofs.lemmas.Bool.{cases_lt}
@@ -42,7 +42,7 @@ spaces_boundary t i (suc k) u b s =
     let same : i + k + 1 ≡ i + suc k = omega arith in
     subst (λ w. IsCharBoundary t w) same (reads_byte t (i + k) 32 u (s.each k (omega arith)) (omega arith)).boundary
 
--- a line of spaces alone
+-- a line of only spaces
 pub break_no_space : {t : List ℕ} {i j : ℕ} → Break t i j → code t i ≢ 32
 break_no_space b e = ⊎_elim (λ h. absurd (omega arith)) (λ h. absurd (omega arith)) (break_char b)
 
@@ -92,7 +92,7 @@ no_end e n f z none (content s m l q c) = no_end_here e z none (text_end m q n f
   no_end_here {t} {j = j} e z none same (by_break b) = none.none j (subst (λ w. Break t w j) same b)
   no_end_here e z none same (by_text l) = z (sym same ∙ l)
 
--- how a scalar is read: the lines so far, in front the last content line and after it empty lines alone
+-- the reader's state: the lines so far, first those up to the last content line, then only empty lines
 pub record Reading (t : List ℕ) (k at p : ℕ) (ls : List (List ℕ)) (o : Bool) (count : ℕ) : Type 0 where
   pub end : ℕ
   pub front : List (List ℕ)
@@ -168,7 +168,7 @@ pub reading_length : {t : List ℕ} {k at p count : ℕ} {ls : List (List ℕ)} 
     → length ls ≡ length r.front + count
 reading_length r = ap length r.parts ∙ length-append r.front r.back ∙ ap (λ w. length r.front + w) r.counts
 
--- what is left of the lines without the last empty ones
+-- the lines without the empty ones at the end
 pub reading_done : {t : List ℕ} {k at p count : ℕ} {ls : List (List ℕ)} {o : Bool} → Reading t k at p ls o count → Stuck (Line t k p)
     → LinesTaken t k at (take (length ls - count) ls) o count p
 reading_done {t} {k} {at} {p} {count} {ls} {o} r stuck =
@@ -176,12 +176,12 @@ reading_done {t} {k} {at} {p} {count} {ls} {o} r stuck =
     let same : take (length ls - count) ls ≡ r.front = ap (λ w. take w ls) n ∙ ap (take (length r.front)) r.parts ∙ take-append_seam r.front r.back in
     subst (λ w. LinesTaken t k at w o count p) (sym same) (record { end = r.end; lines = r.lines; tail = r.tail; most = stuck })
 
--- a content line as it is read
+-- a content line in the reader
 pub content_there : {t : List ℕ} {at k m j : ℕ} {x : List ℕ} {o : Bool} (e : ℕ) → k ≤ m → Spaces t at m → Many t is_nb_char (at + k) e x
     → at + k ≤ e → e ≢ at + k → Ends t e j o → is_marker t at ≡ false → LineContent t k at j (slice_range t (at + k) e) o
 content_there {k = k} e l s n le ne q c = content (spaces_fewer k l s) n (omega arith) q c
 
--- lines of spaces alone: one leads on to one place
+-- a chain of lines of only spaces is unique
 module _ (t : List ℕ) where
   bare_widths : {i j k : ℕ} {m d : ℕ} → SpaceLine t i m j → SpaceLine t i d k → m ≡ d
   bare_widths a b = spaces_unique a.spaces (break_no_space a.ends) b.spaces (break_no_space b.ends)
@@ -204,7 +204,7 @@ module _ (t : List ℕ) where
 bare_line : {t : List ℕ} {i j : ℕ} {x : List ℕ} → EmptyLines t i j x → (m : ℕ) × SpaceLine t i m j
 bare_line (bare m a) = (m, a)
 
--- the line where they stop
+-- the line after them
 pub bare_stuck : (t : List ℕ) (i m : ℕ) → Spaces t i m → code t (i + m) ≢ 32 → Nowhere (Break t (i + m)) → Stuck (EmptyLines t i)
 bare_stuck t i m s n none = record { none = λ j x b. bare_stuck_here j (bare_line b) } where
   bare_stuck_here : (j : ℕ) → (d : ℕ) × SpaceLine t i d j → ⊥
@@ -218,7 +218,7 @@ indented_stuck {t} {n} {i} {k} d = bare_stuck t i k d.spaces d.other.no_space d.
 no_break_code : (t : List ℕ) (i c : ℕ) → code t i ≡ c → c ≢ 13 → c ≢ 10 → Nowhere (Break t i)
 no_break_code t i c e a b = no_break_here t i (λ h. a (sym e ∙ h)) (λ h. b (sym e ∙ h))
 
--- no spaces and no break at all
+-- no spaces and no break
 stuck_at : (t : List ℕ) (i c : ℕ) → code t i ≡ c → c ≢ 32 → c ≢ 13 → c ≢ 10 → Stuck (EmptyLines t i)
 stuck_at t i c e s a b =
     let here : i + 0 ≡ i = add-zero i in
@@ -239,7 +239,7 @@ shallow_stuck {t} {n} {i} (missing m s e) =
 shallow_stuck {t} {n} {i} (left_of m s o l) = bare_stuck t i m s o.no_space o.no_break
 shallow_stuck (forbidden l) = marker_stuck l
 
--- such a line is one that is indented or one that is not
+-- such a line is indented or not, but not both
 pub not_both : {t : List ℕ} {n : ℤ} {i k : ℕ} → IndentedLine t n i k → Shallow t n i → ⊥
 not_both {t} {n} {i} {k} d (missing m s e) =
     let q : code t (i + m) ≡ no_char = end_code t e in
@@ -293,7 +293,7 @@ pub match_marker : {t : List ℕ} {i at : ℕ} (b : Bool) → b ≡ is_marker t 
 match_marker true e n back forth = back (marker_here (sym e))
 match_marker false e n back forth = λ l. true≢false (sym (marker_only_here n (forth l)) ∙ sym e)
 
--- the line after the lines of spaces alone
+-- the line after the lines of only spaces
 pub other_there : (t : List ℕ) (at first : ℕ) → IsUtf8 t → IsCharBoundary t first → first ≢ length t → at ≤ first → Spaces t at (first - at)
     → code t first ≢ 32 → ((m j : ℕ) → SpaceLine t at m j → ⊥) → Other t (at + (first - at))
 other_there t at first u b n l s no_space no_line =

@@ -1,4 +1,4 @@
--- A block scalar that is written is read again.
+-- A written block scalar is derived again.
 use Rattle.std.proofs.Common.{◌≡◌, ◌≢◌, ℕ, ℤ, pos, negsuc, zero, suc, ◌+◌, ◌-◌, ◌<◌, ◌≤◌, Bool, true, false, true≢false, List, [], ◌∷◌, ◌++◌, length, map, get_or, replicate, Option, Some, None, refl, sym, ap, ◌∙◌, subst, arith, ⊎_elim, append_assoc, add-zero}
 use Rattle.std.proofs.lemmas.List.{length-replicate, get_or-drop}
 use Rattle.std.proofs.lemmas.Bool.{cases_Bool}
@@ -144,7 +144,7 @@ detected_made {t} {k} {n} post (y ∷ ls) x q u wide deep texts first s =
     unspaced_rest [] e s = s
     unspaced_rest (c ∷ x) e s = let long : suc (length x) ≡ 0 = ap length e in absurd (omega arith)
 
--- the header that is written: characters at their places
+-- the characters of a written header
 pub record Last (t : List ℕ) (k : ℕ) : Type 0 where
   pub place : ℕ
   pub is : k ≡ place + 1
@@ -179,7 +179,7 @@ pub record Signed (t : List ℕ) (q : ℕ) (d : Option ℕ) (c : Chomp) (r : Lis
   pub rest : Rest t place r
   pub last : Last t place
 
--- a sign alone, or nothing
+-- only a sign, or nothing
 signed_alone : {t : List ℕ} {r : List ℕ} (c : Chomp) (q : ℕ) → IsUtf8 t → Last t q → Rest t q (sign_bytes c ++ r) → Signed t q None c r
 signed_alone Strip q u l s =
     let got = rest_ascii 45 u (omega arith) (λ e. absurd (omega arith)) s in
@@ -189,7 +189,7 @@ signed_alone Keep q u l s =
     let got = rest_ascii 43 u (omega arith) (λ e. absurd (omega arith)) s in
     record { place = q + 1; marks = sign_alone (keep_sign got.0.char); rest = got.1; last = last_of got.0 (omega arith) (omega arith) }
 
--- the same after a digit
+-- a sign or nothing, after a digit
 signed_after : {t : List ℕ} {r : List ℕ} {p d : ℕ} (c : Chomp) (q : ℕ) → IsUtf8 t → Digit t p q d → Last t q → Rest t q (sign_bytes c ++ r) → Signed t p (Some d) c r
 signed_after Strip q u a l s =
     let got = rest_ascii 45 u (omega arith) (λ e. absurd (omega arith)) s in

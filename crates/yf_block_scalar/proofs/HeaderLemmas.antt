@@ -1,4 +1,5 @@
--- The header of a block scalar: its indicators are unique before white, a break or the end of the text, and so it is.
+-- The header of a block scalar is unique, because its indicators are unique before white space, a break or the end of
+-- the text.
 use Rattle.std.proofs.Common.{◌≡◌, ◌≢◌, ℕ, ◌+◌, ◌-◌, ◌<◌, ◌≤◌, Bool, true, false, List, length, Option, Some, None, refl, sym, ap, ◌∙◌, subst, arith, ⊎_elim, ◌⊎◌, inl, inr, get_or}
 use Rattle.std.proofs.lemmas.Bool.{cases_eq, cases_Bool, eqb-true, and_parts, leb-true, le-leb}
 use Rattle.std.specs.Str.{IsUtf8, IsCharBoundary}
@@ -60,7 +61,7 @@ pub no_sign : {t : List ℕ} {i j : ℕ} {c : Chomp} → code t i ≢ 45 → cod
 no_sign a b (strip_sign e) = a e
 no_sign a b (keep_sign e) = b e
 
--- what may follow the indicators is none of them
+-- a character that may follow the indicators is not an indicator
 stop_codes : (c : ℕ) → is_white_or_end c ≡ true → ((c ≡ 32) ⊎ (c ≡ 9)) ⊎ (((c ≡ 10) ⊎ (c ≡ 13)) ⊎ (c ≡ no_char))
 stop_codes c e =
     ⊎_elim (λ (h : is_white c ≡ true). inl (white_cases c h)) (λ (h : is_white c ≡ false).
@@ -96,7 +97,7 @@ sign_unique (strip_sign a) (keep_sign b) = absurd (omega arith)
 sign_unique (keep_sign a) (strip_sign b) = absurd (omega arith)
 sign_unique (keep_sign a) (keep_sign b) = (refl, refl)
 
--- indicators that end before white, a break or the end of the text are those that are read
+-- indicators that end before white space, a break or the end of the text are unique
 abbrev pub Only : List ℕ → ℕ → ℕ → Option ℕ → Chomp → Type 0
 Only t i j d c = (k : ℕ) (e : Option ℕ) (f : Chomp) → Indicators t i k e f → is_white_or_end (code t k) ≡ true → (k ≡ j) × (e ≡ d) × (f ≡ c)
 
@@ -163,7 +164,7 @@ mark_inside t i u high l w =
     let inside : code t i ≡ no_char = ap (code t) p ∙ code-inside t (((i + 1) - 3) + 2) (omega (arith, b.3)) (omega (arith, b.3)) in
     absurd (omega arith)
 
--- after a header's characters no line starts
+-- no line starts after a header's characters
 pub inside_line : (t : List ℕ) (i : ℕ) → IsUtf8 t → 33 ≤ code t i → code t i < 128 → LineStart t (i + 1) → ⊥
 inside_line t i u low high =
     let e : (i + 1) - 1 ≡ i = omega arith in
@@ -191,7 +192,7 @@ marks_inside u f (sign_alone y) s = sign_inside u y s
 marks_inside u f (digit_sign x y) s = sign_inside u y s
 marks_inside u f (sign_digit y x) s = digit_inside u x s
 
--- inside a line its rest begins with white, a break or the end of the text
+-- inside a line, its rest begins with white space, a break or the end of the text
 break_stop : {t : List ℕ} {i j : ℕ} → BreakOrEnd t i j → is_white_or_end (code t i) ≡ true
 break_stop {t} {i} (by_break b) =
     ⊎_elim (λ (h : code t i ≡ 13). ends_by_code (code t i) 13 h ends_at_cr) (λ (h : code t i ≡ 10). ends_by_code (code t i) 10 h ends_at_lf) (break_char b)

@@ -1,4 +1,4 @@
--- From the first line that is not of spaces alone to the indentation of the content.
+-- From the first line that doesn't hold only spaces to the indentation of the content.
 use Rattle.std.proofs.Common.{◌≡◌, ℕ, ℤ, ◌<◌, List, length, sym, ◌∙◌, subst, arith}
 use Rattle.yf_chars.specs.Chain.{Chain}
 use Rattle.yf_block_scalar.specs.Body.{EmptyLines, largest, Shallow}

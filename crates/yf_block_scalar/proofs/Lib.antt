@@ -12,12 +12,12 @@ pub mod ScalarLemmas
 pub mod ScalarOrder
 -- `content`
 pub mod ContentLemmas
--- `write_block`: what is written is read again
+-- `write_block`: a written scalar is derived again
 pub mod WrittenLemmas
 pub mod DerivedLemmas
 -- a scalar among other lines (the laws of layouts of yf_laws)
 pub mod LinesMade
 pub mod PlacedLemmas
 pub mod PlacedScalar
--- the definitions by small texts
+-- small texts that show the definitions
 mod PlacedShown

@@ -25,13 +25,13 @@ use Rattle.yf_block_scalar.specs.Body.Lines.{no_content, up_to}
 use Rattle.yf_block_scalar.specs.Body.Line.{empty_line, content_line}
 use Rattle.yf_chars.proofs.CharFacts.{end_no_break}
 
--- so many lines of the text are from i to j
+-- `count` lines of the text are from i to j
 pub record LinesTo (t : List ℕ) (i j count : ℕ) : Type 0 where
   pub lines : List TextLine
   pub chain : Chain (OneLine t) i j lines
   pub counts : length lines ≡ count
 
--- stretches without a break
+-- spans without a break
 unbroken_join : {t : List ℕ} {i j k : ℕ} → NoBreakIn t i j → NoBreakIn t j k → NoBreakIn t i k
 unbroken_join {j = j} a b = record {
   order = let x = a.order in let y = b.order in omega arith;
@@ -56,7 +56,7 @@ unbroken_spaces {t} {i} {k} s = record {
       space_no_break (code t h) (ap (code t) (sym same) ∙ s.each (h - i) (omega arith));
 }
 
--- where the spaces that a line begins with end
+-- the end of the spaces that begin a line
 record SpacesTo (t : List ℕ) (i m : ℕ) : Type 0 where
   pub stop : ℕ
   pub from : i ≤ stop
@@ -135,7 +135,7 @@ pub blanks_one : {t : List ℕ} {i j : ℕ} {widths : List ℕ} → Chain (Empty
 blanks_one {i = i} done = lines_none i
 blanks_one (step (bare m a) c) = let more = blanks_one c in lines_join (suc _) (space_line_one a) more (omega arith)
 
--- those that are taken: up to the last content line, and with the empty lines after it
+-- the lines of a scalar: up to the last content line, and with the empty lines after it
 pub taken_lines : {t : List ℕ} {k i j count : ℕ} {ls : List (List ℕ)} {o : Bool} → IsUtf8 t → (a : LinesTaken t k i ls o count j) → LinesTo t i a.end (length ls)
 taken_lines u a = all_lines u a.lines
 

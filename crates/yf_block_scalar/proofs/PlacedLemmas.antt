@@ -1,4 +1,4 @@
--- A block scalar that is written is derived again where it is, up to the line that is further left.
+-- A written block scalar is derived again among other lines, up to the line that is further left.
 use Rattle.std.proofs.Common.{◌≡◌, ◌≢◌, ℕ, zero, suc, ◌+◌, ◌<◌, ◌≤◌, Bool, true, false, true≢false, not, List, [], ◌∷◌, ◌++◌, length, map, drop, replicate, length-drop, refl, sym, ap, ◌∙◌, subst, inl, inr, ◌⊎◌, ⊎_elim, arith}
 use Rattle.std.proofs.lemmas.List.{length-replicate}
 use Rattle.std.proofs.lemmas.Bool.{cases_lt, and_parts, not-true}
@@ -113,7 +113,7 @@ left_after k [] a = a
 left_after k (blank ∷ gs) a = left_after k gs a
 left_after k (remark column text ∷ gs) a = a
 
--- a character of content is no space, no break and no end
+-- a content character is not a space, a break or the end
 ns_parts : (c : ℕ) → is_ns_char c ≡ true → (c ≢ 32) × (c ≢ 10) × (c ≢ 13) × (c ≢ no_char) × (is_white c ≡ false)
 unfolding is_ns_char is_nb_char is_printable is_between is_break_char is_white
 ns_parts c e = (
@@ -124,7 +124,7 @@ ns_parts c e = (
   not-true (is_white c) (and_parts (is_nb_char c) (not (is_white c)) e).1,
 )
 
--- a line with fewer than k spaces before a character of content is none of the scalar
+-- a line with fewer than k spaces before a content character is not part of the scalar
 pub record Shallow (t : List ℕ) (k p m : ℕ) : Type 0 where
   pub few : m < k
   pub spaces : Spaces t p m
@@ -171,7 +171,7 @@ row_stuck_below {t} {k} {p} u b s =
     no_end c l n (by_break b) = ⊎_elim c l (break_char b)
     no_end {h} c l n (by_end e) = n (ap (code t) e ∙ code-end t)
 
--- what is after the lines: the comments, and the place of what is below
+-- the comments after the lines, and the offset of the line below
 record Trailed (t : List ℕ) (k p : ℕ) (gap : List GapLine) (r : List ℕ) : Type 0 where
   pub place : ℕ
   pub notes : List CommentValue
@@ -220,7 +220,7 @@ trailed {t} k (remark column text ∷ gs) {r} {p} u a l b start s =
     hash_of : {i j : ℕ} {x : List CommentValue} → CommentText t i j x → code t i ≡ 35
     hash_of (comment_text e m n) = e
 
--- the lines of the scalar, the blank lines after them, and what is after these
+-- the lines of the scalar, the blank lines after them, and the text after these
 pub record ScalarLinesTo (t : List ℕ) (k q : ℕ) (ls : List (List ℕ)) (count : ℕ) (gap : List GapLine) (r : List ℕ) : Type 0 where
   pub place : ℕ
   pub end : ℕ

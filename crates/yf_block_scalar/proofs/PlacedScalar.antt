@@ -1,4 +1,4 @@
--- A whole block scalar among other lines: header, comment, lines, and what is after them.
+-- A whole block scalar among other lines: its header, comment and lines, and the text after them.
 use Rattle.std.proofs.Common.{◌≡◌, ℕ, ℤ, ◌+◌, ◌-◌, ◌<◌, ◌≤◌, Bool, false, List, [], ◌∷◌, ◌++◌, length, map, Option, Some, None, refl, ap, ◌∙◌, subst, arith}
 use Rattle.std.specs.Str.{IsUtf8}
 use Rattle.yf_lines.specs.Basic.SeparateInLine.{by_whites}
@@ -45,7 +45,7 @@ trail_at {t} (Some text) r {q} u a s =
       is = at.is;
     }
 
--- blank lines after it are content of a scalar that keeps its final breaks alone
+-- blank lines after a scalar are content only if it keeps its final breaks
 same_kept : (f : Bool) (d e : Option ℕ) (c : Chomp) (x : List ℕ) (ls : List (List ℕ)) (count : ℕ) (gap : List GapLine) → KeptGap c gap
     → content_of (record { folded = f; digit = d; chomp = c }) (x ∷ ls) (count + blanks_of gap) false ≡ content_of (record { folded = f; digit = e; chomp = c }) (x ∷ ls) count false
 same_kept f d e Strip x ls count gap k = refl
@@ -62,7 +62,7 @@ texts_noted : (b : Bool) (cs : List CommentValue) → texts (first_noted b cs) �
 texts_noted b [] = refl
 texts_noted b (c ∷ cs) = refl
 
--- the scalar at an offset: its content, the comments in it and after it, and that it ends where r begins
+-- the scalar at an offset: its content, and the comments in it and after it; it ends at the start of r
 pub record PlacedAt (t : List ℕ) (n : ℤ) (h : Header) (ls : List (List ℕ)) (count : ℕ) (comments : List (List ℕ)) (q : ℕ) (r : List ℕ) : Type 0 where
   pub start : ℕ
   pub place : ℕ
@@ -75,7 +75,7 @@ pub record PlacedAt (t : List ℕ) (n : ℤ) (h : Header) (ls : List (List ℕ))
   pub lines : body.lines ≡ ls
   pub content : content_of header.header body.lines body.tail body.open_end ≡ content_of h ls count false
   pub is : texts header.comments ++ texts body.comments ≡ comments
-  -- where its last content line ends, and the empty lines after it
+  -- the end of its last content line, and the empty lines after it
   pub finish : ℕ
   pub to_finish : LinesTo t start finish (length body.lines)
   pub last : ℕ

@@ -1,4 +1,4 @@
--- A scalar by hand: how it is written among other lines, and that it is derived there, with its comments, up to the line after.
+-- A scalar by hand: its bytes among other lines, and its derivation there, with its comments, up to the next line.
 use Rattle.std.proofs.Common.{◌≡◌, ◌≢◌, ℕ, pos, false, suc, List, [], ◌∷◌, length, Some, None, codes, refl, ap, arith}
 use Rattle.std.specs.Str.{IsUtf8}
 use lib.Utf8.{encode}

@@ -1,4 +1,4 @@
--- A block scalar from its parts, and that there is none.
+-- A block scalar from its parts, or that there is none.
 use Rattle.std.proofs.Common.{◌≡◌, ℕ, ℤ, ◌+◌, Bool, false, List, [], length, Some, None, sym, ap, ◌∙◌, subst}
 use Rattle.yf_chars.specs.Chain.{Chain, Stuck}
 use Rattle.yf_comments.specs.Comment.{CommentValue}
@@ -49,7 +49,7 @@ body_none {t} {i} n h e f s = record { none = λ j x b. none b } where
   none (detected {k = k} q d a b) = f k d
   none (without_content {p = p} {widths = widths} q a d b) = s p widths a d
 
--- lines that were taken, from what they are the same as
+-- the lines of a scalar, from equal ones
 pub same_taken : {t : List ℕ} {i p k m n : ℕ} {xs ys : List (List ℕ)} {a b : Bool} → ys ≡ xs → b ≡ a → n ≡ m → LinesTaken t k i xs a m p
     → LinesTaken t k i ys b n p
 same_taken {t} {i} {p} {k} {m} {n} {xs} {ys} {a} {b} e f g d =

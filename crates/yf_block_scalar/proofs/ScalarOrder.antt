@@ -1,4 +1,4 @@
--- Block scalars and their parts end after their start, or at it where they may be empty, and after a header a line begins.
+-- Block scalars and their parts end after their start, or at it if they may be empty, and a line begins after a header.
 use Rattle.std.proofs.Common.{◌≡◌, ℕ, ℤ, ◌<◌, ◌≤◌, Bool, ⊎_elim, List, Option, length, arith}
 use Rattle.yf_chars.proofs.ChainLemmas.{chain_forward}
 use Rattle.yf_lines.specs.Basic.{LineStart}

@@ -1,4 +1,4 @@
--- The comments after a scalar, and the note of the first.
+-- The comments after a scalar, and `blank_before` of the first.
 use Rattle.std.proofs.Common.{◌≡◌, ◌≢◌, ℕ, ◌+◌, ◌-◌, ◌<◌, ◌≤◌, Bool, List, [], ◌∷◌, length, drop, get_or, map, refl, sym, ap, ◌∙◌, arith}
 use Rattle.std.proofs.Math.ListN.{drop_of_length-le}
 use Rattle.yf_chars.specs.Text.{code}
@@ -21,7 +21,7 @@ noted_first b (c ∷ cs) d n = refl
 pub noted_last : (cs : List Comment) (i : ℕ) → length cs ≤ i → map comment_value (drop i cs) ≡ []
 noted_last cs i l = ap (map comment_value) (drop_of_length-le cs l)
 
--- no comment with fewer than k spaces before it, as k spaces are there, or as another character follows the spaces
+-- no comment with fewer than k spaces before it, because k spaces or another character precede it
 pub no_trail_deep : {t : List ℕ} (i m k : ℕ) → Spaces t i m → k ≤ m → Trail t k i i []
 no_trail_deep {t} i m k s l = no_comment (λ d h _ e. let space : code t (i + d) ≡ 32 = s.each d (omega arith) in absurd (omega arith))
 
@@ -31,13 +31,13 @@ no_trail_here {t} i first k l s n no_hash = no_comment (λ d h q e.
     let width : d ≡ first - i = spaces_unique q (λ w. absurd (omega arith)) s (rw same n) in
     no_hash (ap (code t) (sym same) ∙ ap (λ w. code t (i + w)) (sym width) ∙ e))
 
--- comment lines begin where a # is after fewer than k spaces
+-- comment lines begin at a # after fewer than k spaces
 pub trail_there : {t : List ℕ} {j : ℕ} {x : List CommentValue} (i first k : ℕ) → i ≤ first → Spaces t i (first - i) → first - i < k → code t first ≡ 35
     → Chosen (LineEnd t i) j x → Trail t k i j x
 trail_there {t} i first k l s few e c =
     let same : i + (first - i) ≡ first = omega arith in
     comments (first - i) few s (ap (code t) same ∙ e) c
 
--- the start of a line begins comment lines, be there none
+-- the start of a line begins comment lines, possibly none
 pub line_end_there : {t : List ℕ} {i : ℕ} → LineStart t i → Stuck (LineEnd t i) → ⊥
 line_end_there {t} {i} s n = n.none i [] (from_start s done)

@@ -86,7 +86,7 @@ line_meaning : {t : List ℕ} {k i j : ℕ} {x : List (List ℕ)} → Line t k i
 line_meaning (empty_line a m) = ([], refl)
 line_meaning (content_line {x = x} a) = (x, refl)
 
--- lines that mean nothing are none
+-- a chain of lines that means [] is empty
 no_lines : {t : List ℕ} {k i j : ℕ} {x : List (List ℕ)} → Chain (Line t k) i j x → x ≡ [] → i ≡ j
 no_lines done e = refl
 no_lines (step {x = x} {y = y} s c) e =
@@ -107,7 +107,7 @@ pub empties : {t : List ℕ} {k i j : ℕ} {ms : List ℕ} → Chain (EmptyLines
 empties done l = done
 empties {k = k} (step {x = x} {y = y} s c) l = empties_step y s (empties c (largest_rest x y k l)) l
 
--- a text's last lines that are empty, taken away
+-- a text without the empty lines at its end
 abbrev kept : List ℕ → List (List ℕ) → List (List ℕ)
 kept [] [] = []
 kept (c ∷ x) [] = (c ∷ x) ∷ []
@@ -247,7 +247,7 @@ parts_unique {t} {h} {k} {i} {j} {l} {v} {w} a b =
 move_parts : {t : List ℕ} {h : Header} {k m i j : ℕ} {v : BodyValue} → k ≡ m → Parts t h k i j v → Parts t h m i j v
 move_parts {t} {h} {i = i} {j = j} {v = v} e p = subst (λ w. Parts t h w i j v) e p
 
--- a scalar by what is known of its indentation
+-- a scalar, by its indentation
 data View (t : List ℕ) (n : ℤ) (h : Header) (i j : ℕ) (v : BodyValue) : Type 0 where
   at_digit : (d : ℕ) → h.digit ≡ Some d → Parts t h (base n + d) i j v → View t n h i j v
   at_detected : (k : ℕ) → h.digit ≡ None → DetectedIndent t n i k → Parts t h k i j v → View t n h i j v

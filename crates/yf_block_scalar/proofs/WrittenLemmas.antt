@@ -1,4 +1,4 @@
--- What is written is derived again: characters, lines and the whole scalar, from what is after a place.
+-- Written text is derived again: characters, lines and the whole scalar, from the rest of the text after an offset.
 use Rattle.std.proofs.Common.{◌≡◌, ◌≢◌, ℕ, zero, suc, ◌+◌, ◌-◌, ◌<◌, Bool, true, false, List, [], ◌∷◌, ◌++◌, length, map, take, drop, slice_range, replicate, refl, sym, ap, ◌∙◌, subst, arith, ⊎_elim, ◌⊎◌, inl, inr, append_assoc, length-append, length-drop, add-zero}
 use Rattle.std.proofs.Math.Seq.{take-append_seam}
 use Rattle.std.proofs.lemmas.Bool.{cases_Bool}
@@ -20,7 +20,7 @@ use Rattle.yf_block_scalar.specs.Content.{feeds, literal_after}
 use Rattle.yf_block_scalar.specs.Written.{indented, AreLineTexts, EndsWithContent}
 use Rattle.yf_lines.proofs.ClearLemmas.{marker_char}
 
--- a content line that is written
+-- a written content line
 pub some_chars : (cs : List ℕ) → encodes cs ≢ [] → 0 < length (encodes cs)
 some_chars [] n = absurd (n refl)
 some_chars (c ∷ cs) n = omega (arith, length-append (encode c) (encodes cs), length-encode c, len_utf8_bounds c)
@@ -79,13 +79,13 @@ content_made {t} {k} {q} {x} {r} {r'} {o} u pos text full b s =
     ap (λ w. take (h - (q + k)) w) spaces.1.bytes ∙ taken_back (encodes text.chars) r (q + k) h refl ∙ bytes in
     record { place = end.place; line = subst (λ w. LineContent t k q end.place w o) slice made; rest = end.rest }
 
--- an empty line that is written
+-- a written empty line
 pub empty_made : {t : List ℕ} {q : ℕ} {r : List ℕ} → IsUtf8 t → Rest t q (10 ∷ r) → SpaceLine t q 0 (q + 1) × Rest t (q + 1) r
 empty_made {t} {q} u s =
     let got = rest_break u s in
     (record { spaces = record { each = λ m l. absurd (omega arith) }; ends = subst (λ w. Break t w (q + 1)) (sym (add-zero q)) got.0 }, got.1)
 
--- the lines that are written, the last of them a content line
+-- the written lines, the last of them a content line
 pub record Lasts (t : List ℕ) (k q : ℕ) (ls : List (List ℕ)) (o : Bool) (r : List ℕ) : Type 0 where
   pub start : ℕ
   pub place : ℕ
@@ -112,7 +112,7 @@ pub empty_or : (x : List ℕ) → (x ≡ []) ⊎ (x ≢ [])
 empty_or [] = inl refl
 empty_or (c ∷ x) = inr (λ e. let long : suc (length x) ≡ 0 = ap length e in absurd (omega arith))
 
--- the rest of the bytes after one line
+-- the bytes after one line
 pub after_line : (k : ℕ) (x y : List ℕ) (ls : List (List ℕ)) (post : List ℕ)
     → indented k x ++ (literal_after (map (indented k) (y ∷ ls)) ++ post) ≡ indented k x ++ (10 ∷ (indented k y ++ (literal_after (map (indented k) ls) ++ post)))
 after_line k x y ls post = ap (λ w. indented k x ++ (10 ∷ w)) (append_assoc (indented k y) (literal_after (map (indented k) ls)) post)
@@ -138,7 +138,7 @@ lines_made {t} {k} {o} {post} {r} (y ∷ ls) x q u pos texts full b s =
     lasts_more (content_line made.line) more)
     (empty_or x)
 
--- the tail that is written
+-- the written tail
 tail_step : {t : List ℕ} {i j : ℕ} (c : ℕ) → SpaceLine t i 0 j → Chain (EmptyLines t) j (length t) (replicate c 0) → Chain (EmptyLines t) i (length t) (replicate (suc c) 0)
 tail_step d a c = step (bare 0 a) c
 

@@ -1,5 +1,5 @@
--- What a block scalar means (YAML 1.2.2, sections 8.1.1.2, 8.1.2 and 8.1.3) as a function of its lines: those from the
--- first one after the header to the last content line, without their indentation and breaks, an empty line as [].
+-- The content of a block scalar (YAML 1.2.2, sections 8.1.1.2, 8.1.2 and 8.1.3) as a function of its lines: those from
+-- the first one after the header to the last content line, without their indentation and breaks; an empty line is [].
 -- Texts are bytes of UTF-8; 10 is the line feed.
 use Rattle.std.specs.Prelude.{ℕ, ◌+◌, ◌==◌, Bool, true, false, ◌||◌, List, [], ◌∷◌, ◌++◌, if◌then◌else◌, replicate}
 use Rattle.yf_chars.specs.Signs.{LINE_FEED, SPACE}
@@ -8,21 +8,21 @@ use Rattle.yf_block_scalar.specs.declared.header.Header.{Header}
 use Rattle.yf_block_scalar.specs.declared.header.Chomp.{Chomp}
 use Rattle.yf_block_scalar.specs.declared.header.Chomp.TheVariants.{Strip, Clip, Keep}
 
--- so many line feeds
+-- e line feeds
 abbrev pub feeds : ℕ → List ℕ
 feeds e = replicate e LINE_FEED
 
--- a content line that begins with white is spaced: it is more indented than the others, or begins with a tab
+-- a content line that begins with white space is spaced: it is more indented than the others, or begins with a tab
 abbrev pub is_spaced : List ℕ → Bool
 is_spaced [] = false
 is_spaced (c ∷ x) = is_white c
 
--- what is between two content lines with e empty lines between them, of which one is spaced or none
+-- the separation of two content lines with e empty lines between them; the flag says whether one of the two is spaced
 abbrev pub joint : Bool → ℕ → List ℕ
 joint true e = feeds (e + 1)
 joint false e = if e == 0 then SPACE ∷ [] else feeds e
 
--- the lines after a content line and e empty lines; the flag says whether that content line is spaced
+-- the folded lines after a content line and e empty lines; the flag says whether that content line is spaced
 abbrev pub folded_after : Bool → ℕ → List (List ℕ) → List ℕ
 folded_after s e [] = []
 folded_after s e ([] ∷ ls) = folded_after s (e + 1) ls
@@ -49,14 +49,14 @@ ending Strip tail = []
 ending Clip tail = LINE_FEED ∷ []
 ending Keep tail = feeds (tail + 1)
 
--- the same without a content line
+-- the line feeds of a scalar without a content line
 abbrev pub lone_tail : Chomp → ℕ → List ℕ
 lone_tail Strip tail = []
 lone_tail Clip tail = []
 lone_tail Keep tail = feeds tail
 
--- the content of a scalar with that header, those lines and so many empty lines after them; where the last content
--- line ends at the end of the text, it gives no line feed
+-- the content of a scalar with that header, those lines and `tail` empty lines after them; a last content line that
+-- ends at the end of the text adds no line feed
 abbrev pub content_of : Header → List (List ℕ) → ℕ → Bool → List ℕ
 content_of h [] tail open_end = lone_tail h.chomp tail
 content_of h (x ∷ ls) tail open_end =

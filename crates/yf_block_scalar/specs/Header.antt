@@ -10,7 +10,7 @@ use Rattle.yf_block_scalar.specs.declared.header.Header.{Header}
 use Rattle.yf_block_scalar.specs.declared.header.Chomp.{Chomp}
 use Rattle.yf_block_scalar.specs.declared.header.Chomp.TheVariants.{Strip, Clip, Keep}
 
--- c-literal or c-folded; the flag says whether it is folded
+-- c-literal or c-folded; the flag is true for c-folded
 pub data Style (t : List ℕ) : ℕ → ℕ → Bool → Type 0 where
   literal_sign : {i : ℕ} → code t i ≡ BAR → Style t i (i + 1) false
   folded_sign : {i : ℕ} → code t i ≡ GREATER → Style t i (i + 1) true
@@ -19,12 +19,12 @@ pub data Style (t : List ℕ) : ℕ → ℕ → Bool → Type 0 where
 pub data Digit (t : List ℕ) : ℕ → ℕ → ℕ → Type 0 where
   digit : {i : ℕ} → is_between 49 57 (code t i) ≡ true → Digit t i (i + 1) (code t i - 48)
 
--- c-chomping-indicator: one of the two signs
+-- c-chomping-indicator
 pub data Sign (t : List ℕ) : ℕ → ℕ → Chomp → Type 0 where
   strip_sign : {i : ℕ} → code t i ≡ DASH → Sign t i (i + 1) Strip
   keep_sign : {i : ℕ} → code t i ≡ PLUS → Sign t i (i + 1) Keep
 
--- each of them at most once, in either order
+-- each indicator at most once, in either order
 pub data Indicators (t : List ℕ) : ℕ → ℕ → Option ℕ → Chomp → Type 0 where
   neither : {i : ℕ} → Indicators t i i None Clip
   digit_alone : {i j d : ℕ} → Digit t i j d → Indicators t i j (Some d) Clip
@@ -32,7 +32,7 @@ pub data Indicators (t : List ℕ) : ℕ → ℕ → Option ℕ → Chomp → Ty
   digit_sign : {i h j d : ℕ} {c : Chomp} → Digit t i h d → Sign t h j c → Indicators t i j (Some d) c
   sign_digit : {i h j d : ℕ} {c : Chomp} → Sign t i h c → Digit t h j d → Indicators t i j (Some d) c
 
--- what a header means, and the comments after it: one or none
+-- the meaning of a header, and the comments after it: one or none
 pub record HeaderValue : Type 0 where
   pub header : Header
   pub comments : List CommentValue
@@ -43,6 +43,6 @@ pub data BlockHeader (t : List ℕ) : ℕ → ℕ → HeaderValue → Type 0 whe
       → Indicators t h k d c → LineRest t k j x
       → BlockHeader t i j (record { header = record { folded = f; digit = d; chomp = c }; comments = x })
 
--- what a reader gives: a header and at most one comment
+-- the value in a contract: a header and at most one comment
 abbrev pub header_value : Header → Option Comment → HeaderValue
 header_value h c = record { header = h; comments = row_comments c }

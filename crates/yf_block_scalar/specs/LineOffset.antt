@@ -1,4 +1,4 @@
--- Where a line of a text begins.
+-- The byte offset of a line of a text.
 use Rattle.std.specs.Prelude.{ℕ, length, slice_get, Option, Some, None}
 use Rattle.yf_lines.specs.Lines.{Table}
 use Rattle.yf_lines.specs.declared.line.Line.{Line}

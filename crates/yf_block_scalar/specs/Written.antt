@@ -1,5 +1,5 @@
--- How a block scalar is written (YAML 1.2.2, section 8.1) at a column, counted from 0, that lies so many columns (the
--- width, 1 to 9) right of the indentation around it. Texts are bytes.
+-- The bytes of a block scalar (YAML 1.2.2, section 8.1) that is written at a column, counted from 0. The width, 1 to 9,
+-- is the number of columns right of the indentation around it.
 use Rattle.std.specs.Prelude.{length, ◌≡◌, ◌≢◌, ℕ, ◌+◌, ◌-◌, ℤ, Bool, true, List, [], ◌∷◌, ◌++◌, map, replicate, if◌then◌else◌, Option, Some, None}
 pub use Rattle.yf_lines.specs.LineText.{AllNb, IsLineText}
 use Rattle.yf_chars.specs.Signs.{BAR, DASH, GREATER, LINE_FEED, NUMBER_SIGN, PLUS, SPACE}
@@ -15,7 +15,7 @@ use Rattle.yf_block_scalar.specs.Content.{feeds, literal, content_of}
 abbrev pub style_bytes : Bool → List ℕ
 style_bytes b = if b then GREATER ∷ [] else BAR ∷ []
 
--- a header with a digit has the width as its digit
+-- the digit of a header with a digit is the width
 abbrev pub digit_bytes : Option ℕ → ℕ → List ℕ
 digit_bytes None width = []
 digit_bytes (Some d) width = (48 + width) ∷ []
@@ -25,7 +25,7 @@ sign_bytes Strip = DASH ∷ []
 sign_bytes Clip = []
 sign_bytes Keep = PLUS ∷ []
 
--- a comment is after two spaces
+-- a comment follows two spaces
 abbrev pub comment_bytes : Option Comment → List ℕ
 comment_bytes None = []
 comment_bytes (Some c) = SPACE ∷ SPACE ∷ c.text.now
@@ -38,13 +38,13 @@ abbrev pub indented : ℕ → List ℕ → List ℕ
 indented column [] = []
 indented column (c ∷ x) = replicate column SPACE ++ (c ∷ x)
 
--- only the tail of a kept scalar is written
+-- only a kept scalar has its tail
 abbrev pub tail_bytes : Chomp → ℕ → List ℕ
 tail_bytes Strip tail = []
 tail_bytes Clip tail = []
 tail_bytes Keep tail = feeds tail
 
--- the break after the last content line; where that line ended at the end of the text, only a stripped scalar has one
+-- the break after the last content line; if that line ended at the end of the text, only a stripped scalar has one
 abbrev pub break_bytes : Chomp → Bool → List ℕ
 break_bytes Strip open_end = LINE_FEED ∷ []
 break_bytes Clip open_end = if open_end then [] else LINE_FEED ∷ []
@@ -61,25 +61,25 @@ abbrev pub AreLineTexts : List (List ℕ) → Type 0
 AreLineTexts [] = Unit {0}
 AreLineTexts (x ∷ ls) = IsLineText x × AreLineTexts ls
 
--- there is a content line, and the last line is one
+-- the last line is a content line
 abbrev pub EndsWithContent : List (List ℕ) → Type 0
 EndsWithContent [] = ⊥
 EndsWithContent (x ∷ []) = x ≢ []
 EndsWithContent (x ∷ y ∷ ls) = EndsWithContent (y ∷ ls)
 
--- the first content line begins with no space
+-- the first content line doesn't begin with a space
 abbrev pub StartsUnspaced : List (List ℕ) → Type 0
 StartsUnspaced [] = ⊥
 StartsUnspaced ([] ∷ ls) = StartsUnspaced ls
 StartsUnspaced ((c ∷ x) ∷ ls) = c ≢ SPACE
 
--- a comment's text: # and nb-chars
+-- the text of a comment: # and nb-chars
 abbrev pub IsCommentText : Option Comment → Type 0
 IsCommentText None = Unit {0}
 IsCommentText (Some c) = (x : List ℕ) × ((c.text.now ≡ NUMBER_SIGN ∷ x) × IsLineText x)
 
--- a scalar as a text can hold it, with a content line: its lines and comment are of nb-chars, an indentation that is to be
--- detected is that of its first content line, and after a line that ends at the end of the text is nothing
+-- a scalar with a content line, as in a text: its lines and comment are of nb-chars, the indentation to detect is that
+-- of its first content line, and nothing follows a line that ends at the end of the text
 pub record IsScalar (b : BlockText) : Type 0 where
   pub lines : AreLineTexts b.lines
   pub last : EndsWithContent b.lines
@@ -87,7 +87,7 @@ pub record IsScalar (b : BlockText) : Type 0 where
   pub comment : IsCommentText b.comment
   pub follows : b.open_end ≡ true → b.tail ≡ 0
 
--- the text is a block scalar at n with the same content: its header begins it, and its lines reach to its end
+-- the text is a block scalar at n with equal content: its header begins the text, and its lines reach the end
 pub record IsRead (t : List ℕ) (n : ℤ) (b : BlockText) : Type 0 where
   pub place : ℕ
   pub header : HeaderValue

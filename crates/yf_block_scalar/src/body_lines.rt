@@ -1,4 +1,4 @@
-//! The lines of a block scalar one by one, once its indentation is known.
+//! Reads single lines of a block scalar with known indentation.
 ghost use Rattle.std.specs.Prelude.{◌+◌, ◌-◌, ◌<◌, ◌≤◌, ℕ, Bool, false, List, [], length, slice_range, IfOk, IfSome, MatchOption};
 ghost use Rattle.std.specs.Str.{IsCharBoundary};
 ghost use Rattle.yf_lines.specs.Basic.{LineStart};
@@ -9,14 +9,14 @@ use std::alloc::{AllocError, Global};
 use yf_chars::nb_runs::skip_nb_chars;
 use yf_lines::basic::{is_marker_at, line_break, skip_spaces};
 
-// A line of spaces alone: how many they are, and the offset after its break.
+// A line of only spaces: their number, and the offset after the line's break.
 #[derive(Drop)]
 pub(crate) struct SpacePart {
     pub(crate) width: usize,
     pub(crate) next: usize,
 }
 
-// A content line: the offset where its text ends, the one after its break, and whether the text ends there.
+// A content line: the end of its text, the offset after its break, and whether the text ends there.
 #[derive(Drop)]
 pub(crate) struct ContentPart {
     pub(crate) end: usize,
@@ -24,8 +24,8 @@ pub(crate) struct ContentPart {
     pub(crate) open_end: bool,
 }
 
-// The lines up to the last content line, whether that one is open, how many empty lines follow it, and the offset after
-// them.
+// The lines up to the last content line, whether that one is open, the number of empty lines after it, and the offset
+// after them.
 #[derive(Drop)]
 pub(crate) struct BodyLines<'a> {
     pub(crate) lines: Lines<'a>,
@@ -34,7 +34,7 @@ pub(crate) struct BodyLines<'a> {
     pub(crate) next: usize,
 }
 
-// Reads a line of spaces alone, with its break.
+// Reads a line of only spaces, with its break.
 pub(crate) fn space_line(s: &str, at: usize) -> Option<SpacePart>
     requires { IsCharBoundary s.now at }
     ensures reads { MatchOption result ((m j : ℕ) → SpaceLine s.now at m j → ⊥) (λ p. SpaceLine s.now at p.width p.next) }
@@ -51,7 +51,7 @@ pub(crate) fn space_line(s: &str, at: usize) -> Option<SpacePart>
     }
 }
 
-// Reads an empty line: that many spaces alone at most, with their break. The offset after it.
+// Reads an empty line, with at most `indent` spaces and a break. Returns the offset after it.
 pub(crate) fn empty_line(s: &str, at: usize, indent: usize) -> Option<usize>
     requires { IsCharBoundary s.now at }
     ensures reads { MatchOption result ((m j : ℕ) → SpaceLine s.now at m j → m ≤ indent → ⊥)
@@ -70,7 +70,7 @@ pub(crate) fn empty_line(s: &str, at: usize, indent: usize) -> Option<usize>
     }
 }
 
-// Reads a content line whose indentation is that many spaces (s-indent(n) nb-char+, productions 170 and 174).
+// Reads a content line with `indent` spaces of indentation (s-indent(n) nb-char+, productions 170 and 174).
 pub(crate) fn content_line(s: &str, at: usize, indent: usize) -> Option<ContentPart>
     requires { IsCharBoundary s.now at }
     ensures reads { MatchOption result ((j : ℕ) (x : List ℕ) (o : Bool) → LineContent s.now indent at j x o → ⊥)
@@ -107,7 +107,7 @@ pub(crate) fn content_line(s: &str, at: usize, indent: usize) -> Option<ContentP
     }
 }
 
-// Reads every line that the scalar can take from the offset on, with that indentation.
+// Reads all lines of the scalar from the offset on, with that indentation.
 pub(crate) fn read_rows<'a>(
     alloc: Global,
     s: &'a str,

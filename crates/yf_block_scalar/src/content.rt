@@ -1,4 +1,4 @@
-//! What a block scalar means (YAML 1.2.2, sections 8.1.1.2, 8.1.2 and 8.1.3).
+//! The content of a block scalar (YAML 1.2.2, sections 8.1.1.2, 8.1.2 and 8.1.3).
 ghost use Rattle.std.specs.Prelude.{◌≡◌, ◌++◌, ◌||◌, ◌+◌, [], length, drop, if◌then◌else◌, IfOk, IfErr, OnOk};
 ghost use Rattle.std.specs.String.{string_bytes};
 ghost use Rattle.yf_block_scalar.specs.Content.{content_of, feeds, is_spaced, joint, folded_after, folded, literal};
@@ -9,10 +9,10 @@ use crate::lines::Lines;
 use std::alloc::{AllocError, Global};
 use yf_lines::fault::Fault;
 
-/// The content of a block scalar: its lines joined or folded, and the line breaks at its end that the chomping
-/// indicator keeps. Where the last content line ends at the end of the text, no line feed follows it.
+/// Returns the content of a block scalar: its lines, joined or folded, and the line breaks at its end that the chomping
+/// indicator keeps. No line feed follows a last content line that ends at the end of the text.
 ///
-/// The one error is `Fault::Memory`.
+/// The only error is `Fault::Memory`.
 pub fn content(alloc: Global, block: &BlockText) -> Result<String, Fault>
     ensures content { IfOk result (λ s. string_bytes s ≡ content_of block.now.header block.now.lines block.now.tail block.now.open_end) }
     ensures refused { IfErr result (λ f. f ≡ Fault.Memory) }
@@ -54,7 +54,7 @@ fn push_lines(text: &mut String, is_folded: bool, lines: &Lines) -> Result<(), A
     push_literal(text, lines)
 }
 
-// So many line feeds.
+// Appends `count` line feeds.
 pub(crate) fn push_feeds(text: &mut String, count: usize) -> Result<(), AllocError>
     ensures { OnOk result (string_bytes text.new ≡ string_bytes text.old ++ feeds count) }
 {
@@ -64,7 +64,7 @@ pub(crate) fn push_feeds(text: &mut String, count: usize) -> Result<(), AllocErr
     Ok(())
 }
 
-// One line feed more than that.
+// Appends `count + 1` line feeds.
 fn push_next_feeds(text: &mut String, count: usize) -> Result<(), AllocError>
     ensures { OnOk result (string_bytes text.new ≡ string_bytes text.old ++ feeds (count + 1)) }
 {
@@ -72,7 +72,7 @@ fn push_next_feeds(text: &mut String, count: usize) -> Result<(), AllocError>
     text.push('\n')
 }
 
-// Lines joined by line feeds.
+// Appends lines joined by line feeds.
 fn push_literal(text: &mut String, lines: &Lines) -> Result<(), AllocError>
     ensures { OnOk result (string_bytes text.new ≡ string_bytes text.old ++ literal lines.now) }
 {
@@ -89,7 +89,7 @@ fn push_literal(text: &mut String, lines: &Lines) -> Result<(), AllocError>
     Ok(())
 }
 
-// Folded lines.
+// Appends folded lines.
 fn push_folded(text: &mut String, lines: &Lines) -> Result<(), AllocError>
     ensures { OnOk result (string_bytes text.new ≡ string_bytes text.old ++ folded lines.now) }
 {
@@ -106,7 +106,7 @@ fn push_folded(text: &mut String, lines: &Lines) -> Result<(), AllocError>
     Ok(())
 }
 
-// The lines from that number on, which are after a content line that is spaced or not.
+// Appends the folded lines from that number on. They follow a content line, which is spaced or not.
 fn push_folded_after(
     text: &mut String,
     lines: &Lines,
@@ -134,7 +134,7 @@ fn push_folded_after(
     Ok(())
 }
 
-// What is between two content lines with so many empty lines between them.
+// Appends the separation of two content lines with that number of empty lines between them.
 fn push_joint(
     text: &mut String,
     first_spaced: bool,
@@ -155,7 +155,7 @@ fn push_joint(
     push_feeds(text, empty)
 }
 
-// Whether the line begins with white.
+// Returns whether the line begins with white space.
 fn begins_white(line: &str) -> bool
     ensures { result ≡ is_spaced line.now }
 {

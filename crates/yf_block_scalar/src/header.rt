@@ -1,9 +1,9 @@
 //! The header of a block scalar (YAML 1.2.2, section 8.1.1).
 
-/// What becomes of the line breaks after the last content line (section 8.1.1.2, the chomping indicator).
+/// What to do with the line breaks after the last content line (section 8.1.1.2, the chomping indicator).
 #[derive(Clone, Copy)]
 pub enum Chomp {
-    /// `-`: none of them is content.
+    /// `-`: none of these breaks is content.
     Strip,
     /// No sign: the last content line's break is content.
     Clip,
@@ -14,7 +14,7 @@ pub enum Chomp {
 /// The header of a block scalar (c-b-block-header, production 162).
 #[derive(Clone, Copy)]
 pub struct Header {
-    /// `>`, else `|`.
+    /// Whether the style is `>`, otherwise `|`.
     pub folded: bool,
     /// The indentation indicator, 1 to 9.
     pub digit: Option<u8>,

@@ -14,7 +14,7 @@ use yf_chars::text::is_char_at;
 use yf_comments::comment::Comment;
 use yf_comments::lines::{RestOfLine, line_rest};
 
-/// A header that was read, with the comment after it and the byte offset of the line after it.
+/// A header, the comment after it, and the byte offset of the next line.
 #[derive(Drop)]
 pub struct HeaderLine<'a> {
     pub header: Header,
@@ -63,7 +63,7 @@ fn sign_at(s: &str, at: usize) -> Option<Chomp>
     None
 }
 
-// Reads the indicators, as many as are there.
+// Reads the indicators that are present.
 fn read_marks(s: &str, at: usize) -> Marks
     requires { IsCharBoundary s.now at }
     ensures reads { Indicators s.now at result.end result.digit result.chomp }
@@ -107,7 +107,7 @@ fn read_marks(s: &str, at: usize) -> Marks
     }
 }
 
-// Reads `|` or `>`; whether it is `>`.
+// Reads `|` or `>`. Returns whether it is `>`.
 fn style_at(s: &str, at: usize) -> Option<bool>
     ensures reads { MatchOption result ((j : ℕ) (f : Bool) → Style s.now at j f → ⊥) (λ f. Style s.now at (at + 1) f) }
     ensures boundary { IfSome result (λ _. IsCharBoundary s.now (at + 1)) }
@@ -121,10 +121,10 @@ fn style_at(s: &str, at: usize) -> Option<bool>
     None
 }
 
-/// Reads the header of a block scalar, with its `|` or `>`: a digit from 1 to 9 and a sign, each at most once and in
-/// either order, then a comment or nothing, and the end of the line.
+/// Reads the header of a block scalar: `|` or `>`, an optional digit from 1 to 9 and an optional sign in either order,
+/// then an optional comment, and the end of the line.
 ///
-/// `None` where no header begins at the byte offset. It takes no memory.
+/// Returns `None` if no header begins at the byte offset. Allocates no memory.
 pub fn block_header<'a>(s: &'a str, at: usize) -> Option<HeaderLine<'a>>
     ensures reads { MatchOption result (Stuck (BlockHeader s.now at))
         (λ r. Chosen (BlockHeader s.now at) r.end (header_value r.header r.comment)) }

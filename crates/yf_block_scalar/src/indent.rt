@@ -7,18 +7,18 @@ ghost use Rattle.yf_block_scalar.specs.Indentation.{EndsAtBoundary, IndentOfLine
 use crate::body_lines::space_line;
 use yf_lines::basic::{is_mark_at, is_marker_at, skip_spaces};
 
-// What is known of the content's indentation where the header does not give it.
+// The indentation of the content if the header doesn't give it.
 #[derive(Drop)]
 pub(crate) enum Indentation {
-    // The content is indented by so many spaces.
+    // The number of spaces before the content.
     Found(usize),
-    // There is no content: so many lines of spaces alone end at the offset.
+    // There is no content. The number of lines of only spaces, and the offset after them.
     Missing(usize, usize),
-    // A line of spaces alone before the content has more spaces than the content.
+    // A line of only spaces before the content has more spaces than the content.
     TooLong,
 }
 
-// max(n, 0), from where an indentation indicator counts.
+// Returns max(n, 0), the base of an indentation indicator.
 pub(crate) fn base_of(n: i32) -> usize
     requires { n ≤ℤ pos (2 ^ 30) }
     ensures { result ≡ base n }
@@ -26,7 +26,7 @@ pub(crate) fn base_of(n: i32) -> usize
     if n < 0 { 0 } else { n as usize }
 }
 
-// n + 1, the fewest spaces of an indentation that is detected.
+// Returns n + 1, the least number of spaces of a detected indentation.
 pub(crate) fn least_of(n: i32) -> usize
     requires { n ≤ℤ pos (2 ^ 30) }
     ensures { result ≡ least n }
@@ -34,7 +34,7 @@ pub(crate) fn least_of(n: i32) -> usize
     if n < 0 { 0 } else { n as usize + 1 }
 }
 
-// Whether a document marker begins the line, byte order marks before it not counted.
+// Returns whether a document marker begins the line, possibly after byte order marks.
 fn marker_line(s: &str, at: usize) -> bool
     ensures { MatchBool result (MarkerLine s.now at) (MarkerLine s.now at → ⊥) }
 {
@@ -51,7 +51,7 @@ fn longer(first: usize, second: usize) -> usize
     if first < second { second } else { first }
 }
 
-// Finds the indentation of the content whose lines begin at the offset.
+// Finds the indentation of the content, with its lines from the offset on.
 pub(crate) fn find_indentation(s: &str, at: usize, n: i32) -> Indentation
     requires boundary { IsCharBoundary s.now at }
     requires small { n ≤ℤ pos (2 ^ 30) }
@@ -73,7 +73,8 @@ pub(crate) fn find_indentation(s: &str, at: usize, n: i32) -> Indentation
     }
 }
 
-// Judges the first line that is not of spaces alone, before which so many such lines are, the longest of that width.
+// Finds the indentation from the first line that doesn't hold only spaces. `count` such lines precede it, the longest
+// with `longest` spaces.
 fn judge_line(s: &str, at: usize, n: i32, count: usize, longest: usize) -> Indentation
     requires boundary { IsCharBoundary s.now at }
     requires small { n ≤ℤ pos (2 ^ 30) }

@@ -1,4 +1,4 @@
-//! The readers of block scalars over a text with its lines.
+//! Readers of block scalars, for a text with its lines.
 ghost use Rattle.std.specs.Prelude.{◌≡◌, ◌≢◌, [], ◌<◌, ◌≤◌, ◌≤ℤ◌, ◌^◌, pos, None, length, MatchOption, MatchResult};
 ghost use Rattle.std.specs.Str.{IsCharBoundary};
 ghost use Rattle.yf_chars.specs.Chain.{Chosen, Stuck};
@@ -17,10 +17,10 @@ use yf_lines::fault::Fault;
 use yf_lines::source_text::Src;
 use yf_lines::text::ReadResult;
 
-/// Reads the header of a block scalar, with its `|` or `>`, from a byte offset on (YAML 1.2.2, section 8.1.1): a digit from
-/// 1 to 9 and a sign, each at most once and in either order, then a comment or nothing, and the end of the line.
+/// Reads the header of a block scalar from a byte offset on (YAML 1.2.2, section 8.1.1): `|` or `>`, an optional digit
+/// from 1 to 9 and an optional sign in either order, then an optional comment, and the end of the line.
 ///
-/// `None` where no header begins there. It takes no memory.
+/// Returns `None` if no header begins there. Allocates no memory.
 pub fn read_header<'a>(src: &Src<'a>, at: usize) -> Option<HeaderLine<'a>>
     ensures { MatchOption result (Stuck (BlockHeader src.now.text at))
         (λ r. Chosen (BlockHeader src.now.text at) r.end (header_value r.header r.comment) × IsCharBoundary src.now.text r.end
@@ -32,16 +32,16 @@ pub fn read_header<'a>(src: &Src<'a>, at: usize) -> Option<HeaderLine<'a>>
     }
 }
 
-/// Reads a block scalar after its header (YAML 1.2.2, sections 8.1.1.1, 8.1.2 and 8.1.3): the content lines and the empty
-/// lines among them, the tail, and the comment lines after it.
+/// Reads a block scalar after its header (YAML 1.2.2, sections 8.1.1.1, 8.1.2 and 8.1.3): the content lines and the
+/// empty lines among them, the tail, and the comment lines after it.
 ///
 /// `line` is the index of the line after the header, and `n` the indentation of the collection around the scalar, from
-/// -1. `None` where a line of spaces alone before the content has more spaces than the content. A scalar with a content
-/// line can be written by `write_block`.
+/// -1. Returns `None` if a line of only spaces before the content has more spaces than the content. `write_block` can
+/// write a scalar with a content line.
 ///
 /// # Errors
 ///
-/// `Fault::Memory` where a growth of memory was refused.
+/// Fails with `Fault::Memory` if memory is refused.
 pub fn read_body<'a>(
     alloc: Global,
     src: &Src<'a>,
@@ -61,7 +61,7 @@ pub fn read_body<'a>(
     }
 }
 
-// The byte offset where the line begins; after the last line, the text's length.
+// Returns the byte offset of the line, or the text's length after the last line.
 fn offset_of_line(src: &Src, line: usize) -> usize
     requires { line ≤ length src.now.lines }
     ensures value { result ≡ line_offset src.now line }

@@ -16,8 +16,8 @@ use crate::trail::read_trail;
 use std::alloc::{AllocError, Global};
 use yf_comments::comments::Separation;
 
-// Whether a comment directly after so many empty lines of a scalar's tail has a blank line before it: the empty lines of
-// a kept tail are content.
+// Returns whether a comment directly after `count` empty lines of a scalar's tail has a blank line before it. The empty
+// lines of a kept tail are content.
 fn is_gap(chomp: Chomp, count: usize) -> bool
     ensures { result ≡ is_gap_tail chomp count }
 {
@@ -27,7 +27,7 @@ fn is_gap(chomp: Chomp, count: usize) -> bool
     }
 }
 
-// Reads the comment lines after the rows of a scalar whose content has that indentation, and puts the whole together.
+// Reads the comment lines after the lines of a scalar with that indentation, and puts the parts together.
 fn with_trail<'a>(
     alloc: Global,
     s: &'a str,
@@ -65,7 +65,7 @@ fn with_trail<'a>(
     })
 }
 
-// Reads the scalar whose content has that indentation.
+// Reads a scalar with that indentation of its content.
 fn read_indented<'a>(
     alloc: Global,
     s: &'a str,
@@ -90,12 +90,12 @@ fn read_indented<'a>(
 /// Reads the lines of a block scalar after its header: its content lines and the empty lines among them, its tail, and
 /// the comment lines after it.
 ///
-/// `at` is the byte offset where the line after the header begins, and `n` the indentation of the collection around the
-/// scalar, from -1. `None` where a line of spaces alone before the content has more spaces than the content.
+/// `at` is the byte offset of the line after the header, and `n` the indentation of the collection around the scalar,
+/// from -1. Returns `None` if a line of only spaces before the content has more spaces than the content.
 ///
 /// # Errors
 ///
-/// `AllocError` where a growth of memory was refused.
+/// Fails with `AllocError` if memory is refused.
 pub fn block_body<'a>(
     alloc: Global,
     s: &'a str,

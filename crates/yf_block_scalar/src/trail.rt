@@ -12,7 +12,7 @@ use yf_comments::comments::{Comments, Separation};
 use yf_comments::lines::line_end;
 use yf_lines::basic::skip_spaces;
 
-// The same comments, the first of them with that note.
+// Returns the comments, with the first one's `blank_before` set.
 fn note_first<'a>(
     alloc: Global,
     comments: Comments<'a>,
@@ -50,8 +50,8 @@ fn no_comments<'a>(alloc: Global, at: usize) -> Separation<'a>
     }
 }
 
-// Reads the comment lines that belong to a scalar of that indentation (l-trail-comments, production 169); the first of
-// them is noted to be after a blank line or not.
+// Reads the comment lines that belong to a scalar with that indentation (l-trail-comments, production 169), and sets
+// `blank_before` of the first.
 pub(crate) fn read_trail<'a>(
     alloc: Global,
     s: &'a str,

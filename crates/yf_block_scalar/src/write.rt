@@ -15,16 +15,16 @@ use std::alloc::{AllocError, Global};
 use yf_comments::comment::Comment;
 use yf_lines::fault::Fault;
 
-/// Appends a block scalar, its header and its lines, with its content at the column, counted from 0, where `n` is the
+/// Appends a block scalar, its header and its lines, with its content at the column, counted from 0. `n` is the
 /// indentation of the collection around it, from -1.
 ///
-/// A header with a digit is written with the digit that this column needs. Empty lines are written empty, the tail only
-/// where the header keeps it. Where the last content line ended at the end of the text, it is written without a break,
-/// unless the header strips it. What is appended is a block scalar at `n` with the same content.
+/// A header with a digit gets the digit that this column needs. Empty lines have no spaces. The tail is written only if
+/// the header keeps it. If the last content line ended at the end of the text, it gets no break unless the header
+/// strips it. The appended text is a block scalar at `n` with equal content.
 ///
 /// # Errors
 ///
-/// `Fault::Memory` where a growth of memory was refused; the text is then as it was.
+/// Fails with `Fault::Memory` if memory is refused; the text is then unchanged.
 pub fn write_block(
     alloc: Global,
     out: &mut String,
@@ -160,7 +160,7 @@ fn push_break(text: &mut String, chomp: Chomp, open_end: bool) -> Result<(), All
     }
 }
 
-// The lines at the column, joined by line feeds.
+// Appends the lines at the column, joined by line feeds.
 fn push_indented(text: &mut String, lines: &Lines, column: usize) -> Result<(), AllocError>
     ensures { OnOk result (string_bytes text.new ≡ string_bytes text.old ++ literal (map (indented column) lines.now)) }
 {

@@ -4,7 +4,7 @@ use Rattle.yf_diagnose.specs.SecondReadings.{NotBefore}
 use Rattle.yf_diagnose.specs.declared.lines.NextLine.{NextLine}
 use Rattle.yf_diagnose.specs.declared.lines.NextLine.TheVariants.{Goes, Ends, Tab, Left}
 
--- what is told of the next line is between characters, not before the place
+-- the offset in the result is a boundary that is not before `at`
 abbrev pub NextLineAt : List ℕ → ℕ → NextLine → Type 0
 NextLineAt t at (Goes sign) = NotBefore t at sign
 NextLineAt t at Ends = Unit {0}

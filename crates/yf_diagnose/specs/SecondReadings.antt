@@ -1,4 +1,4 @@
--- What a second reading of a part of a text answers.
+-- The results of a second reading.
 use Rattle.std.specs.Prelude.{ℕ, List, ◌<◌, ◌≤◌, Result, MatchResult}
 use Rattle.std.specs.Str.{IsCharBoundary}
 use Rattle.yf_chars.specs.Chain.{Many}
@@ -6,26 +6,27 @@ use Rattle.yf_chars.specs.Class.{is_white}
 use Rattle.yf_diagnose.specs.declared.diagnosis.Mistake.{Mistake}
 use Rattle.yf_diagnose.specs.declared.diagnosis.Diagnosis.{Diagnosis}
 
--- a place between characters of the text, not before another one
+-- i is a boundary that is not before `at`
 abbrev pub NotBefore : List ℕ → ℕ → ℕ → Type 0
 NotBefore t at i = IsCharBoundary t i × (at ≤ i)
 
--- the same, and after it
+-- i is a boundary after `at`
 abbrev pub IsAfter : List ℕ → ℕ → ℕ → Type 0
 IsAfter t at i = IsCharBoundary t i × (at < i)
 
--- what begins at a place ends after it, or is refused at a place that is not before it
+-- a reading from `at` ends after it, or is refused at a boundary that is not before it
 abbrev pub IsReadAfter : List ℕ → ℕ → Result ℕ Mistake → Type 0
 IsReadAfter t at answer = MatchResult answer (IsAfter t at) (λ d. NotBefore t at d.at)
 
--- the same of what may be empty
+-- a reading from `at` ends at it or after it, or is refused at a boundary that is not before it
 abbrev pub IsReadFrom : List ℕ → ℕ → Result ℕ Mistake → Type 0
 IsReadFrom t at answer = MatchResult answer (NotBefore t at) (λ d. NotBefore t at d.at)
 
--- what was refused begins between characters, at a sign or before it, and is told of between characters, not before its beginning
+-- the refused part begins at a boundary that is not after the sign, and the diagnosis is at a boundary that is not
+-- before that
 abbrev pub IsDiagnosed : List ℕ → ℕ → Diagnosis → Type 0
 IsDiagnosed t sign diagnosis = IsCharBoundary t diagnosis.from × (diagnosis.from ≤ sign) × NotBefore t diagnosis.from diagnosis.at
 
--- the same of a sign with no more than white space before it, from a place on
+-- the sign of the diagnosis has only white space between it and `stop`
 abbrev pub IsDiagnosis : List ℕ → ℕ → Diagnosis → Type 0
 IsDiagnosis t stop diagnosis = (sign : ℕ) × ((x : List ℕ) × Many t is_white stop sign x) × IsDiagnosed t sign diagnosis

@@ -1,4 +1,4 @@
-//! Nodes in brackets (flow collections, productions 136 to 161): where their reading ends. Offsets count bytes.
+//! Reads nodes in brackets (flow collections, productions 136 to 161) to their ends. Offsets count bytes.
 ghost use Rattle.std.specs.Prelude.{◌≡◌, ◌+◌, ◌<◌, ◌≤◌, IfOk};
 ghost use Rattle.std.specs.Str.{IsCharBoundary};
 ghost use Rattle.yf_diagnose.specs.Brackets.{IsOpen};
@@ -13,10 +13,10 @@ use crate::why::Why;
 use yf_chars::text::is_char_at;
 use yf_lines::basic::{is_white_or_end_at, skip_whites};
 
-/// How many brackets may be open at once.
+/// The largest number of brackets open at once.
 pub const LEVELS: usize = 1024;
 
-// What may come next in brackets, but for their closing one.
+// What may come next in brackets, besides their closing one.
 #[derive(Clone, Copy)]
 enum Awaits {
     Entry,
@@ -28,23 +28,23 @@ enum Awaits {
     Colon,
 }
 
-// Brackets that are open.
+// An open bracket.
 #[derive(Clone, Copy)]
 struct Level {
     mapping: bool,
     awaits: Awaits,
-    // Where the last entry begins.
+    // The offset of the last entry.
     start: usize,
 }
 
-// All brackets that are open, the innermost last.
+// All open brackets, the innermost last.
 #[derive(Drop)]
 struct Levels {
     items: [Level; LEVELS],
     count: usize,
 }
 
-/// The end of the brackets of which the opening one is there.
+/// Returns the end of the brackets with the opening one at the offset.
 pub(crate) fn brackets_end(text: &str, at: usize, margin: Margin) -> Result<usize, Mistake>
     requires boundary { IsCharBoundary text.now at }
     requires inside { IsCharBoundary text.now (at + 1) }
@@ -96,7 +96,7 @@ impl Levels {
         self.set(Level { awaits, ..top });
     }
 
-    // What begins with the sign that is there.
+    // Reads what begins with the sign at the offset.
     fn read(&mut self, text: &str, at: usize, margin: Margin) -> Result<usize, Mistake>
         requires levels { IsOpen self.old.count }
         requires boundary { IsCharBoundary text.now at }
@@ -134,7 +134,7 @@ impl Levels {
         }
     }
 
-    // The closing bracket of a mapping or a sequence.
+    // Reads the closing bracket of a mapping or a sequence.
     fn close(
         &mut self,
         text: &str,
@@ -159,7 +159,7 @@ impl Levels {
         self.after(text, at, at + 1, true, margin)
     }
 
-    // A key or an item, or the `:` of an empty key.
+    // Reads a key or an item, or the `:` of an empty key.
     fn key(&mut self, text: &str, at: usize, margin: Margin) -> Result<usize, Mistake>
         requires levels { IsOpen self.old.count }
         requires boundary { IsCharBoundary text.now at }
@@ -172,7 +172,7 @@ impl Levels {
         self.entry(text, at, margin)
     }
 
-    // A node, from its properties on.
+    // Reads a node, from its properties on.
     fn entry(&mut self, text: &str, at: usize, margin: Margin) -> Result<usize, Mistake>
         requires levels { IsOpen self.old.count }
         requires boundary { IsCharBoundary text.now at }
@@ -188,7 +188,7 @@ impl Levels {
         }
     }
 
-    // The content of a node that begins at a place.
+    // Reads the content of a node that begins at `start`.
     fn content(
         &mut self,
         text: &str,
@@ -214,7 +214,7 @@ impl Levels {
         }
     }
 
-    // The opening bracket of a node that begins at a place.
+    // Reads the opening bracket of a node that begins at `start`.
     fn begin(
         &mut self,
         text: &str,
@@ -241,7 +241,7 @@ impl Levels {
         Ok(at + 1)
     }
 
-    // What may be after a node that begins and ends at places.
+    // Reads what may follow a node from `start` to `at`.
     fn after(
         &mut self,
         text: &str,
@@ -278,7 +278,7 @@ impl Levels {
         }
     }
 
-    // The same of an item of a sequence, which may be the key of a single pair (production 150).
+    // Reads what may follow an item of a sequence, which may be the key of a single pair (production 150).
     fn after_item(
         &mut self,
         text: &str,
@@ -307,7 +307,7 @@ impl Levels {
         self.colon(text, start, colon, json)
     }
 
-    // The `:` after a key that begins at a place.
+    // Reads the `:` after a key that begins at `start`.
     fn colon(&mut self, text: &str, start: usize, at: usize, json: bool) -> Result<usize, Mistake>
         requires levels { IsOpen self.old.count }
         requires boundary { IsCharBoundary text.now at }
@@ -326,7 +326,7 @@ impl Levels {
     }
 }
 
-// Why no comma is there.
+// Returns why the sign at the offset is not a comma.
 fn comma_why(text: &str, at: usize) -> Why
     requires { IsCharBoundary text.now at }
 {
@@ -336,7 +336,7 @@ fn comma_why(text: &str, at: usize) -> Why
     separator_why(text, at, Why::CommaExpected)
 }
 
-// Why neither a comma nor the `:` of a key is there.
+// Returns why the sign at the offset is neither a comma nor the `:` of a key.
 fn colon_why(text: &str, at: usize) -> Why
     requires { IsCharBoundary text.now at }
 {
@@ -346,7 +346,7 @@ fn colon_why(text: &str, at: usize) -> Why
     separator_why(text, at, Why::ColonExpected)
 }
 
-// The same of a sign that is no `:`.
+// Returns why a sign other than `:` is refused there; for most signs, `why`.
 fn separator_why(text: &str, at: usize, why: Why) -> Why
     requires { IsCharBoundary text.now at }
 {
@@ -359,7 +359,7 @@ fn separator_why(text: &str, at: usize, why: Why) -> Why
     sign_why(text, at, why)
 }
 
-/// Whether an opening bracket is there.
+/// Returns whether an opening bracket is at the offset.
 pub(crate) fn is_bracket_at(text: &str, at: usize) -> bool {
     if is_char_at(text, at, b'[') {
         return true;

@@ -10,7 +10,7 @@ use crate::why::Why;
 use yf_chars::text::is_char_at;
 use yf_lines::basic::{line_break, skip_whites};
 
-/// The next sign in brackets. Where there is none, the place after the last one is told.
+/// Returns the next sign in brackets. If there is none, the refusal is at the offset after the last sign.
 pub(crate) fn gap_end(text: &str, at: usize, margin: Margin) -> Result<usize, Mistake>
     requires { IsCharBoundary text.now at }
     ensures { IsReadFrom text.now at result }
@@ -35,7 +35,7 @@ pub(crate) fn gap_end(text: &str, at: usize, margin: Margin) -> Result<usize, Mi
     }
 }
 
-// The same from a comment on, where the last sign ends at a place.
+// Continues after a comment. The last sign ends at `last`.
 fn comment_passed(text: &str, last: usize, at: usize, margin: Margin) -> Result<usize, Mistake>
     requires last { IsCharBoundary text.now last }
     requires boundary { IsCharBoundary text.now at }
@@ -56,7 +56,7 @@ fn comment_passed(text: &str, last: usize, at: usize, margin: Margin) -> Result<
     }
 }
 
-// The same from the start of a line on.
+// Continues from the start of a line. The last sign ends at `last`.
 fn lines_passed(text: &str, last: usize, at: usize, least: usize) -> Result<usize, Mistake>
     requires last { IsCharBoundary text.now last }
     requires boundary { IsCharBoundary text.now at }
@@ -79,7 +79,7 @@ fn lines_passed(text: &str, last: usize, at: usize, least: usize) -> Result<usiz
     }
 }
 
-// The `#` of a line that is a comment.
+// Returns the `#` of a line that is a comment.
 fn comment_of(text: &str, at: usize, line: NextLine) -> Option<usize>
     requires { NextLineAt text.now at line }
     ensures { IfSome result (λ sign. NotBefore text.now at sign) }
@@ -95,7 +95,7 @@ fn comment_of(text: &str, at: usize, line: NextLine) -> Option<usize>
     None
 }
 
-// The first sign of a line that is no comment.
+// Returns the first sign of a line that is not a comment.
 fn sign_of(text: &str, last: usize, at: usize, line: NextLine) -> Result<usize, Mistake>
     requires last { IsCharBoundary text.now last }
     requires order { last ≤ at }
@@ -110,7 +110,7 @@ fn sign_of(text: &str, last: usize, at: usize, line: NextLine) -> Result<usize, 
     }
 }
 
-// Why a line in brackets can't begin with that sign so far to the left.
+// Returns why a line in brackets can't begin with that sign that far left.
 fn left_why(text: &str, at: usize) -> Why {
     if is_char_at(text, at, b']') {
         return Why::BracketLeft;

@@ -1,4 +1,4 @@
-//! Texts that look like something else than YAML.
+//! Recognizes texts that look like something other than YAML.
 ghost use Rattle.std.specs.Prelude.{◌<◌, IfSome, MatchBool, ⊤, length};
 
 use crate::leaves::is_quote_at;
@@ -9,7 +9,7 @@ use crate::why::Why;
 use yf_chars::text::is_char_at;
 use yf_lines::basic::is_white_at;
 
-/// Why the text is refused at a place: for another reason if it looks like a template or a merge conflict there.
+/// Returns why the text is refused at the offset: another reason if it looks like a template or a merge conflict there.
 pub(crate) fn guessed(text: &str, at: usize, why: Why) -> Why {
     if is_certain(why) {
         return why;
@@ -29,7 +29,7 @@ pub(crate) fn guessed(text: &str, at: usize, why: Why) -> Why {
     why
 }
 
-// Whether the reason holds, whatever the text looks like.
+// Returns whether the reason holds regardless of what the text looks like.
 fn is_certain(why: Why) -> bool {
     matches!(
         why,
@@ -47,8 +47,8 @@ fn is_certain(why: Why) -> bool {
     )
 }
 
-// Whether a place is in the braces of a template, or is the first sign after a node that begins with them. Only braces on
-// the place's line count, outside of quotes and comments.
+// Returns whether the offset is in the braces of a template, or at the first sign after a node that begins with them.
+// Only braces on the same line count, outside of quotes and comments.
 fn is_template(text: &str, start: usize, at: usize) -> bool {
     let sign = whites_before(text, at);
     let mut here = start;
@@ -82,7 +82,7 @@ fn is_template(text: &str, start: usize, at: usize) -> bool {
     false
 }
 
-// Whether white space, the start of the line or a sign that separates nodes is before a place.
+// Returns whether white space, the start of the line or a sign that separates nodes precedes the offset.
 fn is_fresh(text: &str, start: usize, at: usize) -> bool {
     if at <= start {
         return true;
@@ -93,7 +93,7 @@ fn is_fresh(text: &str, start: usize, at: usize) -> bool {
     separates(text, at - 1)
 }
 
-// Whether a sign that separates nodes is there.
+// Returns whether a sign that separates nodes is at the offset.
 fn separates(text: &str, at: usize) -> bool {
     match text.as_bytes().get(at) {
         Some(byte) => matches!(byte, b':' | b',' | b'[' | b'{'),
@@ -101,7 +101,7 @@ fn separates(text: &str, at: usize) -> bool {
     }
 }
 
-// Whether a comment begins there, on the line that starts at another place.
+// Returns whether a comment begins at `at`, on the line that begins at `start`.
 fn begins_comment(text: &str, start: usize, at: usize) -> bool {
     if !is_char_at(text, at, b'#') {
         return false;
@@ -112,7 +112,7 @@ fn begins_comment(text: &str, start: usize, at: usize) -> bool {
     is_white_at(text, at - 1)
 }
 
-// The place after the closing quote of the text whose opening quote is there, or the end of the line.
+// Returns the offset after the closing quote of the text with its opening quote at `at`, or the end of the line.
 fn quote_passed(text: &str, at: usize) -> usize
     requires { at < length text.now }
     ensures { at < result }
@@ -135,7 +135,7 @@ fn quote_passed(text: &str, at: usize) -> usize
     here
 }
 
-// Whether `{{` or `{%` is there, and no `$` before it.
+// Returns whether `{{` or `{%` is at the offset, without `$` before it.
 fn begins_template(text: &str, at: usize) -> bool
     ensures { MatchBool result (at < length text.now) ⊤ }
 {
@@ -153,7 +153,7 @@ fn begins_template(text: &str, at: usize) -> bool
     is_char_at(text, at + 1, b'%')
 }
 
-// The place after the `}}` or `%}` that closes the `{{` or `{%` that is there, on its line.
+// Returns the offset after the `}}` or `%}` that closes the `{{` or `{%` at the offset, on its line.
 fn template_end(text: &str, at: usize) -> Option<usize>
     requires { at < length text.now }
     ensures { IfSome result (λ end. at < end) }
@@ -178,7 +178,7 @@ fn template_end(text: &str, at: usize) -> Option<usize>
     None
 }
 
-// Whether a node begins there, as far as the signs before it tell.
+// Returns whether a node begins at the offset, judged by the signs before it.
 fn begins_node(text: &str, at: usize) -> bool {
     let before = whites_before(text, at);
     if before == 0 {
@@ -199,7 +199,8 @@ fn begins_node(text: &str, at: usize) -> bool {
     is_property_at(text, word_before(text, before))
 }
 
-// Whether the line is a mark of a merge conflict. A line of `<` signs always is; the other marks count only below one.
+// Returns whether the line is a mark of a merge conflict. A line of `<` signs always is; the other marks count only
+// below one.
 fn is_conflict(text: &str, start: usize) -> bool {
     if begins_conflict(text, start) {
         return true;
@@ -217,7 +218,7 @@ fn is_conflict(text: &str, start: usize) -> bool {
     false
 }
 
-// Whether the line is seven `<` signs, a space and a name.
+// Returns whether the line is seven `<` signs, a space and a name.
 fn begins_conflict(text: &str, start: usize) -> bool {
     if !seven_stand(text, start, b'<') {
         return false;
@@ -225,7 +226,7 @@ fn begins_conflict(text: &str, start: usize) -> bool {
     is_char_at(text, start.saturating_add(7), b' ')
 }
 
-// Whether the line is seven `=` signs, or begins with seven `|` or `>` signs and a space.
+// Returns whether the line is seven `=` signs, or begins with seven `|` or `>` signs and a space.
 fn goes_on_with_conflict(text: &str, start: usize) -> bool {
     let end = start.saturating_add(7);
     if seven_stand(text, start, b'=') {

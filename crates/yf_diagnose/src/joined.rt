@@ -1,4 +1,4 @@
-//! Lines that are one text with lines above them. Offsets count bytes.
+//! Lines that continue the text of lines above them. Offsets count bytes.
 ghost use Rattle.std.specs.Prelude.{◌≤◌, IfSome};
 ghost use Rattle.std.specs.Str.{IsCharBoundary};
 
@@ -14,7 +14,7 @@ use yf_chars::text::is_char_at;
 use yf_lines::basic::skip_whites;
 use yf_lines::table::skip_marks;
 
-/// Why a line that goes on with the text of lines above can't be a key. It depends on where that text begins.
+/// Returns why a line that continues the text of lines above can't be a key. It depends on the start of that text.
 pub(crate) fn joined_why(text: &str, start: usize) -> Why
     requires { IsCharBoundary text.now start }
 {
@@ -45,7 +45,7 @@ pub(crate) fn joined_why(text: &str, start: usize) -> Why
     lines_why(text, first, count)
 }
 
-/// Why an item with a key can't begin on a line that goes on with the text of lines above.
+/// Returns why an item with a key can't begin on a line that continues the text of lines above.
 pub(crate) fn item_why(text: &str, start: usize) -> Why
     requires { IsCharBoundary text.now start }
 {
@@ -56,7 +56,7 @@ pub(crate) fn item_why(text: &str, start: usize) -> Why
     }
 }
 
-// Where a text that goes on below a line begins.
+// The start of a text that continues below a line.
 #[derive(Clone, Copy)]
 enum Beginning {
     Above,
@@ -87,7 +87,8 @@ fn beginning_on(text: &str, line: usize) -> Beginning
     Beginning::Here(Why::DeeperThanItem)
 }
 
-// Why a text that begins with a whole line can't be a key. The count is that of its lines before the last one.
+// Returns why a text that begins with a whole line can't be a key. `count` is the number of its lines before the last
+// one.
 fn lines_why(text: &str, first: usize, count: usize) -> Why
     requires { IsCharBoundary text.now first }
 {
@@ -107,7 +108,7 @@ fn lines_why(text: &str, first: usize, count: usize) -> Why
     Why::KeyWithoutColonAbove
 }
 
-/// Whether the last line above that has text ends with the header of a block scalar.
+/// Returns whether the last line above that has text ends with the header of a block scalar.
 pub(crate) fn is_below_header(text: &str, start: usize) -> bool {
     let mut line = start;
     'lines: while line > 0 {

@@ -1,4 +1,4 @@
-//! Keys on their lines, and nodes that are no block scalars. Offsets count bytes.
+//! Keys on their lines, and nodes that are not block scalars. Offsets count bytes.
 ghost use Rattle.std.specs.Str.{IsCharBoundary};
 ghost use Rattle.yf_diagnose.specs.SecondReadings.{IsDiagnosed, IsReadFrom};
 
@@ -18,7 +18,7 @@ use yf_chars::text::is_char_at;
 use yf_lines::basic::skip_whites;
 use yf_lines::table::skip_marks;
 
-/// A key after which its line ends, with no `:`. It may have begun on a line before.
+/// Diagnoses a key at the end of its line, without `:`. The key may begin on an earlier line.
 pub(crate) fn without_colon(text: &str, start: usize, stop: usize) -> Diagnosis
     requires start { IsCharBoundary text.now start }
     requires stop { IsCharBoundary text.now stop }
@@ -36,7 +36,7 @@ pub(crate) fn without_colon(text: &str, start: usize, stop: usize) -> Diagnosis
     }
 }
 
-/// A `:` after a text of several lines, which may be meant as a key of its first line alone.
+/// Diagnoses a `:` after a text of several lines, which may be meant to make a key of only its first line.
 pub(crate) fn joined(text: &str, at: usize) -> Diagnosis
     requires { IsCharBoundary text.now at }
     ensures { IsDiagnosed text.now at result }
@@ -60,7 +60,7 @@ pub(crate) fn joined(text: &str, at: usize) -> Diagnosis
     }
 }
 
-/// What is told of a key that begins there.
+/// Diagnoses the key that begins at the offset.
 pub(crate) fn key_diagnosis(text: &str, at: usize) -> Diagnosis
     requires { IsCharBoundary text.now at }
     ensures { IsDiagnosed text.now at result }
@@ -75,7 +75,7 @@ pub(crate) fn key_diagnosis(text: &str, at: usize) -> Diagnosis
     }
 }
 
-// Why no `:` follows a key that is between two places.
+// Returns why no `:` follows a key between the two offsets.
 fn colon_why(text: &str, from: usize, to: usize) -> Why
     requires { IsCharBoundary text.now from }
 {
@@ -90,7 +90,7 @@ fn colon_why(text: &str, from: usize, to: usize) -> Why
     Why::KeyWithoutColon
 }
 
-// The end of a key on its line.
+// Returns the end of a key on its line.
 fn key_end(text: &str, at: usize) -> Result<usize, Mistake>
     requires { IsCharBoundary text.now at }
     ensures { IsReadFrom text.now at result }
@@ -135,7 +135,7 @@ fn key_end(text: &str, at: usize) -> Result<usize, Mistake>
     }
 }
 
-/// The end of a node without properties that is no block scalar.
+/// Returns the end of a node without properties that is not a block scalar.
 pub(crate) fn content_end(text: &str, at: usize, margin: Margin) -> Result<usize, Mistake>
     requires { IsCharBoundary text.now at }
     ensures { IsReadFrom text.now at result }
@@ -159,7 +159,7 @@ pub(crate) fn content_end(text: &str, at: usize, margin: Margin) -> Result<usize
     }
 }
 
-/// Whether a comment begins there, after white space.
+/// Returns whether a comment begins at the offset, after white space.
 pub(crate) fn is_comment_at(text: &str, at: usize) -> bool {
     if is_char_at(text, at, b'#') {
         return whites_before(text, at) < at;

@@ -14,14 +14,14 @@ use crate::why::Why;
 use yf_chars::context::Ctx;
 use yf_chars::text::is_char_at;
 
-/// The content of a node, or the end of its properties where it has none.
+/// The content of a node, or the end of its properties if it has no content.
 #[derive(Clone, Copy)]
 pub(crate) enum Held {
     Content(usize),
     Empty(usize),
 }
 
-/// The content of a node after its properties.
+/// Finds the content of a node after its properties.
 pub(crate) fn held_content(text: &str, at: usize, margin: Margin) -> Result<Held, Mistake>
     requires { IsCharBoundary text.now at }
     ensures { HeldAt text.now at result }
@@ -64,7 +64,7 @@ pub(crate) fn held_content(text: &str, at: usize, margin: Margin) -> Result<Held
     Ok(Held::Content(here))
 }
 
-/// Whether a property is the second of its kind.
+/// Returns whether a property is the second of its kind.
 pub(crate) fn is_second(is_anchor: bool, anchor: bool, tag: bool) -> bool {
     if is_anchor {
         return anchor;
@@ -72,7 +72,7 @@ pub(crate) fn is_second(is_anchor: bool, anchor: bool, tag: bool) -> bool {
     tag
 }
 
-/// The end of the leaf that begins there; with properties before it, it can't be an alias.
+/// Returns the end of the leaf that begins at the offset. After properties it can't be an alias.
 pub(crate) fn leaf_end(text: &str, at: usize, held: bool, margin: Margin) -> Result<usize, Mistake>
     requires { IsCharBoundary text.now at }
     ensures { IsReadAfter text.now at result }
@@ -95,7 +95,7 @@ pub(crate) fn leaf_end(text: &str, at: usize, held: bool, margin: Margin) -> Res
     }
 }
 
-// Why no leaf begins with that sign.
+// Returns why no leaf begins with that sign.
 fn leaf_why(text: &str, at: usize) -> Why
     requires { IsCharBoundary text.now at }
 {
@@ -105,7 +105,7 @@ fn leaf_why(text: &str, at: usize) -> Why
     sign_why(text, at, Why::NoPlain)
 }
 
-/// Whether a quote is there.
+/// Returns whether a quote is at the offset.
 pub(crate) fn is_quote_at(text: &str, at: usize) -> bool {
     if is_char_at(text, at, b'"') {
         return true;
@@ -113,7 +113,7 @@ pub(crate) fn is_quote_at(text: &str, at: usize) -> bool {
     is_char_at(text, at, b'\'')
 }
 
-/// Whether the `:` of a value is there; after quotes and brackets it needs no white space after it.
+/// Returns whether the `:` of a value is at the offset. After quotes and brackets it needs no white space after it.
 pub(crate) fn is_colon_at(text: &str, at: usize, json: bool) -> bool
     ensures { MatchBool result (IsCharBoundary text.now (at + 1)) ⊤ }
 {
@@ -126,7 +126,7 @@ pub(crate) fn is_colon_at(text: &str, at: usize, json: bool) -> bool
     false
 }
 
-// Whether what is there ends a node that has properties alone.
+// Returns whether the sign at the offset ends a node that has only properties.
 fn node_ends(text: &str, at: usize) -> bool {
     if is_char_at(text, at, b',') {
         return true;

@@ -1,4 +1,5 @@
-//! Where and why a stream is refused, for people: what was refused is read again, from a place that is known.
+//! Finds out, for people, at which offset and why a stream is refused: it reads the refused part again from a known
+//! offset.
 #![tactic(auto)]
 
 mod brackets;

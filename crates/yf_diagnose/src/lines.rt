@@ -12,27 +12,28 @@ use yf_chars::text::{is_char_at, peek};
 use yf_lines::basic::{is_marker_at, line_break, skip_spaces, skip_whites};
 use yf_lines::table::skip_marks;
 
-/// How the lines of a node are held: how many spaces they begin with at least, and whether it must be on one line, as a key.
+/// The limits of a node's lines: the least number of spaces that they begin with, and whether the node must be on one
+/// line, as a key.
 #[derive(Clone, Copy)]
 pub(crate) struct Margin {
     pub(crate) least: usize,
     pub(crate) key: bool,
 }
 
-/// What the next line is that is not blank.
+/// The next line that is not blank.
 #[derive(Clone, Copy)]
 pub(crate) enum NextLine {
-    /// Its first sign is there, and it is indented as it must be.
+    /// The line is indented far enough; the offset of its first sign.
     Goes(usize),
-    /// The text ends, or the document.
+    /// The text or the document ends.
     Ends,
-    /// A tab is where it must be indented.
+    /// A tab is in the indentation.
     Tab(usize),
-    /// Its first sign is too far to the left.
+    /// The first sign is too far left.
     Left(usize),
 }
 
-/// The next line that is not blank, from the start of a line on.
+/// Returns the next line that is not blank, from the start of a line on.
 pub(crate) fn next_line(text: &str, at: usize, least: usize) -> NextLine
     requires { IsCharBoundary text.now at }
     ensures { NextLineAt text.now at result }
@@ -62,7 +63,7 @@ pub(crate) fn next_line(text: &str, at: usize, least: usize) -> NextLine
     }
 }
 
-/// The end of the comment that begins there.
+/// Returns the end of the comment that begins at the offset.
 pub(crate) fn comment_end(text: &str, at: usize) -> Result<usize, Mistake>
     requires { IsCharBoundary text.now at }
     ensures { IsReadFrom text.now at result }
@@ -74,7 +75,7 @@ pub(crate) fn comment_end(text: &str, at: usize) -> Result<usize, Mistake>
     refused(end, sign_why(text, end, Why::Control))
 }
 
-/// Why a sign is refused: for itself where it may be nowhere, else for a reason that is known.
+/// Returns why a sign is refused: its own reason if it is allowed nowhere, otherwise `why`.
 pub(crate) fn sign_why(text: &str, at: usize, why: Why) -> Why
     requires { IsCharBoundary text.now at }
 {
@@ -92,7 +93,7 @@ pub(crate) fn sign_why(text: &str, at: usize, why: Why) -> Why
     }
 }
 
-/// Whether the text or the line ends there.
+/// Returns whether the text or the line ends at the offset.
 pub(crate) fn line_ends(text: &str, at: usize) -> bool
     ensures { MatchBool result ⊤ (at < length text.now) }
 {
@@ -102,7 +103,7 @@ pub(crate) fn line_ends(text: &str, at: usize) -> bool
     is_break(text, at)
 }
 
-/// Whether a character of a line break is between two places.
+/// Returns whether a character of a line break is between the offsets.
 pub(crate) fn breaks_between(text: &str, from: usize, to: usize) -> bool {
     let mut at = from;
     'bytes: while at < to {
@@ -114,7 +115,7 @@ pub(crate) fn breaks_between(text: &str, from: usize, to: usize) -> bool {
     false
 }
 
-/// Whether more than 1,024 characters are between two places.
+/// Returns whether more than 1,024 characters are between the offsets.
 pub(crate) fn is_long(text: &str, from: usize, to: usize) -> bool {
     let bytes = text.as_bytes();
     let mut count: usize = 0;
@@ -130,7 +131,7 @@ pub(crate) fn is_long(text: &str, from: usize, to: usize) -> bool {
     count > 1024
 }
 
-/// Whether a character of a line break is there.
+/// Returns whether a character of a line break is at the offset.
 pub(crate) fn is_break(text: &str, at: usize) -> bool
     ensures { MatchBool result (IsCharBoundary text.now (at + 1)) ⊤ }
 {

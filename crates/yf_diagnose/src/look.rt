@@ -1,4 +1,4 @@
-//! What is before a place, and on a line. Offsets count bytes.
+//! The text before an offset, and on a line. Offsets count bytes.
 ghost use Rattle.std.specs.Prelude.{◌≤◌, ◌<◌, ◌+◌, IfSome, MatchBool, ⊤, length};
 ghost use Rattle.std.specs.Str.{IsCharBoundary};
 ghost use Rattle.yf_diagnose.specs.SecondReadings.{NotBefore};
@@ -8,7 +8,7 @@ use yf_chars::text::is_char_at;
 use yf_lines::basic::{is_marker_at, is_white_at, is_white_or_end_at, skip_spaces, skip_whites};
 use yf_lines::table::skip_marks;
 
-/// The start of the line to which the place belongs, before its byte order marks.
+/// Returns the start of the line that holds the offset, before its byte order marks.
 pub(crate) fn line_start(text: &str, at: usize) -> usize
     ensures boundary { IsCharBoundary text.now result }
     ensures order { result ≤ at }
@@ -24,7 +24,7 @@ pub(crate) fn line_start(text: &str, at: usize) -> usize
     0
 }
 
-/// The start of the line before the one that begins there.
+/// Returns the start of the line before the one that begins at the offset.
 pub(crate) fn line_before(text: &str, start: usize) -> usize
     requires { 0 < start }
     ensures boundary { IsCharBoundary text.now result }
@@ -41,7 +41,7 @@ pub(crate) fn line_before(text: &str, start: usize) -> usize
     line_start(text, last)
 }
 
-/// The start of the white space that ends at the place.
+/// Returns the start of the white space that ends at the offset.
 pub(crate) fn whites_before(text: &str, at: usize) -> usize
     ensures { result ≤ at }
 {
@@ -55,7 +55,7 @@ pub(crate) fn whites_before(text: &str, at: usize) -> usize
     0
 }
 
-/// The start of the run without white space that ends at the place.
+/// Returns the start of the run without white space that ends at the offset.
 pub(crate) fn word_before(text: &str, at: usize) -> usize
     ensures boundary { IsCharBoundary text.now result }
     ensures order { result ≤ at }
@@ -74,7 +74,7 @@ pub(crate) fn word_before(text: &str, at: usize) -> usize
     0
 }
 
-/// Whether a `-`, `?` or `:` is there that white space, a break or the end of the text follows.
+/// Returns whether a `-`, `?` or `:` is at the offset, before white space, a break or the end of the text.
 pub(crate) fn is_indicator_at(text: &str, at: usize) -> bool
     ensures { MatchBool result (IsCharBoundary text.now (at + 1)) ⊤ }
 {
@@ -90,7 +90,7 @@ pub(crate) fn is_indicator_at(text: &str, at: usize) -> bool
     false
 }
 
-/// The first tab in white space from one place to another.
+/// Returns the first tab in white space between the offsets.
 pub(crate) fn first_tab(text: &str, from: usize, to: usize) -> Option<usize>
     requires { IsCharBoundary text.now from }
     ensures boundary { IfSome result (λ tab. IsCharBoundary text.now tab) }
@@ -109,7 +109,7 @@ pub(crate) fn first_tab(text: &str, from: usize, to: usize) -> Option<usize>
     None
 }
 
-/// Whether a `:` that white space, a break or the end of the text follows is on a line from one place up to another.
+/// Returns whether a line has a `:` between the offsets that white space, a break or the end of the text follows.
 pub(crate) fn has_colon(text: &str, from: usize, to: usize) -> bool {
     let mut at = from;
     'bytes: while at < to {
@@ -126,8 +126,8 @@ pub(crate) fn has_colon(text: &str, from: usize, to: usize) -> bool {
     false
 }
 
-/// Whether the first `:` between two places looks like a key's that lacks its space: neither white space nor the end of
-/// the line follows it, and no `/` or `:`, as in an address.
+/// Returns whether the first `:` between the offsets looks like that of a key without its space: neither white space
+/// nor the end of the line follows it, and no `/` or `:`, as in an address.
 pub(crate) fn has_unspaced_colon(text: &str, from: usize, to: usize) -> bool {
     let mut at = from;
     'bytes: while at < to {
@@ -142,7 +142,7 @@ pub(crate) fn has_unspaced_colon(text: &str, from: usize, to: usize) -> bool {
     false
 }
 
-// Whether a `:` looks like that of a key that begins at another place.
+// Returns whether a `:` looks like that of a key that begins at `from`.
 fn is_key_colon(text: &str, from: usize, at: usize) -> bool {
     if at == from {
         return false;
@@ -153,7 +153,7 @@ fn is_key_colon(text: &str, from: usize, at: usize) -> bool {
     }
 }
 
-/// The end of the text on the line from a place on, before white space and a comment.
+/// Returns the end of the text on the line from an offset on, before white space and a comment.
 pub(crate) fn text_end(text: &str, from: usize) -> usize {
     let mut end = from;
     let mut at = from;
@@ -172,7 +172,7 @@ pub(crate) fn text_end(text: &str, from: usize) -> usize {
     end
 }
 
-// The offset after the document marker that is there, or the place itself.
+// Returns the offset after the document marker at the offset, or the offset itself.
 fn after_marker(text: &str, at: usize) -> usize
     requires { IsCharBoundary text.now at }
     ensures { NotBefore text.now at result }
@@ -188,14 +188,14 @@ fn after_marker(text: &str, at: usize) -> usize
     at
 }
 
-/// How a line begins.
+/// The beginning of a line.
 #[derive(Clone, Copy)]
 pub(crate) struct Beginning {
     /// The offset after its byte order marks.
     pub(crate) base: usize,
-    /// The first sign that is no indicator, or that is not before the place up to which it was asked.
+    /// The first sign that is not an indicator, or that is not before the limit.
     pub(crate) at: usize,
-    /// The bytes between both, so the column of the sign, from 0, where no tab is before it.
+    /// The bytes from `base` to `at`: the column of the sign, from 0, if no tab precedes it.
     pub(crate) column: usize,
     /// The column, from 1, of the last indicator; 0 if there is none.
     pub(crate) least: usize,
@@ -207,7 +207,7 @@ pub(crate) struct Beginning {
     pub(crate) marker: bool,
 }
 
-/// How the line that starts there begins, up to a place.
+/// Returns the beginning of the line that starts at `start`, up to the limit `to`.
 pub(crate) fn begun_line(text: &str, start: usize, to: usize) -> Beginning
     requires { IsCharBoundary text.now start }
     ensures tab { IfSome result.tab (λ tab. IsCharBoundary text.now tab) }
@@ -241,7 +241,7 @@ pub(crate) fn begun_line(text: &str, start: usize, to: usize) -> Beginning
     }
 }
 
-/// What is in a column of a line's beginning.
+/// What a line has in a column of its beginning.
 #[derive(Clone, Copy)]
 pub(crate) enum Entry {
     Key,
@@ -249,7 +249,7 @@ pub(crate) enum Entry {
     Nothing,
 }
 
-/// Which entry of a block collection is in that column of the line that starts there.
+/// Returns which entry of a block collection is in that column of the line that begins at `start`.
 pub(crate) fn entry_in(text: &str, start: usize, column: usize) -> Entry
     requires { IsCharBoundary text.now start }
 {
@@ -278,7 +278,7 @@ pub(crate) fn entry_in(text: &str, start: usize, column: usize) -> Entry
     }
 }
 
-/// Whether a line that starts there is blank, or a comment.
+/// Returns whether the line that begins at the offset is blank or a comment.
 pub(crate) fn is_passed(text: &str, start: usize) -> bool
     requires { IsCharBoundary text.now start }
 {

@@ -1,4 +1,4 @@
-//! Plain scalars (productions 126 to 135): where their reading ends. Offsets count bytes.
+//! Reads plain scalars (productions 126 to 135) to their ends. Offsets count bytes.
 ghost use Rattle.std.specs.Prelude.{◌≤◌, IfSome};
 ghost use Rattle.std.specs.Str.{IsCharBoundary};
 ghost use Rattle.yf_diagnose.specs.SecondReadings.{IsAfter, NotBefore};
@@ -9,7 +9,7 @@ use yf_chars::context::Ctx;
 use yf_chars::text::{is_char_at, peek};
 use yf_lines::basic::{line_break, skip_whites};
 
-/// Whether a character that a plain scalar may hold in a context is there.
+/// Returns whether the character at the offset may be in a plain scalar in that context.
 pub(crate) fn is_safe_at(text: &str, at: usize, context: Ctx) -> bool
     requires { IsCharBoundary text.now at }
 {
@@ -19,7 +19,7 @@ pub(crate) fn is_safe_at(text: &str, at: usize, context: Ctx) -> bool
     }
 }
 
-/// The offset after the first character of a plain scalar, if one begins there.
+/// Returns the offset after the first character of a plain scalar, if one begins at the offset.
 pub(crate) fn plain_begun(text: &str, at: usize, context: Ctx) -> Option<usize>
     requires { IsCharBoundary text.now at }
     ensures { IfSome result (λ next. IsAfter text.now at next) }
@@ -44,7 +44,7 @@ pub(crate) fn plain_begun(text: &str, at: usize, context: Ctx) -> Option<usize>
     }
 }
 
-/// The end of the text of a plain scalar on its line, from a place in it on.
+/// Returns the end of the text of a plain scalar on its line, from an offset in it on.
 pub(crate) fn plain_end(text: &str, at: usize, context: Ctx) -> usize
     requires { IsCharBoundary text.now at }
     ensures { NotBefore text.now at result }
@@ -79,7 +79,7 @@ pub(crate) fn plain_end(text: &str, at: usize, context: Ctx) -> usize
     }
 }
 
-/// The end of a plain scalar in brackets, on all its lines, from a place on its first one on.
+/// Returns the end of a plain scalar in brackets, on all its lines, from an offset on its first line on.
 pub(crate) fn plain_lines_end(text: &str, at: usize, margin: Margin) -> usize
     requires { IsCharBoundary text.now at }
     ensures { NotBefore text.now at result }
@@ -96,7 +96,7 @@ pub(crate) fn plain_lines_end(text: &str, at: usize, margin: Margin) -> usize
     }
 }
 
-// The end of the text of a plain scalar on its next line, if it goes on there.
+// Returns the end of the text of a plain scalar on its next line, if it continues there.
 fn further_end(text: &str, at: usize, least: usize) -> Option<usize>
     requires { IsCharBoundary text.now at }
     ensures { IfSome result (λ end. IsAfter text.now at end) }

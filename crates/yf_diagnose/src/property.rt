@@ -1,4 +1,4 @@
-//! Anchors, aliases and tags (productions 97 to 104): where their reading ends. Offsets count bytes.
+//! Reads anchors, aliases and tags (productions 97 to 104) to their ends. Offsets count bytes.
 ghost use Rattle.std.specs.Prelude.{◌+◌, IfSome, MatchBool, ⊤};
 ghost use Rattle.std.specs.Str.{IsCharBoundary};
 ghost use Rattle.yf_diagnose.specs.SecondReadings.{IsAfter, IsReadFrom, IsReadAfter};
@@ -9,7 +9,7 @@ use yf_chars::classes::{is_hex_digit, is_tag_char, is_uri_char};
 use yf_chars::runs::{AnchorChars, WordChars, skip_while};
 use yf_chars::text::{is_char_at, peek};
 
-/// Whether an anchor or a tag begins there.
+/// Returns whether an anchor or a tag begins at the offset.
 pub(crate) fn is_property_at(text: &str, at: usize) -> bool
     ensures { MatchBool result (IsCharBoundary text.now (at + 1)) ⊤ }
 {
@@ -19,7 +19,7 @@ pub(crate) fn is_property_at(text: &str, at: usize) -> bool
     is_char_at(text, at, b'!')
 }
 
-/// The end of the anchor or the tag that begins there.
+/// Returns the end of the anchor or the tag that begins at the offset.
 pub(crate) fn property_end(text: &str, at: usize) -> Result<usize, Mistake>
     requires boundary { IsCharBoundary text.now at }
     requires follows { IsCharBoundary text.now (at + 1) }
@@ -31,7 +31,7 @@ pub(crate) fn property_end(text: &str, at: usize) -> Result<usize, Mistake>
     tag_end(text, at)
 }
 
-/// The end of the anchor or the alias whose sign is there.
+/// Returns the end of the anchor or the alias with its sign at the offset.
 pub(crate) fn name_end(text: &str, at: usize) -> Result<usize, Mistake>
     requires { IsCharBoundary text.now (at + 1) }
     ensures { IsReadAfter text.now at result }
@@ -43,7 +43,7 @@ pub(crate) fn name_end(text: &str, at: usize) -> Result<usize, Mistake>
     Ok(end)
 }
 
-/// Whether the name of an alias ends at a place.
+/// Returns whether an alias ends at the offset.
 pub(crate) fn is_alias_before(text: &str, at: usize) -> bool {
     let mut start = at;
     'bytes: while start > 0 {
@@ -55,7 +55,7 @@ pub(crate) fn is_alias_before(text: &str, at: usize) -> bool {
     is_name_of_alias(text, 0, at)
 }
 
-// Whether a `*` and more signs are between two places.
+// Returns whether a `*` and more signs are between the offsets.
 fn is_name_of_alias(text: &str, from: usize, to: usize) -> bool {
     if is_char_at(text, from, b'*') {
         return to > from.saturating_add(1);
@@ -63,7 +63,7 @@ fn is_name_of_alias(text: &str, from: usize, to: usize) -> bool {
     false
 }
 
-// Whether a byte of a character that a name may hold is there.
+// Returns whether a byte of a character that a name may hold is at the offset.
 fn is_name_byte(text: &str, at: usize) -> bool {
     match text.as_bytes().get(at) {
         Some(byte) => !matches!(
@@ -74,7 +74,7 @@ fn is_name_byte(text: &str, at: usize) -> bool {
     }
 }
 
-/// Whether the name of an alias, between two places, looks like a text: whether it holds another sign than letters,
+/// Returns whether the name of an alias, between the offsets, looks like a text: it holds a sign other than letters,
 /// digits, `-` and `_`.
 pub(crate) fn is_text_like(text: &str, from: usize, to: usize) -> bool {
     let mut at = from;
@@ -92,12 +92,12 @@ pub(crate) fn is_text_like(text: &str, from: usize, to: usize) -> bool {
     false
 }
 
-// Whether it is a letter, a digit, `-` or `_`, or a byte of a character that is no ASCII.
+// Returns whether the byte is a letter, a digit, `-` or `_`, or part of a character outside of ASCII.
 fn is_letter_like(byte: u8) -> bool {
     matches!(byte, b'a'..=b'z' | b'A'..=b'Z' | b'0'..=b'9' | b'-' | b'_' | 128..=255)
 }
 
-// The end of the tag whose `!` is there.
+// Returns the end of the tag with its `!` at the offset.
 fn tag_end(text: &str, at: usize) -> Result<usize, Mistake>
     requires { IsCharBoundary text.now (at + 1) }
     ensures { IsReadAfter text.now at result }
@@ -123,7 +123,7 @@ fn tag_end(text: &str, at: usize) -> Result<usize, Mistake>
     }
 }
 
-// The end of a verbatim tag whose address begins there.
+// Returns the end of a verbatim tag with its address at the offset.
 fn verbatim_end(text: &str, at: usize) -> Result<usize, Mistake>
     requires { IsCharBoundary text.now at }
     ensures { IsReadAfter text.now at result }
@@ -142,7 +142,7 @@ fn verbatim_end(text: &str, at: usize) -> Result<usize, Mistake>
     }
 }
 
-/// The end of the characters of an address, or of a tag's name, with their escapes.
+/// Returns the end of the characters of an address, or of a tag's name, with their escapes.
 pub(crate) fn uri_end(text: &str, at: usize, address: bool) -> Result<usize, Mistake>
     requires { IsCharBoundary text.now at }
     ensures { IsReadFrom text.now at result }
@@ -168,7 +168,7 @@ pub(crate) fn uri_end(text: &str, at: usize, address: bool) -> Result<usize, Mis
     }
 }
 
-// Whether it is a character of an address, or of a tag's name.
+// Returns whether the character may be in an address, or in a tag's name.
 fn is_member(c: char, address: bool) -> bool {
     if address {
         return is_uri_char(c);
@@ -176,7 +176,7 @@ fn is_member(c: char, address: bool) -> bool {
     is_tag_char(c)
 }
 
-// The offset after two hexadecimal digits.
+// Returns the offset after two hexadecimal digits.
 fn digits_end(text: &str, at: usize) -> Option<usize>
     requires { IsCharBoundary text.now at }
     ensures { IfSome result (λ end. IsAfter text.now at end) }

@@ -1,4 +1,5 @@
-//! Quoted text (double quotes, productions 107 to 116; single quotes, productions 117 to 125): where its reading ends. Offsets count bytes.
+//! Reads quoted text (double quotes, productions 107 to 116; single quotes, productions 117 to 125) to its end. Offsets
+//! count bytes.
 ghost use Rattle.std.specs.Prelude.{◌+◌, ◌<◌, IfOk, IfErr};
 ghost use Rattle.std.specs.Str.{IsCharBoundary};
 ghost use Rattle.yf_chars.specs.Text.{CharAt};
@@ -13,7 +14,7 @@ use yf_chars::escapes::read_escape;
 use yf_chars::text::{is_char_at, peek};
 use yf_lines::basic::line_break;
 
-/// What is in quoted text, and the offset after it.
+/// A sign in quoted text, and the offset after it.
 #[derive(Clone, Copy)]
 pub(crate) enum Sign {
     Text(usize),
@@ -28,7 +29,8 @@ pub(crate) enum Sign {
     Wrong(Why),
 }
 
-/// The end of the quoted text whose opening quote is there. A quote that isn't closed is told at the opening one.
+/// Returns the end of the quoted text with its opening quote at the offset. A quote that isn't closed is refused at the
+/// opening one.
 pub(crate) fn quoted_end(text: &str, at: usize, margin: Margin) -> Result<usize, Mistake>
     requires inside { IsCharBoundary text.now (at + 1) }
     requires boundary { IsCharBoundary text.now at }
@@ -72,7 +74,7 @@ pub(crate) fn quoted_end(text: &str, at: usize, margin: Margin) -> Result<usize,
     }
 }
 
-// The first sign of the next line of a text whose opening quote is there.
+// Returns the first sign of the next line of the text with its opening quote at `quote`.
 fn turned(
     text: &str,
     quote: usize,
@@ -104,7 +106,7 @@ fn turned(
     }
 }
 
-// What is there in quotes of a kind.
+// Returns the sign at the offset, in double or single quotes.
 fn sign_at(text: &str, at: usize, double: bool) -> Sign
     requires { IsCharBoundary text.now at }
     ensures { SignAt text.now at result }
@@ -135,7 +137,7 @@ fn sign_at(text: &str, at: usize, double: bool) -> Sign
     }
 }
 
-// The same of a character in double quotes.
+// Returns the sign of a character in double quotes.
 fn double_sign(text: &str, at: usize, c: char, next: usize) -> Sign
     requires boundary { IsCharBoundary text.now at }
     requires reads { CharAt text.now at c next }
@@ -156,7 +158,7 @@ fn double_sign(text: &str, at: usize, c: char, next: usize) -> Sign
     }
 }
 
-// Why the escape of that letter is none.
+// Returns why the escape with that letter is invalid.
 fn escape_why(text: &str, at: usize) -> Why {
     if is_char_at(text, at, b'x') {
         return Why::EscapeDigits;

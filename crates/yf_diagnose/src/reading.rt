@@ -1,4 +1,4 @@
-//! The second reading of what was refused. Offsets count bytes.
+//! The second reading of a refused part. Offsets count bytes.
 ghost use Rattle.std.specs.Prelude.{◌+◌, ◌<◌, ◌≤◌, IfSome};
 ghost use Rattle.std.specs.Str.{IsCharBoundary};
 ghost use Rattle.yf_diagnose.specs.SecondReadings.{IsDiagnosis, IsDiagnosed, IsReadFrom};
@@ -24,8 +24,9 @@ use yf_chars::text::is_char_at;
 use yf_lines::basic::{is_marker_at, skip_whites};
 use yf_lines::table::skip_marks;
 
-/// Where and why a text is no stream whose reading stopped at an offset. What was refused there is read again: the node or the key, the header, the
-/// directive, or the line.
+/// Returns why a text is not a stream, and at which offset. The reading of the text stopped at `stop`.
+///
+/// It reads the refused part again: the node or the key, the header, the directive, or the line.
 pub fn diagnose(text: &str, stop: usize) -> Diagnosis
     requires { IsCharBoundary text.now stop }
     ensures { IsDiagnosis text.now stop result }
@@ -38,7 +39,7 @@ pub fn diagnose(text: &str, stop: usize) -> Diagnosis
     }
 }
 
-// The same where the first sign from the offset on is known.
+// Diagnoses the refusal if the first sign from `stop` on is at `sign`.
 fn diagnosis_at(text: &str, stop: usize, sign: usize) -> Diagnosis
     requires stop { IsCharBoundary text.now stop }
     requires sign { IsCharBoundary text.now sign }
@@ -63,7 +64,7 @@ fn diagnosis_at(text: &str, stop: usize, sign: usize) -> Diagnosis
     after_text(text, start, sign)
 }
 
-// A sign after other text of its line.
+// Diagnoses a sign after other text of its line.
 fn after_text(text: &str, start: usize, at: usize) -> Diagnosis
     requires start { IsCharBoundary text.now start }
     requires boundary { IsCharBoundary text.now at }
@@ -90,7 +91,7 @@ fn after_text(text: &str, start: usize, at: usize) -> Diagnosis
     at_sign(text, start, at)
 }
 
-// The first sign of a line.
+// Diagnoses the first sign of a line.
 fn at_first(text: &str, start: usize, at: usize) -> Diagnosis
     requires start { IsCharBoundary text.now start }
     requires boundary { IsCharBoundary text.now at }
@@ -114,7 +115,7 @@ fn at_first(text: &str, start: usize, at: usize) -> Diagnosis
     at_sign(text, start, at)
 }
 
-// Whether the line begins with a byte order mark, and a line above it belongs to the same document.
+// Returns whether the line begins with a byte order mark, and a line above it belongs to the same document.
 fn is_mark_inside(text: &str, start: usize) -> bool
     requires { IsCharBoundary text.now start }
 {
@@ -131,7 +132,7 @@ fn is_mark_inside(text: &str, start: usize) -> bool
     false
 }
 
-// A `%` at the start of a line.
+// Diagnoses a `%` at the start of a line.
 fn at_percent(text: &str, at: usize) -> Diagnosis
     requires boundary { IsCharBoundary text.now at }
     requires inside { IsCharBoundary text.now (at + 1) }
@@ -148,7 +149,7 @@ fn at_percent(text: &str, at: usize) -> Diagnosis
     }
 }
 
-// Any other sign of a line.
+// Diagnoses any other sign of a line.
 fn at_sign(text: &str, start: usize, at: usize) -> Diagnosis
     requires start { IsCharBoundary text.now start }
     requires boundary { IsCharBoundary text.now at }
@@ -168,7 +169,7 @@ fn at_sign(text: &str, start: usize, at: usize) -> Diagnosis
     }
 }
 
-// The first tab of a line whose first sign is there, where spaces must be.
+// Diagnoses the first tab of a line before its first sign, if spaces must be there.
 fn tab_of(text: &str, start: usize, at: usize, standing: Standing) -> Option<Diagnosis>
     requires { IsCharBoundary text.now start }
     ensures { IfSome result (IsDiagnosed text.now at) }
@@ -188,7 +189,7 @@ fn tab_of(text: &str, start: usize, at: usize, standing: Standing) -> Option<Dia
     }
 }
 
-// Whether so many spaces indent what is so.
+// Returns whether that number of spaces indents a part with that standing.
 fn is_indented(standing: Standing, width: usize) -> bool {
     match standing {
         Standing::Node(least) => width >= least,
@@ -196,7 +197,7 @@ fn is_indented(standing: Standing, width: usize) -> bool {
     }
 }
 
-// The first tab before an entry, or its key, on its line.
+// Returns the first tab before an entry, or its key, on its line.
 fn tab_before(text: &str, start: usize, at: usize) -> Option<usize>
     requires { IsCharBoundary text.now start }
     ensures boundary { IfSome result (IsCharBoundary text.now) }
@@ -222,7 +223,7 @@ fn tab_before(text: &str, start: usize, at: usize) -> Option<usize>
     }
 }
 
-// What is told of what is there so.
+// Diagnoses the part at the offset, with that standing.
 fn standing_diagnosis(text: &str, at: usize, standing: Standing) -> Diagnosis
     requires { IsCharBoundary text.now at }
     ensures { IsDiagnosed text.now at result }
@@ -251,7 +252,7 @@ fn standing_diagnosis(text: &str, at: usize, standing: Standing) -> Diagnosis
     }
 }
 
-// The same with a reason that the sign itself gives.
+// Returns the reason, made more exact by the sign itself.
 fn beyond_why(text: &str, at: usize, why: Why) -> Why {
     match why {
         Why::KeyInSequence => {
@@ -270,7 +271,7 @@ fn beyond_why(text: &str, at: usize, why: Why) -> Why {
     }
 }
 
-// The end of the node that begins there, or of its properties.
+// Returns the end of the node that begins at the offset, or of its properties.
 fn node_end(text: &str, at: usize, margin: Margin) -> Result<usize, Mistake>
     requires { IsCharBoundary text.now at }
     ensures { IsReadFrom text.now at result }
@@ -290,7 +291,7 @@ fn node_end(text: &str, at: usize, margin: Margin) -> Result<usize, Mistake>
     content_end(text, at, margin)
 }
 
-// The end of a block scalar's header, which is no key.
+// Returns the end of a block scalar's header. A block scalar can't be a key.
 fn scalar_end(text: &str, at: usize, margin: Margin) -> Result<usize, Mistake>
     requires boundary { IsCharBoundary text.now at }
     requires inside { IsCharBoundary text.now (at + 1) }
@@ -305,7 +306,7 @@ fn scalar_end(text: &str, at: usize, margin: Margin) -> Result<usize, Mistake>
     }
 }
 
-// Why a node or a key with that sign, which is read to its end, can't be there.
+// Returns why a node or a key that begins with that sign and was read to its end can't be there.
 fn node_why(text: &str, at: usize, key: bool) -> Why
     requires { IsCharBoundary text.now at }
 {
@@ -335,7 +336,7 @@ fn node_why(text: &str, at: usize, key: bool) -> Why
     Why::NoPlain
 }
 
-// Whether a leaf or brackets begin there.
+// Returns whether a leaf or a bracket begins at the offset.
 fn begins_leaf(text: &str, at: usize) -> bool
     requires { IsCharBoundary text.now at }
 {
@@ -351,7 +352,7 @@ fn begins_leaf(text: &str, at: usize) -> bool
     plain_begun(text, at, Ctx::FlowOut).is_some()
 }
 
-// Why no collection can begin there with its indicator.
+// Returns why no collection can begin at the offset with its indicator.
 fn indicator_why(text: &str, at: usize, key: bool) -> Why {
     if key {
         if is_char_at(text, at, b'-') {

@@ -1,5 +1,5 @@
-//! What is on a line of its own kind: headers of block scalars (production 162), directives (production 82), and the rest of a line. Offsets
-//! count bytes.
+//! Reads headers of block scalars (production 162), directives (production 82), and the rest of a line. Offsets count
+//! bytes.
 ghost use Rattle.std.specs.Prelude.{◌+◌};
 ghost use Rattle.std.specs.Str.{IsCharBoundary};
 ghost use Rattle.yf_diagnose.specs.SecondReadings.{NotBefore, IsReadFrom, IsReadAfter};
@@ -13,7 +13,7 @@ use yf_chars::runs::{Digits, NsChars, WordChars, skip_while};
 use yf_chars::text::{is_char_at, peek};
 use yf_lines::basic::{line_break, skip_spaces, skip_whites};
 
-/// The end of a line that holds white space and a comment at most.
+/// Returns the end of a line that holds at most white space and a comment.
 pub(crate) fn rest_end(text: &str, at: usize, why: Why) -> Result<usize, Mistake>
     requires { IsCharBoundary text.now at }
     ensures { IsReadFrom text.now at result }
@@ -34,7 +34,7 @@ pub(crate) fn rest_end(text: &str, at: usize, why: Why) -> Result<usize, Mistake
     refused(sign, why)
 }
 
-/// The end of the line of a block scalar's header, whose `|` or `>` is there.
+/// Returns the end of the line of a block scalar's header, with its `|` or `>` at the offset.
 pub(crate) fn header_end(text: &str, at: usize) -> Result<usize, Mistake>
     requires { IsCharBoundary text.now (at + 1) }
     ensures { IsReadAfter text.now at result }
@@ -45,7 +45,7 @@ pub(crate) fn header_end(text: &str, at: usize) -> Result<usize, Mistake>
     }
 }
 
-// The end of a digit and a `+` or `-`, in either order; each may be missing.
+// Returns the end of an optional digit and an optional `+` or `-`, in either order.
 fn header_signs_end(text: &str, at: usize) -> usize
     requires { IsCharBoundary text.now at }
     ensures { NotBefore text.now at result }
@@ -78,7 +78,8 @@ fn chomp_passed(text: &str, at: usize) -> usize
     }
 }
 
-/// Where the first blank line from a line's start on has one space more than the first line that is not blank.
+/// Returns the end of the blank lines from a line's start on. Refuses the first one that has more spaces than the first
+/// line that is not blank.
 pub(crate) fn blank_lines_end(text: &str, at: usize) -> Result<usize, Mistake>
     requires { IsCharBoundary text.now at }
     ensures { IsReadFrom text.now at result }
@@ -99,7 +100,7 @@ pub(crate) fn blank_lines_end(text: &str, at: usize) -> Result<usize, Mistake>
     }
 }
 
-// How many spaces are before the first line that is not blank.
+// Returns the number of spaces before the first line that is not blank.
 fn first_width(text: &str, at: usize) -> usize
     requires { IsCharBoundary text.now at }
 {
@@ -113,7 +114,7 @@ fn first_width(text: &str, at: usize) -> usize
     }
 }
 
-// The offset after so many spaces, or after all of them.
+// Returns the offset after `count` spaces, or after all of them if there are fewer.
 fn space_at(text: &str, at: usize, count: usize) -> usize
     requires { IsCharBoundary text.now at }
     ensures { NotBefore text.now at result }
@@ -128,7 +129,7 @@ fn space_at(text: &str, at: usize, count: usize) -> usize
     end
 }
 
-/// The end of the line of the directive whose `%` is there.
+/// Returns the end of the line of the directive with its `%` at the offset.
 pub(crate) fn directive_end(text: &str, at: usize) -> Result<usize, Mistake>
     requires { IsCharBoundary text.now (at + 1) }
     ensures { IsReadAfter text.now at result }
@@ -149,7 +150,7 @@ pub(crate) fn directive_end(text: &str, at: usize) -> Result<usize, Mistake>
     }
 }
 
-// The end of the version after `%YAML`.
+// Returns the end of the version after `%YAML`.
 fn version_end(text: &str, at: usize) -> Result<usize, Mistake>
     requires { IsCharBoundary text.now at }
     ensures { IsReadFrom text.now at result }
@@ -172,7 +173,7 @@ fn version_end(text: &str, at: usize) -> Result<usize, Mistake>
     Ok(minor)
 }
 
-// The end of the handle and the prefix after `%TAG`.
+// Returns the end of the handle and the prefix after `%TAG`.
 fn handle_end(text: &str, at: usize) -> Result<usize, Mistake>
     requires { IsCharBoundary text.now at }
     ensures { IsReadFrom text.now at result }
@@ -200,7 +201,7 @@ fn handle_end(text: &str, at: usize) -> Result<usize, Mistake>
     }
 }
 
-// The end of the prefix after a handle.
+// Returns the end of the prefix after a handle.
 fn prefix_end(text: &str, at: usize) -> Result<usize, Mistake>
     requires { IsCharBoundary text.now at }
     ensures { IsReadFrom text.now at result }

@@ -1,4 +1,5 @@
-//! How a part of a text is among the block collections around it, as far as the lines before it tell. Offsets count bytes.
+//! The standing of a part of a text in the block collections around it, as far as the lines before it show. Offsets
+//! count bytes.
 ghost use Rattle.std.specs.Prelude.{◌≤◌, IfSome};
 ghost use Rattle.std.specs.Str.{IsCharBoundary};
 
@@ -13,18 +14,18 @@ use yf_chars::text::is_char_at;
 use yf_lines::basic::{is_marker_at, skip_spaces, skip_whites};
 use yf_lines::table::skip_marks;
 
-/// How something is.
+/// The standing of a part of a text.
 #[derive(Clone, Copy)]
 pub(crate) enum Standing {
-    /// It is a node, whose lines begin with so many spaces at least.
+    /// A node; its lines begin with at least that number of spaces.
     Node(usize),
-    /// It is a key of a mapping, and its lines begin with so many spaces at least.
+    /// A key of a mapping; its lines begin with at least that number of spaces.
     Key(usize),
     /// Nothing may be there.
     Beyond(Why),
 }
 
-/// How what begins at a place is.
+/// Returns the standing of the part that begins at the offset.
 pub(crate) fn standing_at(text: &str, at: usize) -> Standing
     requires { IsCharBoundary text.now at }
 {
@@ -50,7 +51,7 @@ pub(crate) fn standing_at(text: &str, at: usize) -> Standing
     }
 }
 
-// How what begins at a place is on its line, after a word that is no property, which ends at another.
+// Returns the standing of the part at `at`, after a word on its line from `word` to `end` that is not a property.
 fn after_word(text: &str, line: Beginning, word: usize, end: usize, at: usize) -> Standing {
     if end == 0 {
         return Standing::Beyond(Why::AfterNode);
@@ -70,7 +71,7 @@ fn after_word(text: &str, line: Beginning, word: usize, end: usize, at: usize) -
     Standing::Beyond(Why::AfterNode)
 }
 
-// Why a `:` at the end of an alias is no key's. The alias is between two places.
+// Returns why a `:` at the end of an alias is not that of a key. The alias is between the offsets.
 fn alias_why(text: &str, from: usize, to: usize) -> Why {
     if is_text_like(text, from.saturating_add(1), to) {
         return Why::TextAsAlias;
@@ -78,7 +79,7 @@ fn alias_why(text: &str, from: usize, to: usize) -> Why {
     Why::ColonOfAlias
 }
 
-// Whether an alias's name begins at a place and ends at another.
+// Returns whether an alias is between the offsets.
 fn is_named(text: &str, word: usize, end: usize) -> bool {
     if is_char_at(text, word, b'*') {
         return end > word.saturating_add(1);
@@ -86,7 +87,7 @@ fn is_named(text: &str, word: usize, end: usize) -> bool {
     false
 }
 
-/// Whether a closing bracket is there.
+/// Returns whether a closing bracket is at the offset.
 pub(crate) fn closes(text: &str, at: usize) -> bool {
     if is_char_at(text, at, b']') {
         return true;
@@ -94,7 +95,7 @@ pub(crate) fn closes(text: &str, at: usize) -> bool {
     is_char_at(text, at, b'}')
 }
 
-// Why nothing may be there, where no white space is before it.
+// Returns why nothing may be at the offset without white space before it.
 fn unspaced_why(text: &str, line: Beginning, at: usize) -> Why {
     if is_char_at(text, at, b'#') {
         return Why::CommentUnspaced;
@@ -117,7 +118,7 @@ fn unspaced_why(text: &str, line: Beginning, at: usize) -> Why {
     Why::AfterNode
 }
 
-// Why no `:` may be there.
+// Returns why no `:` may be at the offset.
 fn colon_why(text: &str, line: Beginning, at: usize) -> Why {
     if line.marker {
         return Why::OnDocumentLine;
@@ -147,18 +148,18 @@ fn colon_why(text: &str, line: Beginning, at: usize) -> Why {
     Why::MappingInLine
 }
 
-// What is known of the lines between a line and the one that was looked at last.
+// The lines between a line and the last one looked at.
 #[derive(Clone, Copy)]
 struct Above {
     // Whether none of them has text.
     adjacent: bool,
-    // Whether an item is in the column.
+    // Whether a line has an item in the column.
     dashed: bool,
-    // Whether all that have text begin to the right of it.
+    // Whether all lines with text begin right of the column.
     left: bool,
 }
 
-// How the first sign of a line is, in a column.
+// Returns the standing of the first sign of a line, in a column.
 fn below(text: &str, start: usize, column: usize) -> Standing
     requires { IsCharBoundary text.now start }
 {
@@ -183,11 +184,11 @@ fn below(text: &str, start: usize, column: usize) -> Standing
     at_top(above)
 }
 
-// What a line tells of what is below it in a column.
+// The result of a line for a part below it in a column.
 #[derive(Clone, Copy)]
 enum Step {
     Found(Standing),
-    // It has properties alone: what is asked of is asked of its column.
+    // The line has only properties: its column replaces the column wanted.
     Column(usize),
     Above(Above),
 }
@@ -238,7 +239,7 @@ fn below_line(text: &str, line: usize, column: usize, above: Above) -> Step
     })
 }
 
-// How many spaces a line begins with.
+// Returns the number of spaces that begin a line.
 fn indent_of(text: &str, line: usize) -> usize
     requires { IsCharBoundary text.now line }
 {
@@ -246,7 +247,7 @@ fn indent_of(text: &str, line: usize) -> usize
     skip_spaces(text, base) - base
 }
 
-// What is below a document marker.
+// Returns the standing of a part below a document marker.
 fn below_marker(text: &str, line: Beginning, above: Above) -> Standing {
     if above.adjacent {
         if is_char_at(text, line.base, b'.') {
@@ -263,7 +264,7 @@ fn below_marker(text: &str, line: Beginning, above: Above) -> Standing {
     })
 }
 
-// What is where no line is above it that tells.
+// Returns the standing of a part if no line above decides it.
 fn at_top(above: Above) -> Standing {
     if above.dashed {
         return Standing::Beyond(Why::KeyInSequence);
@@ -277,7 +278,7 @@ fn at_top(above: Above) -> Standing {
     Standing::Beyond(Why::NodeEnded)
 }
 
-/// Whether a line ends with an indicator or a property, so that a node may follow below.
+/// Returns whether a line ends with an indicator or a property, so that a node may follow below.
 pub(crate) fn awaits(text: &str, line: Beginning) -> bool {
     let end = text_end(text, line.base);
     if line.at >= end {
@@ -289,7 +290,7 @@ pub(crate) fn awaits(text: &str, line: Beginning) -> bool {
     is_property_at(text, word_before(text, end))
 }
 
-// The node that a line awaits, which has spaces before it.
+// Returns the node that a line awaits. The line begins with `indent` spaces.
 fn awaited(text: &str, line: Beginning, indent: usize) -> Step {
     if line.at >= text_end(text, line.base) {
         return Step::Found(Standing::Node(line.least));
@@ -304,7 +305,7 @@ fn awaited(text: &str, line: Beginning, indent: usize) -> Step {
     Step::Found(Standing::Node(line.column.saturating_add(1)))
 }
 
-// Why nothing may be in a column below a line that begins to the left of it.
+// Returns why nothing may be in a column below a line that begins left of it.
 fn right_why(text: &str, line: Beginning, column: usize, above: Above) -> Why {
     let end = text_end(text, line.base);
     let word = word_before(text, end);
@@ -327,7 +328,7 @@ fn right_why(text: &str, line: Beginning, column: usize, above: Above) -> Why {
     Why::NoSuchColumn
 }
 
-// Why nothing may be in the column of a node that a line above awaits: the node is a list, or it has ended.
+// Returns why nothing may be in the column of a node that a line above awaits: the node is a list, or it has ended.
 fn column_why(above: Above) -> Why {
     if above.dashed {
         return Why::KeyInSequence;
@@ -335,7 +336,8 @@ fn column_why(above: Above) -> Why {
     Why::NodeEnded
 }
 
-/// The start of the line on which the key begins that goes on over all lines to the one that starts there.
+/// Returns the start of the line with the start of the key that continues over all lines to the one that begins at
+/// `start`.
 pub(crate) fn key_line(text: &str, start: usize) -> Option<usize>
     requires { IsCharBoundary text.now start }
     ensures { IfSome result (λ line. IsCharBoundary text.now line × (line ≤ start)) }

@@ -1,7 +1,7 @@
 //! Why a stream is refused.
 ghost use Rattle.std.specs.Prelude.{◌≤◌, length};
 
-/// Why a stream is refused, as far as a second reading can tell.
+/// The reason for a refusal, as far as a second reading finds it.
 #[derive(Clone, Copy)]
 pub enum Why {
     BracketsOpen,
@@ -78,7 +78,7 @@ pub enum Why {
 }
 
 impl Why {
-    /// What was met and what could be there, in one phrase of at most 72 characters.
+    /// Returns what was met and what could be there, in one phrase of at most 72 characters.
     pub fn words(self) -> &'static str
         ensures { length result.now ≤ 72 }
     {

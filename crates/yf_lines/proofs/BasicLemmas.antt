@@ -71,7 +71,7 @@ break_unique (lone_lf a b) (cr_lf c d) = absurd (omega arith)
 break_unique (lone_lf a b) (lone_cr c d) = refl
 break_unique (lone_lf a b) (lone_lf c d) = refl
 
--- how a break ends, and that this makes one
+-- the end of a break, and a break from its end
 pub break_from_lf : (t : List ℕ) (j : ℕ) → 0 < j → code t (j - 1) ≡ 10 → (i : ℕ) × Break t i j
 break_from_lf t j l e =
     ⊎_elim
@@ -104,7 +104,7 @@ break_end {t} (lone_lf {i = i} a b) = let e : (i + 1) - 1 ≡ i = omega arith in
 pub no_break_end : (t : List ℕ) (j : ℕ) → code t (j - 1) ≢ 10 → (code t (j - 1) ≡ 13 → code t j ≢ 10 → ⊥) → (i : ℕ) → Break t i j → ⊥
 no_break_end t j n m i b = ⊎_elim (λ (e : code t (j - 1) ≡ 10). n e) (λ (e : (code t (j - 1) ≡ 13) × (code t j ≢ 10)). m e.0 e.1) (break_end b)
 
--- the start of a line, by what is before
+-- the start of a line, by the text before it
 pub data Before (t : List ℕ) (j : ℕ) : Type 0 where
   nothing_before : j ≡ 0 → Before t j
   break_before : (i : ℕ) → Break t i j → Before t j
@@ -115,7 +115,7 @@ line_start_view at_text = nothing_before refl
 line_start_view (after_break {i = i} b) = break_before i b
 line_start_view {t} (after_mark {i = i} s e) = mark_before i s e (sym (next-mark t i e))
 
--- after a mark no break ends
+-- no break ends after a mark
 no_break_after_mark : (t : List ℕ) (i j : ℕ) → IsUtf8 t → code t i ≡ 0xFEFF → i + 3 ≡ j → (h : ℕ) → Break t h j → ⊥
 no_break_after_mark t i j u e s =
     let b = bytes_from_mark t i u e in
@@ -123,7 +123,7 @@ no_break_after_mark t i j u e s =
     let inside : code t (j - 1) ≡ no_char = ap (code t) p ∙ code-inside t (i + 2) (omega (arith, b.3)) (omega (arith, b.3)) in
     no_break_end t j (λ q. absurd (omega arith)) (λ q _. absurd (omega arith))
 
--- a mark may be taken away in prefix of the start of a line
+-- removing a mark before the start of a line leaves the start of a line
 pub start_before_mark : (t : List ℕ) (j : ℕ) → IsUtf8 t → 3 ≤ j → code t (j - 3) ≡ 0xFEFF → LineStart t j → LineStart t (j - 3)
 start_before_mark t j u l e s = go (line_start_view s) where
   go : Before t j → LineStart t (j - 3)
@@ -143,7 +143,7 @@ no_start t j z m b s = go (line_start_view s) where
   go (break_before i d) = b i d
   go (mark_before i s' e q) = let same : i ≡ j - 3 = omega arith in m (omega arith) (ap (code t) (sym same) ∙ e)
 
--- white, a break or the end of the text
+-- white space, a break or the end of the text
 pub ends_by_white : (c : ℕ) → is_white c ≡ true → is_white_or_end c ≡ true
 unfolding is_white_or_end
 ends_by_white c e = rw e
@@ -192,7 +192,7 @@ pub no_marker : (t : List ℕ) (i : ℕ) → is_three t i 45 ≡ false → is_th
 unfolding is_marker
 no_marker t i d e = rw (d, e)
 
--- ranges with no forbidden line
+-- spans without a forbidden line
 pub clear_join : {t : List ℕ} {i j k : ℕ} → Clear t i j → Clear t j k → Clear t i k
 clear_join {t} {i} {j} {k} a b = record {
   none = λ h l m f.

@@ -1,4 +1,4 @@
--- Inside of a line no other line begins, so no forbidden line does; and what characters in a row spell.
+-- No other line begins within a line, so no forbidden line does; and the bytes of a run of characters.
 use Rattle.std.proofs.Common.{◌≡◌, ◌≢◌, ℕ, ◌+◌, ◌-◌, ◌<◌, ◌≤◌, true, false, List, [], ◌∷◌, ◌++◌, length, take, drop, refl, sym, ap, ◌∙◌, subst, inl, inr, ◌⊎◌, ⊎_elim, arith, append_assoc, append-nil, encode_utf8_all}
 use Rattle.std.proofs.lemmas.Bool.{cases_eq, cases_lt, cases_Bool, true≢false}
 use Rattle.std.proofs.lemmas.List.{take-append-drop, length-append, length-take-le, length-drop, drop-take}
@@ -17,7 +17,7 @@ use Rattle.yf_lines.specs.Basic.Break.{cr_lf, lone_cr, lone_lf}
 use Rattle.yf_lines.proofs.BasicLemmas.{Before, line_start_view, break_end, break_forward, three_first, no_marker, white_below, white_cases, clear_join, clear_nothing}
 use Rattle.yf_lines.proofs.BasicLemmas.Before.{nothing_before, break_before, mark_before}
 
--- what is after an offset at which a character begins
+-- the text after an offset with a character
 rest_after : {t : List ℕ} {i c j : ℕ} → CharAt t i c j → drop i t ≡ encode c ++ drop j t
 rest_after {t} {i} {c} {j} r =
     let within : i ≤ length t = omega (arith, r.later, r.within) in
@@ -53,7 +53,7 @@ too_short {t} {i} {c} {j} {h} (d ∷ ds) r l m e =
     let z : length (encode d ++ encodes ds) ≡ length (take (h - i) (drop i t)) = ap length e in
     omega (arith, length-append (encode d) (encodes ds), width_of r, ap (λ w. length (encode w)) same.0)
 
--- inside of a character no other one begins
+-- no character begins within another one
 pub no_boundary_inside : {t : List ℕ} {i c j h : ℕ} → IsUtf8 t → CharAt t i c j → i < h → h < j → IsCharBoundary t h → ⊥
 no_boundary_inside {t} {i} {c} {j} {h} u r l m b =
     let part = IsUtf8-between t i h u (omega arith) (reads_boundary r) b in
@@ -78,7 +78,7 @@ marker_char t i m =
 pub not_forbidden : (t : List ℕ) (i : ℕ) → code t i ≢ 45 → code t i ≢ 46 → ForbiddenLine t i → ⊥
 not_forbidden t i d n f = ⊎_elim d n (marker_char t i f.marker)
 
--- a character is covered where no forbidden line begins with it
+-- a character is covered if no forbidden line begins with it
 pub clear_char : {t : List ℕ} {i c j : ℕ} → IsUtf8 t → CharAt t i c j → (ForbiddenLine t i → ⊥) → Clear t i j
 clear_char {t} {i} {c} {j} u r n = record {
   none = λ h l m f. ⊎_elim
@@ -93,7 +93,7 @@ move {t} {j = j} {c = c} b r =
     let same : (j - 1) + 1 ≡ j = omega arith in
     subst (λ k. CharAt t (j - 1) c k) same r
 
--- what is before the start of a line
+-- the text before the start of a line
 pub line_start_after : {t : List ℕ} {j : ℕ} → IsUtf8 t → LineStart t j
     → (j ≡ 0) ⊎ ((k : ℕ) × (d : ℕ) × CharAt t k d j × ((d ≡ 10) ⊎ ((d ≡ 13) ⊎ (d ≡ 0xFEFF))))
 line_start_after {t} {j} u s = go (line_start_view s) where
@@ -126,7 +126,7 @@ line_start_boundary {t} {j} u s =
     (λ (w : (k : ℕ) × (d : ℕ) × CharAt t k d j × ((d ≡ 10) ⊎ ((d ≡ 13) ⊎ (d ≡ 0xFEFF)))). w.2.boundary)
     (line_start_after u s)
 
--- after a character that is no break and no mark, no line begins
+-- no line begins after a character other than a break or a mark
 pub quiet_char : {t : List ℕ} {i c j : ℕ} → IsUtf8 t → CharAt t i c j → c ≢ 10 → c ≢ 13 → c ≢ 0xFEFF → Quiet t i j
 quiet_char {t} {i} {c} {j} u r lf cr mark = record {
   none = λ h l m s. ⊎_elim
@@ -141,14 +141,14 @@ quiet_char {t} {i} {c} {j} u r lf cr mark = record {
       ⊎_elim (λ (e : w.1 ≡ 10). lf (sym same ∙ e)) (λ (f : (w.1 ≡ 13) ⊎ (w.1 ≡ 0xFEFF)).
       ⊎_elim (λ (e : w.1 ≡ 13). cr (sym same ∙ e)) (λ (e : w.1 ≡ 0xFEFF). mark (sym same ∙ e)) f) w.3
 
--- a range within a line is covered where no forbidden line begins with it
+-- a span within a line is covered if no forbidden line begins with it
 pub clear_quiet : {t : List ℕ} {i j : ℕ} → (ForbiddenLine t i → ⊥) → Quiet t i j → Clear t i j
 clear_quiet {t} {i} {j} n q = record {
   none = λ h l m f. ⊎_elim (λ (e : i ≡ h). n (subst (λ k. ForbiddenLine t k) (sym e) f))
       (λ (o : i ≢ h). q.none h (omega arith) (omega arith) f.start) (cases_eq i h);
 }
 
--- white space stay within their line
+-- white space stays within its line
 quiet_white : {t : List ℕ} (i : ℕ) → IsUtf8 t → is_white (code t i) ≡ true → Quiet t i (next t i)
 quiet_white {t} i u e =
     let low = white_below (code t i) e in
@@ -159,7 +159,7 @@ pub quiet_whites : {t : List ℕ} {i j : ℕ} {x : List ℕ} → IsUtf8 t → Ma
 quiet_whites {t} {i} u done = quiet_nothing t i
 quiet_whites {t} u (step (one {i = i} e) c) = quiet_join (quiet_white i u e) (quiet_whites u c)
 
--- the characters of a range are those of x
+-- the characters of a span are x
 pub record Spelled (t : List ℕ) (i j : ℕ) (x : List ℕ) : Type 0 where
   pub order : i ≤ j
   pub bytes : take j t ≡ take i t ++ encode_utf8_all x
@@ -186,7 +186,7 @@ spelled_whites {t} u (step (one {i = i} e) c) =
     let low = white_below (code t i) e in
     spelled_join (spelled_char (reads_real t i u (omega arith))) (spelled_whites u c)
 
--- the bytes of a range are those of its characters
+-- the bytes of a span are those of its characters
 pub spelled_slice : {t : List ℕ} {i j : ℕ} {x : List ℕ} → j ≤ length t → Spelled t i j x → take (j - i) (drop i t) ≡ encode_utf8_all x
 spelled_slice {t} {i} {j} {x} l s =
     let o = s.order in

@@ -1,4 +1,4 @@
--- What a context of YAML 1.2.2 (section 4.2) is: of keys, of flow collections, or of blocks.
+-- Each context of YAML 1.2.2 (section 4.2) is one of keys, of flow collections, or of blocks.
 use Rattle.std.proofs.Common.{◌≡◌, true, false, refl, sym, ◌⊎◌, ⊎_elim}
 use Rattle.std.proofs.lemmas.Bool.{true≢false}
 use Rattle.yf_chars.specs.declared.context.Ctx.{Ctx}

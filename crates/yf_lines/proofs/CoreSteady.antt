@@ -1,4 +1,4 @@
--- Each text that the core schema takes for null, a boolean or a number is steady.
+-- Each null, boolean or number of the core schema is steady.
 use Rattle.std.proofs.Common.{◌≡◌, ◌⊎◌, inl, inr, ℕ, zero, suc, Bool, true, false, true≢false, ne_eqb, arith, List, [], ◌∷◌, ◌++◌, refl, sym, ap, ◌∙◌}
 use Rattle.std.specs.Prelude.{◌&&◌, ◌||◌, ◌==◌, ◌-◌, not, length, slice_index}
 use Rattle.std.specs.List.{list_all, list_any}
@@ -7,15 +7,15 @@ use Rattle.yf_lines.specs.CoreSchema.{Pattern, byte_of, bytes, followed, either,
 use Rattle.yf_lines.specs.Steady.{is_steady, is_only, is_marker_of, has_line_feed, ends_with_colon}
 use Rattle.yf_chars.proofs.Tests.{turned_false}
 
--- a byte that may be anywhere in a steady text: no line feed, colon, space or tab
+-- a byte that may be anywhere in a steady text, because it is not a line feed, colon, space or tab
 abbrev is_calm : ℕ → Bool
 is_calm b = not (b == 10) && (not (b == 58) && (not (b == 32) && not (b == 9)))
 
--- a byte that makes a text none of `-`, `?`, `---` and `...`
+-- a byte that none of `-`, `?`, `---` and `...` has
 abbrev is_other : ℕ → Bool
 is_other b = not (b == 45) && (not (b == 46) && not (b == 63))
 
--- What a pattern's parts say of all bytes of a match, and of one of them.
+-- The parts of a pattern give facts about all bytes of a match, and about one of them.
 
 abbrev AllAre : (ℕ → Bool) → Pattern → Type 0
 AllAre c (byte_of p) = (b : ℕ) → p b ≡ true → c b ≡ true
@@ -69,7 +69,7 @@ one_is c (once_more m n) w = absurd w
 
 -- Classes of the core schema.
 
--- a byte of a class is none that the class leaves out
+-- a byte of a class is not one that the class leaves out
 outside : (p : ℕ → Bool) (k : ℕ) → p k ≡ false → (b : ℕ) → p b ≡ true → (b == k) ≡ false
 outside p k e b f = ne_eqb b k (λ g. true≢false (sym f ∙ (ap p g ∙ e)))
 
@@ -123,7 +123,7 @@ pub both_parts : (p q : Bool) → (p && q) ≡ true → (p ≡ true) × (q ≡ t
 both_parts true q e = (refl, e)
 both_parts false q e = absurd cc
 
--- what a calm byte is not
+-- the bytes that a calm byte is not
 record IsCalm (b : ℕ) : Type 0 where
   feed : (b == 10) ≡ false
   colon : (b == 58) ≡ false
@@ -137,7 +137,7 @@ calm b e =
     let three = both_parts (not (b == 32)) (not (b == 9)) two.1 in
     record { feed = turned_false (b == 10) one.0; colon = turned_false (b == 58) two.0; space = turned_false (b == 32) three.0; tab = turned_false (b == 9) three.1 }
 
--- and what the other byte is not
+-- the bytes that the other byte is not
 record IsOther (b : ℕ) : Type 0 where
   dash : (b == 45) ≡ false
   point : (b == 46) ≡ false
@@ -153,7 +153,7 @@ no_feed : (x : List ℕ) → list_all is_calm x ≡ true → list_any (λ b. b =
 no_feed [] a = refl
 no_feed (b ∷ x) a = let parts = both_parts (is_calm b) (list_all is_calm x) a in rw ((calm b parts.0).feed, no_feed x parts.1) refl
 
--- so is what is beyond the end
+-- past the end, too
 calm_at : (x : List ℕ) (i : ℕ) → list_all is_calm x ≡ true → is_calm (slice_index x i) ≡ true
 calm_at [] i a = refl
 calm_at (b ∷ x) zero a = (both_parts (is_calm b) (list_all is_calm x) a).0
@@ -174,7 +174,7 @@ end_off true true false = refl
 end_off true false r = refl
 end_off false q r = refl
 
--- a text with a byte that is another than k is not k alone
+-- a text with a byte other than k is not just k
 
 module _ (k : ℕ) (differs : (b : ℕ) → is_other b ≡ true → (b == k) ≡ false) where
   not_only : (x : List ℕ) → list_any is_other x ≡ true → is_only k x ≡ false
@@ -186,7 +186,7 @@ module _ (k : ℕ) (differs : (b : ℕ) → is_other b ≡ true → (b == k) ≡
     by false f = absurd (true≢false (sym e ∙ rw f refl))
   not_only (b ∷ c ∷ x) e = rw (ne_eqb (length (b ∷ c ∷ x)) 1 (λ f. omega (arith, f))) refl
 
-  -- nor, if it is calm, three times k and then white or the end
+  -- nor, if it is calm, three times k before white space or the end
   not_marker : (x : List ℕ) → (0 == k) ≡ false → list_all is_calm x ≡ true → list_any is_other x ≡ true → is_marker_of k x ≡ false
   unfolding is_marker_of
   not_marker [] z a e = rw z refl

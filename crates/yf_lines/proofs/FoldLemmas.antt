@@ -57,7 +57,7 @@ whites_of_line : {t : List ℕ} {n : ℤ} {i j : ℕ} → LinePrefix t n FlowIn 
 whites_of_line (in_block e d) = whites_of_indent d
 whites_of_line (in_flow e p) = whites_of_prefix p
 
--- white space ends where another character is
+-- white space ends before another character
 whites_end : {t : List ℕ} {i j k : ℕ} → Whites t i j → is_white (code t j) ≡ false → Whites t i k → is_white (code t k) ≡ false → j ≡ k
 whites_end {t} a e b f = (many_unique t is_white a.1 e b.1 f).0
 
@@ -263,7 +263,7 @@ feeds_more k = rw add-one (go k) where
   go zero = refl
   go (suc k) = ap (λ w. 10 ∷ w) (go k)
 
--- spaces, by how many are there
+-- spaces, by their number
 spaces_front : {t : List ℕ} {i m w : ℕ} → Spaces t i m → w ≤ m → Spaces t i w
 spaces_front s l = record { each = λ k h. s.each k (omega arith) }
 
@@ -343,7 +343,7 @@ empty_short {t} {i} {j} {e} {k} {w} s o l d b =
     let b' : Break t (i + (j - i)) k = subst (λ h. Break t h k) (d ∙ sym q) b in
     shorter (fewer (j - i) (less_pos l) s) b'
 
--- a fold covers white space and breaks alone
+-- a fold covers only white space and breaks
 clear_empties : {t : List ℕ} {n : ℤ} {i j : ℕ} {x : List ℕ} → IsUtf8 t → Chain (Empty t n FlowIn) i j x → Clear t i j
 clear_empties {t} {i = i} u done = clear_nothing t i
 clear_empties u (step e c) =
@@ -356,7 +356,7 @@ clear_fold u f =
     clear_join (clear_join (clear_join (clear_whites u p.whites.1) (clear_break p.ends)) (clear_empties u p.lines.empties))
     (clear_whites u (whites_of_prefix p.lines.content.prefix).1)
 
--- the line to which a fold leads, and the white space at its start
+-- the line after a fold, and the white space at its start
 last_break : {t : List ℕ} {n : ℤ} {i j : ℕ} {x : List ℕ} → (g : ℕ) × Break t g i → Chain (Empty t n FlowIn) i j x → (h : ℕ) × Break t h j
 last_break b done = b
 last_break b (step e c) = let p = empty_parts e in last_break (p.at, p.ends) c
@@ -375,12 +375,12 @@ fold_line f =
     let w = whites_of_prefix p.lines.content.prefix in
     record { line = p.lines.line; from = b.0; ends = b.1; blank = w.0; whites = w.1 }
 
--- where white space lead to a character that begins no break, there is no fold
+-- there is no fold if a character other than a break follows the white space
 pub fold_not_item : {t : List ℕ} {n : ℤ} {i h j : ℕ} {w x : List ℕ} → Many t is_white i h w → Nowhere (Break t h) → is_white (code t h) ≡ false
     → FoldsTo t n i j x → ⊥
 fold_not_item {t} {i = i} {h = h} {w = w} m b e f = (no_fold_break (w, m) e b).none _ _ f
 
--- a fold moves on, wherever it ends
+-- a fold ends after its start
 pub fold_order : {t : List ℕ} {n : ℤ} {i j : ℕ} {x : List ℕ} → FlowFolded t n i j x → i ≤ j
 fold_order {t} {n} (at_break {h = h} d p) =
     let parts = folded_parts d in
@@ -394,6 +394,6 @@ fold_order {t} {n} (past_whites s d p) =
     let g = chain_forward (empty_functional t n) parts.empties in
     let l = chain_forward (one_functional t is_white) (whites_of_prefix p).1 in omega arith
 
--- the lines after a break cover white space and breaks alone
+-- the lines after a break cover only white space and breaks
 pub clear_lines : {t : List ℕ} {n : ℤ} {i j : ℕ} {x : List ℕ} → IsUtf8 t → FoldLines t n i j x → Clear t i j
 clear_lines u l = clear_join (clear_empties u l.empties) (clear_whites u (whites_of_prefix l.content.prefix).1)

@@ -1,6 +1,7 @@
 -- The lemmas, each group under the function or the theorem that it serves.
 
--- breaks, white space, starts of lines and document markers: `line_break`, `skip_whites`, `is_line_start`, `marker_is_at`
+-- breaks, white space, starts of lines and document markers: `line_break`, `skip_whites`, `is_line_start`,
+-- `is_marker_at`
 pub mod BasicLemmas
 pub mod ClearLemmas
 -- contexts
@@ -8,7 +9,7 @@ pub mod ContextFacts
 -- `fold_lines` and `flow_folded`
 pub mod FoldBytes
 pub mod FoldLemmas
--- the table of lines and places: `LineTable::build`, `line`, `is_forbidden`, `place`
+-- the table of lines and positions: `LineTable::build`, `line`, `is_forbidden`, `place`
 pub mod LineLemmas
 pub mod TableLemmas
 pub mod RowLemmas
@@ -16,7 +17,7 @@ pub mod MarkLemmas
 pub mod PlaceLemmas
 -- `write_text` and `write_texts`
 pub mod OutputLemmas
--- what is written is read again (the laws of layouts of yf_laws)
+-- written text is derived again (the laws of layouts of yf_laws)
 pub mod RestLemmas
 pub mod CoreSteady
 pub mod VisibleLines

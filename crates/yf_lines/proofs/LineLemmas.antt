@@ -1,4 +1,4 @@
--- Laws of lines: each is the only one that begins where it does, and the lines of a text are one list.
+-- Laws of lines: only one line begins at an offset, and the lines of a text are one list.
 use Rattle.std.proofs.Common.{◌≡◌, ◌≢◌, ℕ, ◌+◌, ◌-◌, ◌<◌, ◌≤◌, true, false, List, [], ◌∷◌, length, refl, sym, ap, ◌∙◌, subst, inl, inr, ◌⊎◌, ⊎_elim, arith, true≢false, eqb}
 use Rattle.std.proofs.lemmas.Bool.{cases_lt, cases_eq, ne_eqb, eqb-true}
 use Rattle.std.proofs.lemmas.Str.{IsCharBoundary-end, IsCharBoundary-before_ascii}
@@ -44,7 +44,7 @@ break_boundary {t = t} {i = i} u (cr_lf a b) =
 break_boundary {t = t} {i = i} u (lone_cr a b) = (reads_byte t i 13 u a (omega arith)).boundary
 break_boundary {t = t} {i = i} u (lone_lf a b) = (reads_byte t i 10 u a (omega arith)).boundary
 
--- where a line's text ends
+-- the end of a line's text
 pub end_within : {t : List ℕ} {h j : ℕ} → LineEnd t h j → (h ≤ j) × (j ≤ length t)
 end_within (at_break b) = let f = break_forward b in let w = break_within b in (omega arith, w)
 end_within (at_end e) = (omega arith, omega arith)
@@ -134,7 +134,7 @@ lines_stuck t = record { none = λ j x s. no_line_at_end refl (line_made s) }
 pub lines_unique : (t : List ℕ) (ls ms : List Line) → AreLines t ls → AreLines t ms → ls ≡ ms
 lines_unique t ls ms a b = sym ((chain_chosen (line_functional t) a (lines_stuck t)).only ms b)
 
--- how a line is read
+-- the steps of reading a line
 pub breaks_only_cr : (c : ℕ) → c ≢ 10 → is_break_char c ≡ eqb c 13
 unfolding is_break_char
 breaks_only_cr c n = rw (ne_eqb c 10 n)
@@ -175,7 +175,7 @@ no_cr_before t i h a n e p =
     (λ (q : h ≢ i). let o = n.order in true≢false (sym (cr_breaks t (h - 1) p) ∙ n.none (h - 1) (omega arith) (omega arith)))
     (cases_eq h i)
 
--- where no break begins at the first character of one, the text ends
+-- if no break begins at the first character of one, the text ends there
 pub end_from_stop : (t : List ℕ) (i h : ℕ) → Apart t i → NoBreakIn t i h → (is_break_char (code t h) ≡ true) ⊎ (h ≡ length t)
     → Nowhere (Break t h) → h ≡ length t
 end_from_stop t i h a n stop none =
@@ -186,7 +186,7 @@ end_from_stop t i h a n stop none =
     (break_char_cases (code t h) b))
     (λ (e : h ≡ length t). e) stop
 
--- no line begins inside of a CR LF
+-- no line begins within a CR LF
 pub apart_at_start : (t : List ℕ) → Apart t 0
 apart_at_start t = record { no_cr = λ e c. absurd (omega arith) }
 
@@ -199,7 +199,7 @@ apart_after_break {t} {i} {j} b = record {
 pub apart_at_end : (t : List ℕ) (j : ℕ) → j ≡ length t → Apart t j
 apart_at_end t j e = record { no_cr = λ l c. let n : code t j ≡ no_char = code-past t j (omega arith) in absurd (omega arith) }
 
--- the line that is read: its spaces end at h, its text at m
+-- the line from its parts: its spaces end at h, its text at m
 module _ (t : List ℕ) (i h m : ℕ) (inside : i < length t) (order : i ≤ h) (spaces : Spaces t i (h - i)) (no_space : code t h ≢ 32) (rest : NoBreakIn t h m) where
   pub whole_line : NoBreakIn t i m
   whole_line = unbroken_spaces t i h m order spaces rest
@@ -224,7 +224,7 @@ module _ (t : List ℕ) (i h m : ℕ) (inside : i < length t) (order : i ≤ h) 
         indented = indented_to t i h order spaces no_space;
       })
 
--- where the text may be cut
+-- the boundaries of a line
 boundary_at_low : (t : List ℕ) (i : ℕ) → IsUtf8 t → code t i < 128 → IsCharBoundary t i
 boundary_at_low t i u l =
     let b = byte_from_code t i u l in

@@ -39,7 +39,7 @@ marks_unique t i j k a b = (many_unique t is_mark a.run a.stops b.run b.stops).0
 pub marks_order : (t : List ℕ) (i j : ℕ) → Marks t i j → i ≤ j
 marks_order t i j a = chain_forward (one_functional t is_mark) a.run
 
--- a boundary is not inside of a mark
+-- a boundary is not within a mark
 pub not_in_mark : (t : List ℕ) (i e : ℕ) → IsUtf8 t → code t i ≡ 0xFEFF → IsCharBoundary t e → i < e → e < i + 3 → ⊥
 not_in_mark t i e u m b l s =
     let bytes = bytes_from_mark t i u m in
@@ -53,7 +53,7 @@ not_in_mark t i e u m b l s =
     let h : 192 ≤ get_or t e 0 = b.1 (omega (arith, bytes.0)) (omega arith) in absurd (omega arith))
     (cases_eq e (i + 1))
 
--- the start of a line lies after each of its marks
+-- an offset after a mark of a line's start is the start of a line too
 one_mark_start : {t : List ℕ} {i j : ℕ} {x : List ℕ} → LineStart t i → One t is_mark i j x → LineStart t j
 one_mark_start {t} {i} s (one e) = after_mark s (mark_code t i e)
 
@@ -61,7 +61,7 @@ pub start_after_marks : {t : List ℕ} {i j : ℕ} {x : List ℕ} → LineStart 
 start_after_marks s done = s
 start_after_marks s (step m c) = start_after_marks (one_mark_start s m) c
 
--- marks do not go past a place at which no mark is
+-- marks do not go past an offset without a mark
 one_mark_stops : {t : List ℕ} {i j : ℕ} {x : List ℕ} (e : ℕ) → IsUtf8 t → IsCharBoundary t e → code t e ≢ 0xFEFF → i ≤ e → One t is_mark i j x → j ≤ e
 one_mark_stops {t} {i} e u b n l (one m) =
     let c : code t i ≡ 0xFEFF = mark_code t i m in
@@ -74,12 +74,12 @@ pub marks_stop : {t : List ℕ} {i j : ℕ} {x : List ℕ} (e : ℕ) → IsUtf8 
 marks_stop e u b n l done = l
 marks_stop e u b n l (step m c) = marks_stop e u b n (one_mark_stops e u b n l m) c
 
--- the character at which a line's text ends is no mark
+-- the character after a line's text is not a mark
 pub end_no_mark : {t : List ℕ} {h j : ℕ} → LineEnd t h j → code t h ≢ 0xFEFF
 end_no_mark {t} {h} (at_break b) e = ⊎_elim (λ (q : code t h ≡ 13). omega arith) (λ (q : code t h ≡ 10). omega arith) (break_char b)
 end_no_mark {t} {h} (at_end q) e = let p : code t h ≡ no_char = code-past t h (omega arith) in absurd (omega arith)
 
--- no break ends inside of a line, after its start
+-- no break ends within a line, after its start
 inside_cr_lf : (t : List ℕ) (e h : ℕ) → code t e ≡ 13 → code t (e + 1) ≡ 10 → h ≡ e + 1
     → (code t (h - 1) ≡ 10) ⊎ ((code t (h - 1) ≡ 13) × (code t h ≢ 10)) → ⊥
 inside_cr_lf t e h a b q (inl c) =
@@ -102,7 +102,7 @@ pub ends_by_break : (t : List ℕ) (h : ℕ) → (code t (h - 1) ≡ 10) ⊎ ((c
 ends_by_break t h (inl e) = lf_breaks t (h - 1) e
 ends_by_break t h (inr e) = cr_breaks t (h - 1) e.0
 
--- in a line a break ends nowhere but at its start
+-- within a line, a break ends only at its start
 pub break_at_start : {t : List ℕ} {i h : ℕ} (l : Line) → IsLine t l → Break t i h → l.start ≤ h → h < l.next → l.start ≡ h
 break_at_start {t} {i} {h} l m b o s =
     ⊎_elim (λ (q : l.start ≡ h). q)
@@ -114,7 +114,7 @@ break_at_start {t} {i} {h} l m b o s =
     (cases_lt (h - 1) l.end))
     (cases_eq l.start h)
 
--- a start of a line in a line is after marks of its start
+-- the start of a line within a line is after marks of its start
 pub start_in_line : {t : List ℕ} {h : ℕ} (l : Line) → IsUtf8 t → IsLine t l → IsCutAt t l → LineStart t h → l.start ≤ h → h < l.next
     → (x : List ℕ) × Many t is_mark l.start h x
 start_in_line {t} l u m c at_text o s = let z : l.start ≡ 0 = omega arith in ([], subst (λ k. Many t is_mark k 0 []) (sym z) done)
@@ -150,7 +150,7 @@ marker_not_at_end {t} {h} (at_end q) e =
     let p : code t h ≡ no_char = code-past t h (omega arith) in
     ⊎_elim (λ (c : code t h ≡ 45). omega arith) (λ (c : code t h ≡ 46). omega arith) (marker_char t h e)
 
--- a forbidden line begins in a line just where its marks end before a document marker
+-- a forbidden line begins within a line if and only if the line's marks end before a document marker
 pub forbidden_within : (t : List ℕ) (l : Line) → IsUtf8 t → IsLine t l → IsCutAt t l → LineStart t l.start → IsForbiddenLine t l.start
     → (h : ℕ) × (l.start ≤ h) × (h < l.next) × ForbiddenLine t h
 forbidden_within t l u m c s f =
@@ -176,7 +176,7 @@ pub match_forbidden : (t : List ℕ) (l : Line) (b : Bool) → IsUtf8 t → IsLi
 match_forbidden t l true u m c s f = forbidden_within t l u m c s f
 match_forbidden t l false u m c s f = record { none = λ h o e g. f (forbidden_from t l h u m c o e g) }
 
--- what a test at the end of the marks tells
+-- the result of a test at the end of the marks
 pub match_marker : (t : List ℕ) (i j : ℕ) (b : Bool) → Marks t i j → b ≡ is_marker t j → MatchBool b (IsForbiddenLine t i) (IsForbiddenLine t i → ⊥)
 match_marker t i j true a e = record { at = j; follows = a; marker = sym e }
 match_marker t i j false a e = λ f. true≢false (sym f.marker ∙ ap (is_marker t) (marks_unique t i f.at j f.follows a) ∙ sym e)

@@ -44,7 +44,7 @@ progress_broke old mid new before between after text rest p kept failed = record
   appended = Appends-kept old mid new p.written p.appended kept;
 }
 
--- a write that takes nothing keeps what was there
+-- a write that takes nothing changes nothing
 pub Keeps-nothing : (old new : Option (List ℕ)) → Appends old new [] → Keeps old new
 Keeps-nothing None new p = tt
 Keeps-nothing (Some x) None p = absurd p
@@ -52,7 +52,7 @@ Keeps-nothing (Some x) (Some y) p = p ∙ append-nil x
 
 -- ---- texts that are written one after another
 
--- the texts that are left are the next one and the ones after it
+-- the remaining texts are the next one and those after it
 pub next_part : (old new : Option (List ℕ)) (before after : Bool) (text first : List ℕ) (parts : List (Bor (List ℕ))) (i : ℕ) (d : Bor (List ℕ))
     → i < length parts → first ≡ (get_or parts i d).now
     → Progress old new before after text (texts (drop i parts)) → Progress old new before after text (first ++ texts (drop (i + 1) parts))
@@ -80,7 +80,7 @@ progress_part_broke old mid new before between after text first rest p q = recor
   appended = Appends-trans old mid new p.written q.front p.appended q.appended;
 }
 
--- a refusal that is handed on
+-- a refusal that is passed on
 pub writes_refused : (old new : Option (List ℕ)) (before after : Bool) (text : List ℕ) (fault : Fault) (outcome : Result Unit Fault)
     → IsErrAnd outcome (λ e. e ≡ fault) → fault ≡ WriteFailed → Broke old new after text → TextWritten old new before after text outcome
 writes_refused old new before after text fault (Ok done) gives same p = absurd gives

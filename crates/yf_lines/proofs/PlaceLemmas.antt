@@ -1,4 +1,4 @@
--- Laws of places: how line and column are found, and that an offset has one place.
+-- Laws of positions: finding a line and a column, and the unique position of an offset.
 use Rattle.std.proofs.Common.{◌≡◌, ◌≢◌, ℕ, ◌+◌, ◌-◌, ◌<◌, ◌≤◌, true, List, [], ◌∷◌, ◌++◌, length, get_or, take, drop, Some, refl, sym, ap, ◌∙◌, subst, ⊎_elim, arith, true≢false, append_assoc, append-nil, length-append, length-drop, take-append-drop}
 use Rattle.std.proofs.lemmas.Bool.{cases_lt, cases_eq, lt-ltb}
 use Rattle.std.proofs.lemmas.List.{length-take-le}
@@ -27,7 +27,7 @@ use Rattle.yf_lines.proofs.LineLemmas.{end_within, lines_unique}
 use Rattle.yf_lines.proofs.MarkLemmas.{marks_unique, ends_by_break}
 use Rattle.yf_lines.proofs.TableLemmas.{Follow, follow, line_at, line_before}
 
--- no character begins inside of another
+-- no character begins within another one
 first_part : (c n : ℕ) (rest cs : List ℕ) (xs : List ℕ) → xs ≡ encode c ++ rest → encodes cs ≡ take n xs → 0 < n → n ≤ length xs → length (encode c) ≤ n
 first_part c n rest [] xs e u z l = let q : 0 ≡ length (take n xs) = ap length u in absurd (omega (arith, length-take-le n xs l))
 first_part c n rest (d ∷ ds) xs e u z l =
@@ -60,7 +60,7 @@ place_in_empty t ls offset a w b = go ls a (follow a) b where
   go [] a f b = after_lines a (omega (arith, f)) (of_empty (sym f))
   go (l ∷ ls) a f b = let s = b.follows 0 l refl (omega arith) in absurd (omega (arith, f.0))
 
--- the last line that has begun holds the offset, or no line does
+-- the last line that has begun holds the offset, or no line holds it
 module _ (t : List ℕ) (ls : List Line) (offset k : ℕ) (l : Line) (a : AreLines t ls) (there : slice_get ls k ≡ Some l) (b : LinesBegunAt ls offset (k + 1)) (w : offset ≤ length t) where
   next_after : k + 1 < length ls → offset < l.next
   next_after s =
@@ -104,7 +104,7 @@ module _ (t : List ℕ) (ls : List Line) (offset k : ℕ) (l : Line) (a : AreLin
       let new : NewLine t = of_break (subst (λ j. Break t l.end j) e (break_of_end r.made.ends d)) in
       subst (λ m. PlaceOf t offset (m + 1) 1) n (after_lines a (q ∙ e) new)
 
--- an offset has one place
+-- the position of an offset is unique
 chain_nothing : {A : Type 0} {S : ℕ → ℕ → List A → Type 0} {i j : ℕ} {z : List A} → Functional S → Chain S i j z → i ≡ j → z ≡ []
 chain_nothing f done e = refl
 chain_nothing f (step s c) e = let a = f.forward s in let b = chain_forward f c in absurd (omega arith)

@@ -1,4 +1,4 @@
--- What is written is in a text: the characters at a place, from the bytes that are from there on.
+-- Written text within a text: the characters at an offset, from the bytes from there on.
 use Rattle.std.proofs.Common.{◌≡◌, ◌≢◌, ℕ, zero, suc, ◌+◌, ◌-◌, ◌<◌, Bool, true, false, true≢false, eqb, List, [], ◌∷◌, ◌++◌, length, take, drop, slice_range, replicate, refl, sym, ap, ◌∙◌, subst, arith, ⊎_elim, ◌⊎◌, inl, inr, append_assoc, length-append, length-drop, add-zero}
 use Rattle.std.proofs.Math.Seq.{take-append_seam}
 use Rattle.std.proofs.lemmas.Str as S
@@ -74,7 +74,7 @@ rest_spaces {t} (suc k) q {r} u s =
 pub nb_not : (d c : ℕ) → is_nb_char d ≡ false → is_nb_char c ≡ true → c ≢ d
 nb_not d c n e q = true≢false (sym e ∙ ap is_nb_char q ∙ n)
 
--- characters of which none begins a line: what is after them, and that no line begins in them
+-- characters that begin no line: the text after them, and no line begins within them
 pub is_at_chars : {t : List ℕ} (cs : List ℕ) {q : ℕ} {r : List ℕ} → IsUtf8 t → IsAt t q (encodes cs ++ r) → IsAt t (q + length (encodes cs)) r
 is_at_chars {t} [] {q} {r} u s = subst (λ w. IsAt t w r) (sym (add-zero q)) s
 is_at_chars {t} (c ∷ cs) {q} {r} u s =
@@ -90,13 +90,13 @@ chars_quiet {t} (c ∷ cs) r {q} u a s =
     let quiet : Quiet t q (q + len_utf8 c) = quiet_char u got.0 (nb_not 10 c feed_no_nb a.0) (nb_not 13 c return_no_nb a.0) (nb_not 0xFEFF c mark_no_nb a.0) in
     subst (λ w. Quiet t q w) there (quiet_join quiet (chars_quiet cs r u a.1 got.1))
 
--- what is between two offsets
+-- the text between two offsets
 pub slice_back : {t : List ℕ} (w r : List ℕ) {q : ℕ} → IsAt t q (w ++ r) → slice_range t q (q + length w) ≡ w
 slice_back {t} w r {q} s =
     let long : q + length w - q ≡ length w = omega arith in
     ap (λ k. take k (drop q t)) long ∙ ap (take (length w)) s.bytes ∙ take-append_seam w r
 
--- a text within a line: its characters, and what is after it; no line begins in it
+-- a text within a line: its characters, and the text after it; no line begins within it
 pub record TextAt (t : List ℕ) (q j : ℕ) (r : List ℕ) : Type 0 where
   pub meaning : List ℕ
   pub chars : Many t is_nb_char q j meaning
@@ -137,7 +137,7 @@ rest_text {t} w {q} {r} u text s =
     let e : encodes text.chars ≡ w = text.bytes in
     subst (λ v. TextAt t q (q + length v) r) e (chars_at text.chars q u text.each (subst (λ v. Rest t q (v ++ r)) (sym e) s))
 
--- it is covered where no forbidden line begins with it
+-- the text is covered if no forbidden line begins with it
 pub text_clear : {t : List ℕ} {q j : ℕ} {r : List ℕ} → TextAt t q j r → (ForbiddenLine t q → ⊥) → Clear t q j
 text_clear at n = clear_quiet n at.quiet
 
@@ -187,7 +187,7 @@ rest_break {t} {q} {r} u s =
         s.clean (ap (before t) (sym same) ∙ read.back))
         (zero_or q)
 
--- what follows a written text, as a character
+-- the character after a written text
 follows_nothing : {t : List ℕ} {q : ℕ} → IsAt t q [] → code t q ≡ no_char
 follows_nothing {t} {q} s =
     let long : length (drop q t) ≡ 0 = ap length s.bytes in
@@ -204,7 +204,7 @@ unfolding is_after_text
 follows_text nothing_follows = nothing_follows
 follows_text (byte_follows {c = c} l e) = byte_follows l (or_right (eqb c 58) (is_after_name c) e)
 
--- such a character is none of a name, and begins no document marker
+-- such a character is not part of a name, and begins no document marker
 pub after_text_cases : (c : ℕ) → is_after_text c ≡ true → (c ≡ 58) ⊎ (is_after_name c ≡ true)
 unfolding is_after_text
 after_text_cases c e = ⊎_elim (λ (h : eqb c 58 ≡ true). inl (eqb-true c 58 h)) (λ (h : is_after_name c ≡ true). inr h) (or_cases (eqb c 58) (is_after_name c) e)

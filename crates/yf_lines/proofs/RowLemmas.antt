@@ -1,4 +1,4 @@
--- Laws of rows: the lines that they stand for.
+-- Laws of packed lines: the lines that they give.
 use Rattle.std.proofs.Common.{◌≡◌, ◌≢◌, ℕ, zero, suc, ◌+◌, ◌-◌, ◌<◌, ◌≤◌, true, false, List, [], ◌∷◌, ◌++◌, length, get_or, Some, refl, sym, ap, ◌∙◌, subst, ⊎_elim, arith, true≢false, leb}
 use Rattle.std.proofs.lemmas.Bool.{cases_lt, cases_eq, ne_eqb, leb-true, le-leb}
 use Rattle.std.proofs.lemmas.Option.{slice_get_within, get_or_from_slice_get, same_Some}
@@ -40,7 +40,7 @@ width_none t b i f =
     (λ (m : code t i ≢ 13). width_other b (code t i) n m) (cases_eq (code t i) 13))
     (cases_eq (code t i) 10)
 
--- where a line ends
+-- the end of a line
 pub end_by : (t : List ℕ) (n w h : ℕ) → break_width (code t (n - 2)) (code t (n - 1)) ≡ w → n - w ≡ h → end_before t n ≡ h
 end_by t n w h e q = ap (λ k. n - k) e ∙ q
 
@@ -65,7 +65,7 @@ end_found o n (at_break b) = break_found b
 end_found {t} {s} {h} o n (at_end e) =
     end_by t h 0 h (width_none t (code t (h - 2)) (h - 1) (n.none (h - 1) (omega arith) (omega arith))) (omega arith)
 
--- the row of a line stands for it
+-- a packed line gives its line
 line_kept : (t : List ℕ) (l : Line) (r : PackedLine) → IsLine t l → r.start ≡ l.start → r.indent ≡ l.indent → l ≡ line_of t r l.next
 line_kept t l r m s d =
     same_fields l (line_of t r l.next) (sym s) (sym (end_found m.order m.unbroken m.ends)) refl (sym d)
@@ -75,7 +75,7 @@ rows_more t [] r n = refl
 rows_more t (q ∷ []) r n = refl
 rows_more t (q ∷ p ∷ rs) r n = ap (λ w. line_of t q p.start ∷ w) (rows_more t (p ∷ rs) r n)
 
--- one more row is one more line
+-- one more packed line is one more line
 pub lines_more : (t : List ℕ) (at : ℕ) (rows after : List PackedLine) (r : PackedLine) (l : Line) → after ≡ rows ++ r ∷ []
     → Chain (OneLine t) 0 at (lines_of t at rows) → OneLine t at l.next (l ∷ []) → r.start ≡ l.start → r.indent ≡ l.indent
     → Chain (OneLine t) 0 l.next (lines_of t l.next after)
@@ -98,7 +98,7 @@ pub no_rows : (t : List ℕ) (e : ℕ) (rs : List PackedLine) → lines_of t e r
 no_rows t e [] q = refl
 no_rows t e (r ∷ rs) q = absurd (omega (arith, ap length q))
 
--- where the next line begins
+-- the start of the next line
 pub next_within : (rs : List PackedLine) (k m e : ℕ) (d : PackedLine) → m ≡ k + 1 → m < length rs → next_start rs k e ≡ (get_or rs m d).start
 next_within [] k m e d q l = absurd (omega arith)
 next_within (r ∷ rs) k zero e d q l = absurd (omega (arith, q))
@@ -120,13 +120,13 @@ got_line t e [] k r is = absurd (no_item k r is)
 got_line t e (q ∷ rs) zero r is = ap (λ w. Some (line_of t w (first_start rs e))) (same_Some _ _ is)
 got_line t e (q ∷ rs) (suc k) r is = got_line t e rs k r is
 
--- the line whose next line begins at n, and which ends at h
+-- the line that ends at h; the next line begins at n
 pub line_by_end : (t : List ℕ) (r : PackedLine) (k n h : ℕ) → k ≡ n → h ≡ end_before t n
     → line_of t r k ≡ record { start = r.start; end = h; next = n; indent = r.indent }
 line_by_end t r k n h e q =
     same_fields (line_of t r k) (record { start = r.start; end = h; next = n; indent = r.indent }) refl (ap (end_before t) e ∙ sym q) e refl
 
--- the row of a line
+-- the packed line of a line
 pub record RowAt (rs : List PackedLine) (k : ℕ) (l : Line) : Type 0 where
   pub row : PackedLine
   pub is : slice_get rs k ≡ Some row
@@ -145,13 +145,13 @@ begun_lines t e rs offset k b = record {
   follows = λ m l is w. let r = row_at t e rs m l is in let o = b.follows m r.row r.is w in omega (arith, r.start);
 }
 
--- the same of a table's rows, where the slice ss is they
+-- the packed lines of a table, if the slice ss is equal to them
 pub begun_table : (v : Table) (t : List ℕ) (rs ss : List PackedLine) (offset k : ℕ) → ss ≡ rs → record { text = t; lines = lines_of t (length t) rs } ≡ v
     → RowsBegun ss offset k → LinesBegunAt v.lines offset k
 begun_table v t rs ss offset k s e b =
     subst (λ w. LinesBegunAt w offset k) (ap (λ w. w.lines) e) (begun_lines t (length t) rs offset k (subst (λ w. RowsBegun w offset k) s b))
 
--- the starts of the rows ascend
+-- the starts of the packed lines ascend
 start_at : (t : List ℕ) (e : ℕ) (rs : List PackedLine) (k : ℕ) (d : PackedLine) → (get_or (lines_of t e rs) k (line_of t d 0)).start ≡ (get_or rs k d).start
 start_at t e [] k d = refl
 start_at t e (r ∷ rs) zero d = refl
@@ -162,7 +162,7 @@ rows_ascend t e rs a k m d o w =
     let s = starts_ascend t (lines_of t e rs) a k m (line_of t d 0) o (omega (arith, w, length_lines t e rs)) in
     omega (arith, s, start_at t e rs k d, start_at t e rs m d)
 
--- what a search by halves finds
+-- the result of a binary search
 pub rows_from_point : (rs : List PackedLine) (offset k : ℕ) → IsPartitionPoint (λ (r : PackedLine). leb r.start offset ≡ true) (λ (r : PackedLine). leb r.start offset ≡ false) rs k
     → RowsBegun rs offset k
 rows_from_point rs offset k p = record {

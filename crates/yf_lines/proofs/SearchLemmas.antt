@@ -1,4 +1,4 @@
--- What bytes tell of the ends and starts of lines.
+-- The ends and starts of lines, from bytes.
 use Rattle.std.proofs.Common.{◌≡◌, ◌≢◌, ℕ, ◌+◌, ◌-◌, ◌<◌, ◌≤◌, true, false, ◌⊎◌, ⊎_elim, List, length, drop, take, get_or, sym, ap, ◌∙◌, subst, arith}
 use Rattle.std.proofs.lemmas.Bool.{cases_Bool}
 use Rattle.std.proofs.lemmas.Bool.Decides.{nat_tests}
@@ -48,7 +48,7 @@ unbroken_from t at k u l none = record {
 pub rest_taken : (b t : List ℕ) (at : ℕ) → b ≡ t → take (length b - at) (drop at b) ≡ drop at t
 rest_taken b t at e = let l = length-drop at b in take_all (length b - at) (drop at b) (omega arith) ∙ ap (drop at) e
 
--- after an ASCII character that is no control no line starts
+-- no line starts after an ASCII character that is not a control
 pub no_mark_after : (t : List ℕ) (j : ℕ) → IsUtf8 t → get_or t (j - 1) 0 < 128 → 3 ≤ j → code t (j - 3) ≢ 0xFEFF
 no_mark_after t j u b l e =
     let same : j - 3 + 2 ≡ j - 1 = omega arith in

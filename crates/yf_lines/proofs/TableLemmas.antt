@@ -1,4 +1,4 @@
--- Laws of the list of a text's lines: the line at an index, and how the lines lie.
+-- Laws of the list of a text's lines: the line at an index, and the order of the lines.
 use Rattle.std.proofs.Common.{◌≡◌, ℕ, zero, suc, ◌+◌, ◌<◌, ◌≤◌, List, [], ◌∷◌, ◌++◌, length, Some, refl, sym, ap, subst, inl, inr, ◌⊎◌, ⊎_elim, arith, get_or}
 use Rattle.std.proofs.lemmas.Bool.{cases_lt}
 use Rattle.std.proofs.lemmas.Option.{same_Some, slice_get-get_or}
@@ -67,7 +67,7 @@ line_at t (m ∷ ls) i j (suc k) l f e =
       last = λ h. r.last (omega arith);
     }
 
--- an earlier line ends before a later one begins, and right there where they are neighbours
+-- an earlier line ends before a later one begins, or at its start if the two are neighbours
 pub line_before : (t : List ℕ) (ls : List Line) (i j k m : ℕ) (a b : Line) → Follow t i j ls → slice_get ls k ≡ Some a → slice_get ls m ≡ Some b
     → k < m → (a.next ≤ b.start) × (k + 1 ≡ m → a.next ≡ b.start)
 line_before t [] i j k m a b f e g l = absurd (no_item k a e)
@@ -93,7 +93,7 @@ starts_ascend t ls a k m d o w =
     (λ (l : m ≤ k). let q : k ≡ m = omega arith in omega (arith, ap (λ w. (get_or ls w d).start) q))
     (cases_lt k m)
 
--- the text may be cut at its lines
+-- the offsets of lines are boundaries
 follow_cut : (t : List ℕ) (ls : List Line) (i j k : ℕ) (l : Line) → IsUtf8 t → IsCharBoundary t i → Follow t i j ls → slice_get ls k ≡ Some l → IsCutAt t l
 follow_cut t [] i j k l u b f e = absurd (no_item k l e)
 follow_cut t (m ∷ ls) i j zero l u b f e =
@@ -125,7 +125,7 @@ follow_start t (m ∷ ls) i j (suc k) l s f e = follow_start t ls m.next j k l (
 pub table_start : (t : List ℕ) (ls : List Line) (k : ℕ) (l : Line) → AreLines t ls → slice_get ls k ≡ Some l → LineStart t l.start
 table_start t ls k l a e = follow_start t ls 0 (length t) k l (inl at_text) (follow a) e
 
--- the line that an offset before the end of the text is in
+-- the line that holds an offset before the end of the text
 pub record LineOf (ls : List Line) (e : ℕ) : Type 0 where
   pub index : ℕ
   pub line : Line

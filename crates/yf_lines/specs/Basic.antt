@@ -33,13 +33,13 @@ is_key FlowIn = false
 is_key BlockKey = true
 is_key FlowKey = true
 
--- b-break: a CR before a LF and that LF are one break, and neither is a break alone
+-- b-break: a CR before a LF and that LF are one break, and neither is one by itself
 pub data Break (t : List ℕ) : ℕ → ℕ → Type 0 where
   cr_lf : {i : ℕ} → code t i ≡ CARRIAGE_RETURN → code t (i + 1) ≡ LINE_FEED → Break t i (i + 2)
   lone_cr : {i : ℕ} → code t i ≡ CARRIAGE_RETURN → code t (i + 1) ≢ LINE_FEED → Break t i (i + 1)
   lone_lf : {i : ℕ} → code t i ≡ LINE_FEED → code t (i - 1) ≢ CARRIAGE_RETURN → Break t i (i + 1)
 
--- the start of a line: of the text, after a break, and after each byte order mark that is there
+-- the start of a line: of the text, after a break, and after each byte order mark at such a start
 pub data LineStart (t : List ℕ) : ℕ → Type 0 where
   at_text : LineStart t 0
   after_break : {i j : ℕ} → Break t i j → LineStart t j
@@ -49,7 +49,7 @@ pub data LineStart (t : List ℕ) : ℕ → Type 0 where
 pub record Spaces (t : List ℕ) (i k : ℕ) : Type 0 where
   pub each : (m : ℕ) → m < k → code t (i + m) ≡ SPACE
 
--- s-indent(n): n spaces, and nothing where n is negative
+-- s-indent(n): n spaces; nothing is derived if n is negative
 pub data Indent (t : List ℕ) (n : ℤ) : ℕ → ℕ → Type 0 where
   exactly : {i : ℕ} (k : ℕ) → n ≡ pos k → Spaces t i k → Indent t n i (i + k)
 
@@ -57,7 +57,7 @@ pub data Indent (t : List ℕ) (n : ℤ) : ℕ → ℕ → Type 0 where
 pub data IndentLess (t : List ℕ) (n : ℤ) : ℕ → ℕ → Type 0 where
   fewer : {i : ℕ} (k : ℕ) → pos k <ℤ n → Spaces t i k → IndentLess t n i (i + k)
 
--- s-separate-in-line: one white or more, or nothing at the start of a line
+-- s-separate-in-line: some white space, or nothing at the start of a line
 pub data SeparateInLine (t : List ℕ) : ℕ → ℕ → Type 0 where
   by_whites : {i j : ℕ} {x : List ℕ} → Many t is_white i j x → i < j → SeparateInLine t i j
   at_start : {i : ℕ} → LineStart t i → SeparateInLine t i i
@@ -77,12 +77,12 @@ pub data Empty (t : List ℕ) (n : ℤ) (c : Ctx) : ℕ → ℕ → List ℕ →
   prefixed : {i h j : ℕ} → LinePrefix t n c i h → Break t h j → Empty t n c i j (LINE_FEED ∷ [])
   shorter : {i h j : ℕ} → IndentLess t n i h → Break t h j → Empty t n c i j (LINE_FEED ∷ [])
 
--- b-l-folded(n,c): a break before empty lines means what they mean, and a break alone a space
+-- b-l-folded(n,c): a break before empty lines means their line feeds, and a break by itself means a space
 pub data FoldedBreak (t : List ℕ) (n : ℤ) (c : Ctx) : ℕ → ℕ → List ℕ → Type 0 where
   trimmed : {i h k j : ℕ} {x y : List ℕ} → Break t i h → Empty t n c h k x → Chain (Empty t n c) k j y → FoldedBreak t n c i j (x ++ y)
   as_space : {i j : ℕ} → Break t i j → FoldedBreak t n c i j (SPACE ∷ [])
 
--- s-flow-folded(n): white space round a folded break mean nothing
+-- s-flow-folded(n): white space around a folded break has no meaning
 pub data FlowFolded (t : List ℕ) (n : ℤ) : ℕ → ℕ → List ℕ → Type 0 where
   at_break : {i h j : ℕ} {x : List ℕ} → FoldedBreak t n FlowIn i h x → FlowPrefix t n h j → FlowFolded t n i j x
   past_whites : {i g h j : ℕ} {x : List ℕ} → SeparateInLine t i g → FoldedBreak t n FlowIn g h x → FlowPrefix t n h j → FlowFolded t n i j x
@@ -91,7 +91,7 @@ pub data FlowFolded (t : List ℕ) (n : ℤ) : ℕ → ℕ → List ℕ → Type
 unfoldable pub is_three : List ℕ → ℕ → ℕ → Bool
 is_three t i c = (code t i == c) && ((code t (i + 1) == c) && (code t (i + 2) == c))
 
--- --- or ... before white, a break or the end of the text (c-directives-end, c-document-end)
+-- --- or ... before white space, a break or the end of the text (c-directives-end, c-document-end)
 unfoldable pub is_marker : List ℕ → ℕ → Bool
 is_marker t i = (is_three t i 45 || is_three t i 46) && is_white_or_end (code t (i + 3))
 
@@ -100,6 +100,6 @@ pub record ForbiddenLine (t : List ℕ) (i : ℕ) : Type 0 where
   pub start : LineStart t i
   pub marker : is_marker t i ≡ true
 
--- no forbidden line begins from i on before j: no node covers one
+-- no forbidden line begins from i on before j, so a node may cover that span
 pub record Clear (t : List ℕ) (i j : ℕ) : Type 0 where
   pub none : (h : ℕ) → i ≤ h → h < j → ForbiddenLine t h → ⊥

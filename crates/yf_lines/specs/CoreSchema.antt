@@ -1,9 +1,9 @@
--- The plain scalars to which the core schema gives another type than a string (YAML 1.2.2, 10.3.2): its regular expressions for null, booleans,
--- integers and floating point numbers, and which texts match them. A text is a list of bytes.
+-- The plain scalars with a type other than a string in the core schema (YAML 1.2.2, 10.3.2): its regular expressions
+-- for null, booleans, integers and floating point numbers, and the texts that match them. A text is a list of bytes.
 use Rattle.std.specs.Prelude.{◌≡◌, ℕ, Bool, true, ◌&&◌, ◌||◌, ◌==◌, nat_le, List, [], ◌∷◌, ◌++◌, codes}
 use Rattle.yf_lines.specs.Steady.{is_steady}
 
--- a byte of a class; these bytes; one pattern after another, or either of two; one, or nothing; any number of times
+-- a byte of a class; these bytes; one pattern after another; either of two; one or none; any number
 pub data Pattern : Type 0 where
   byte_of : (ℕ → Bool) → Pattern
   bytes : List ℕ → Pattern
@@ -12,7 +12,7 @@ pub data Pattern : Type 0 where
   optional : Pattern → Pattern
   repeated : Pattern → Pattern
 
--- the whole text is one that the pattern describes
+-- the pattern describes the whole text
 pub data Matches : Pattern → List ℕ → Type 0 where
   in_class : {class : ℕ → Bool} {b : ℕ} → class b ≡ true → Matches (byte_of class) (b ∷ [])
   as_written : {w : List ℕ} → Matches (bytes w) w
@@ -90,6 +90,6 @@ float_pattern =
 abbrev pub core_pattern : Pattern
 core_pattern = either null_pattern (either boolean_pattern (either integer_pattern float_pattern))
 
--- No null, boolean or number of the core schema is written in quotes: each such text is steady.
+-- Each null, boolean or number of the core schema is steady, so it may stay plain.
 abbrev pub CoreTextsAreSteady : Type 0
 CoreTextsAreSteady = (x : List ℕ) → Matches core_pattern x → is_steady x ≡ true

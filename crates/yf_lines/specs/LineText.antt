@@ -1,4 +1,4 @@
--- A text that is within one line: its characters are nb-chars, neither breaks nor byte order marks.
+-- A text within one line: its characters are nb-chars, neither breaks nor byte order marks.
 use Rattle.std.specs.Prelude.{◌≡◌, ℕ, ◌<◌, Bool, true, ◌==◌, ◌||◌, List, [], ◌∷◌, encode_utf8_all}
 use Rattle.yf_chars.specs.Signs.{COLON, COMMA, LINE_FEED, RIGHT_BRACE, RIGHT_BRACKET, SPACE}
 use Rattle.yf_chars.specs.Class.{is_nb_char}
@@ -13,15 +13,15 @@ pub record IsLineText (x : List ℕ) : Type 0 where
   pub bytes : encode_utf8_all chars ≡ x
   pub each : AllNb chars
 
--- what may be after a name that is written on a line: a space, a break, a comma or a closing bracket
+-- the characters that may follow a name on a line: a space, a break, a comma or a closing bracket
 unfoldable pub is_after_name : ℕ → Bool
 is_after_name c = (c == SPACE) || (c == LINE_FEED) || (c == COMMA) || (c == RIGHT_BRACKET) || (c == RIGHT_BRACE)
 
--- and after any other text: also a colon
+-- the characters that may follow any other text: these, or a colon
 unfoldable pub is_after_text : ℕ → Bool
 is_after_text c = (c == COLON) || is_after_name c
 
--- the bytes that follow: none, or one of a class first
+-- the bytes that follow: none, or first a byte of a class
 pub data Follows (p : ℕ → Bool) : List ℕ → Type 0 where
   nothing_follows : Follows p []
   byte_follows : {c : ℕ} {r : List ℕ} → c < 128 → p c ≡ true → Follows p (c ∷ r)

@@ -1,5 +1,5 @@
--- The lines of a text t, the place of an offset, and the forbidden lines (YAML 1.2.2, 5.4 and 9.1.2). A line ends with
--- its break, CR LF, CR or LF; the text after the last break is a line where it is not empty. Offsets count bytes.
+-- The lines of a text t, the position of an offset, and the forbidden lines (YAML 1.2.2, 5.4 and 9.1.2). A line ends
+-- with its break: CR LF, CR or LF. The text after the last break is a line if it is not empty. Offsets count bytes.
 use Rattle.std.specs.Prelude.{◌≡◌, ◌≢◌, ℕ, ◌+◌, ◌-◌, ◌<◌, ◌≤◌, Bool, true, false, ◌==◌, nat_lt, List, [], ◌∷◌, length, slice_get, Some}
 use Rattle.std.specs.Str.{IsCharBoundary, IsUtf8}
 use Rattle.yf_chars.specs.Signs.{BYTE_ORDER_MARK, CARRIAGE_RETURN, LINE_FEED, SPACE}
@@ -9,29 +9,29 @@ use Rattle.yf_chars.specs.Text.{code, no_char}
 use Rattle.yf_lines.specs.Basic.{Break, Spaces, is_marker}
 use Rattle.yf_lines.specs.declared.line.Line.{Line}
 
--- no character of a break is from i on before j
+-- no character of a break is at i or after it, before j
 pub record NoBreakIn (t : List ℕ) (i j : ℕ) : Type 0 where
   pub order : i ≤ j
   pub none : (h : ℕ) → i ≤ h → h < j → is_break_char (code t h) ≡ false
 
--- where a line's text ends and where the next line begins: round a break, or both at the end of the text
+-- the end of a line's text and the start of the next line: around a break, or both at the end of the text
 pub data LineEnd (t : List ℕ) : ℕ → ℕ → Type 0 where
   at_break : {i j : ℕ} → Break t i j → LineEnd t i j
   at_end : {i : ℕ} → i ≡ length t → LineEnd t i i
 
--- k spaces are from i on, and no more
+-- exactly k spaces are from i on
 pub record SpacesFrom (t : List ℕ) (i k : ℕ) : Type 0 where
   pub spaces : Spaces t i k
   pub stops : code t (i + k) ≢ SPACE
 
--- a line of the text: it has a character at least, its break among them
+-- a line of the text: it has at least one character, counting those of its break
 pub record IsLine (t : List ℕ) (l : Line) : Type 0 where
   pub order : l.start < l.next
   pub unbroken : NoBreakIn t l.start l.end
   pub ends : LineEnd t l.end l.next
   pub indented : SpacesFrom t l.start l.indent
 
--- the text can be cut where the line begins, where it ends, and where the next begins
+-- the line's offsets are boundaries
 pub record IsCutAt (t : List ℕ) (l : Line) : Type 0 where
   pub start : IsCharBoundary t l.start
   pub end : IsCharBoundary t l.end
@@ -45,17 +45,17 @@ pub data OneLine (t : List ℕ) : ℕ → ℕ → List Line → Type 0 where
 abbrev pub AreLines : List ℕ → List Line → Type 0
 AreLines t ls = Chain (OneLine t) 0 (length t) ls
 
--- what a table of lines is: a text and its lines
+-- the value of a table of lines: a text and its lines
 pub record Table : Type 0 where
   pub text : List ℕ
   pub lines : List Line
 
--- what holds of each table
+-- the invariant of a table
 pub record IsTable (t : List ℕ) (ls : List Line) : Type 0 where
   pub utf8 : IsUtf8 t
   pub lines : AreLines t ls
 
--- the offset is not inside of a CR LF
+-- the offset is not within a CR LF
 pub record Apart (t : List ℕ) (i : ℕ) : Type 0 where
   pub no_cr : code t i ≡ LINE_FEED → code t (i - 1) ≢ CARRIAGE_RETURN
 
@@ -73,8 +73,8 @@ pub record Marks (t : List ℕ) (i j : ℕ) : Type 0 where
   pub run : Many t is_mark i j marks
   pub stops : is_mark (code t j) ≡ false
 
--- the line holds the offset: from its start to before the start of the next. The end of the text is held by a last line
--- without a break
+-- the line holds the offset: from its start to before the start of the next line. A last line without a break also
+-- holds the end of the text
 pub data LineHolds (l : Line) (offset : ℕ) : Type 0 where
   inside : l.start ≤ offset → offset < l.next → LineHolds l offset
   at_text_end : l.end ≡ l.next → l.next ≡ offset → LineHolds l offset
@@ -85,23 +85,24 @@ pub data ColumnOf (t : List ℕ) (i offset : ℕ) : ℕ → Type 0 where
   among_marks : {j : ℕ} → Marks t i j → offset < j → ColumnOf t i offset 1
   after_marks : {j : ℕ} {x : List ℕ} → Marks t i j → Many t is_char j offset x → ColumnOf t i offset (length x + 1)
 
--- k lines begin at the offset or before, and no other does
+-- exactly the first k lines begin at the offset or before it
 pub record LinesBegunAt (ls : List Line) (offset k : ℕ) : Type 0 where
   pub before : (m : ℕ) (l : Line) → slice_get ls m ≡ Some l → m < k → l.start ≤ offset
   pub follows : (m : ℕ) (l : Line) → slice_get ls m ≡ Some l → k ≤ m → offset < l.start
 
--- at the end of the text a line would begin: the text is empty, or it ends with a break
+-- a line would begin at the end of the text: the text is empty, or ends with a break
 pub data NewLine (t : List ℕ) : Type 0 where
   of_empty : length t ≡ 0 → NewLine t
   of_break : {i : ℕ} → Break t i (length t) → NewLine t
 
--- line and column of an offset, both from 1: those in the line that holds it, or column 1 of the line that would follow
+-- the line and column of an offset, both from 1: those in the line that holds it, or column 1 of the line that would
+-- follow
 pub data PlaceOf (t : List ℕ) (offset : ℕ) : ℕ → ℕ → Type 0 where
   in_line : {ls : List Line} {l : Line} {c : ℕ} (k : ℕ) → AreLines t ls → slice_get ls k ≡ Some l → LineHolds l offset
       → ColumnOf t l.start offset c → PlaceOf t offset (k + 1) c
   after_lines : {ls : List Line} → AreLines t ls → offset ≡ length t → NewLine t → PlaceOf t offset (length ls + 1) 1
 
--- the line that begins at i is forbidden: after its marks it begins with a document marker
+-- the line that begins at i is forbidden: it begins, after its marks, with a document marker
 pub record IsForbiddenLine (t : List ℕ) (i : ℕ) : Type 0 where
   pub at : ℕ
   pub follows : Marks t i at

@@ -1,4 +1,4 @@
--- What writing a text to a writer does.
+-- The effect of writing a text to a writer.
 use Rattle.std.specs.Prelude.{◌≡◌, ℕ, List, ◌++◌, Bool, true, Option, Result, MatchResult}
 use Rattle.std.specs.Io.KnownBytes.{Appends}
 use Rattle.std.specs.List.{flat_map}
@@ -6,7 +6,7 @@ use Rattle.std.specs.Borrow.{Bor}
 use Rattle.yf_lines.specs.declared.fault.Fault.{Fault}
 use Rattle.yf_lines.specs.declared.fault.Fault.TheVariants.{WriteFailed}
 
--- all of the text was appended, and the note that the writer has failed stayed
+-- the whole text was appended, and the failure note is unchanged
 pub record Wrote (old new : Option (List ℕ)) (before after : Bool) (text : List ℕ) : Type 0 where
   pub appended : Appends old new text
   pub same : after ≡ before
@@ -25,6 +25,6 @@ TextWritten old new before after text outcome = MatchResult outcome
     (λ _. Wrote old new before after text)
     (λ fault. (fault ≡ WriteFailed) × Broke old new after text)
 
--- the texts joined
+-- the concatenated texts
 abbrev pub texts : List (Bor (List ℕ)) → List ℕ
 texts parts = flat_map (λ part. part.now) parts

@@ -1,4 +1,4 @@
--- What a text is to a contract: its bytes in UTF-8.
+-- A text in contracts: its bytes in UTF-8.
 use Rattle.std.specs.Prelude.{ℕ, List}
 use Rattle.yf_lines.specs.declared.text.Text.{Text}
 use Rattle.yf_lines.specs.declared.text.Text.TheVariants.{Part, Owned}

@@ -1,5 +1,5 @@
-//! The basic structures that all readers share (YAML 1.2.2, 5.4 and 6.1 to 6.5): line breaks, white space, indentation, the
-//! start of a line and document markers. Offsets count bytes.
+//! The basic structures that all readers share (YAML 1.2.2, 5.4 and 6.1 to 6.5): line breaks, white space, indentation,
+//! the start of a line and document markers. Offsets count bytes.
 ghost use Rattle.std.specs.Prelude.{◌≡◌, ◌≢◌, ◌+◌, ◌-◌, ◌<◌, ◌≤◌, ◌⊎◌, ◌==◌, ℕ, Bool, true, false, List, length, IfSome, MatchOption, MatchBool, ⊤};
 ghost use Rattle.std.specs.Str.{IsCharBoundary};
 ghost use Rattle.yf_chars.specs.Signs.{BYTE_ORDER_MARK, SPACE};
@@ -12,7 +12,8 @@ ghost use Rattle.yf_lines.specs.Lines.{NoBreakIn};
 use memchr::memchr2;
 use yf_chars::text::is_char_at;
 
-/// Reads a line break (b-break, production 28): the offset after it, or `None` where no break begins.
+/// Reads a line break (b-break, production 28). Returns the offset after it, or `None` if no break begins at the
+/// offset.
 ///
 /// No break begins between the two characters of a CR LF.
 pub fn line_break(s: &str, at: usize) -> Option<usize>
@@ -35,7 +36,7 @@ pub fn line_break(s: &str, at: usize) -> Option<usize>
     None
 }
 
-/// The first offset from there on at which a character of a line break is, or the end of the text.
+/// Returns the offset of the first character of a line break from `at` on, or the end of the text.
 #[inline(always)]
 pub fn next_break(s: &str, at: usize) -> usize
     requires { at ≤ length s.now }
@@ -50,7 +51,7 @@ pub fn next_break(s: &str, at: usize) -> usize
     }
 }
 
-/// Whether a white (space or tab) begins at the offset.
+/// Returns whether white space (a space or tab) begins at the offset.
 pub fn is_white_at(s: &str, at: usize) -> bool
     ensures value { result ≡ is_white (code s.now at) }
     ensures read { MatchBool result (CharAt s.now at (code s.now at) (at + 1)) (is_white (code s.now at) ≡ false) }
@@ -61,7 +62,7 @@ pub fn is_white_at(s: &str, at: usize) -> bool
     is_char_at(s, at, b'\t')
 }
 
-/// The offset after all white space that is at the offset.
+/// Returns the offset after all white space at the offset.
 pub fn skip_whites(s: &str, at: usize) -> usize
     requires { IsCharBoundary s.now at }
     ensures whites { (x : List ℕ) × Many s.now is_white at result x }
@@ -76,7 +77,7 @@ pub fn skip_whites(s: &str, at: usize) -> usize
     end
 }
 
-/// The offset after all spaces that are at the offset.
+/// Returns the offset after all spaces at the offset.
 pub fn skip_spaces(s: &str, at: usize) -> usize
     requires { IsCharBoundary s.now at }
     ensures spaces { Spaces s.now at (result - at) }
@@ -91,7 +92,7 @@ pub fn skip_spaces(s: &str, at: usize) -> usize
     end
 }
 
-/// Whether a byte order mark (U+FEFF) begins at the offset.
+/// Returns whether a byte order mark (U+FEFF) begins at the offset.
 pub fn is_mark_at(s: &str, at: usize) -> bool
     ensures { MatchBool result (code s.now at ≡ BYTE_ORDER_MARK) (code s.now at ≢ BYTE_ORDER_MARK) }
 {
@@ -111,7 +112,7 @@ pub fn is_mark_at(s: &str, at: usize) -> bool
     bytes[at + 2] == 0xBF
 }
 
-/// Whether a byte order mark ends at the offset.
+/// Returns whether a byte order mark ends at the offset.
 pub fn mark_ends(s: &str, at: usize) -> bool
     ensures { MatchBool result ((3 ≤ at) × (code s.now (at - 3) ≡ BYTE_ORDER_MARK)) (3 ≤ at → code s.now (at - 3) ≢ BYTE_ORDER_MARK) }
 {
@@ -121,7 +122,7 @@ pub fn mark_ends(s: &str, at: usize) -> bool
     is_mark_at(s, at - 3)
 }
 
-/// Whether a line break ends at the offset.
+/// Returns whether a line break ends at the offset.
 pub fn break_ends(s: &str, at: usize) -> bool
     ensures { MatchBool result ((i : ℕ) × Break s.now i at) ((i : ℕ) → Break s.now i at → ⊥) }
 {
@@ -140,7 +141,7 @@ pub fn break_ends(s: &str, at: usize) -> bool
     false
 }
 
-// Whether an ASCII character that is no control ends at the offset: no line starts there.
+// Returns `true` only if an ASCII character that is not a control ends at the offset. No line starts there.
 #[inline(always)]
 fn text_ends(s: &str, at: usize) -> bool
     ensures { MatchBool result (LineStart s.now at → ⊥) ⊤ }
@@ -161,7 +162,8 @@ fn text_ends(s: &str, at: usize) -> bool
     true
 }
 
-/// Whether the offset is the start of a line: of the text, after a break, or after byte order marks that are there.
+/// Returns whether the offset is the start of a line: of the text, after a break, or after byte order marks at such a
+/// start.
 pub fn is_line_start(s: &str, at: usize) -> bool
     ensures { MatchBool result (LineStart s.now at) (LineStart s.now at → ⊥) }
 {
@@ -178,7 +180,7 @@ pub fn is_line_start(s: &str, at: usize) -> bool
     break_ends(s, start)
 }
 
-/// Whether white, a line break or the end of the text follows at the offset.
+/// Returns whether white space, a line break or the end of the text is at the offset.
 pub fn is_white_or_end_at(s: &str, at: usize) -> bool
     requires { IsCharBoundary s.now at }
     ensures { result ≡ is_white_or_end (code s.now at) }
@@ -195,8 +197,8 @@ pub fn is_white_or_end_at(s: &str, at: usize) -> bool
     at == s.len()
 }
 
-/// Whether a document marker, `---` or `...` before white, a break or the end of the text, is at the offset
-/// (c-directives-end, production 203; c-document-end, production 204).
+/// Returns whether a document marker is at the offset: `---` or `...` before white space, a break or the end of the
+/// text (c-directives-end, production 203; c-document-end, production 204).
 #[inline(always)]
 pub fn is_marker_at(s: &str, at: usize) -> bool
     ensures { result ≡ is_marker s.now at }
@@ -210,7 +212,7 @@ pub fn is_marker_at(s: &str, at: usize) -> bool
     false
 }
 
-// Whether that ASCII character is three times from the offset on.
+// Returns whether that ASCII character occurs three times from the offset on.
 #[inline(always)]
 fn three_stand(s: &str, at: usize, byte: u8) -> bool
     requires { byte < 128 }
@@ -226,7 +228,7 @@ fn three_stand(s: &str, at: usize, byte: u8) -> bool
     false
 }
 
-/// Whether a forbidden line begins at the offset: a document marker at the start of a line (c-forbidden,
+/// Returns whether a forbidden line begins at the offset: a document marker at the start of a line (c-forbidden,
 /// production 206).
 #[inline(always)]
 pub fn is_forbidden_at(s: &str, at: usize) -> bool

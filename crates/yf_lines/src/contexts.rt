@@ -1,17 +1,17 @@
-//! What the contexts of the productions tell of scalars (YAML 1.2.2, section 7.3).
+//! The contexts of the productions, for scalars (YAML 1.2.2, section 7.3).
 ghost use Rattle.std.specs.Prelude.{◌≡◌};
 ghost use Rattle.yf_lines.specs.Basic.{is_block, is_key};
 
 use yf_chars::context::Ctx;
 
-/// Whether no scalar in flow style is in that context.
+/// Returns whether the context holds no scalar in flow style.
 pub fn is_block(ctx: Ctx) -> bool
     ensures { result ≡ is_block ctx }
 {
     matches!(ctx, Ctx::BlockOut | Ctx::BlockIn)
 }
 
-/// Whether a scalar in that context is on one line.
+/// Returns whether a scalar in that context is on one line.
 pub fn is_key(ctx: Ctx) -> bool
     ensures { result ≡ is_key ctx }
 {

@@ -1,10 +1,10 @@
-//! Why a stream, a settings file or a run is refused.
+//! Refusals of a stream, a settings file or a run.
 
 use crate::place::Position;
 use crate::text::OwnedText;
 use thiserror::Error;
 
-/// A refusal. Each call of the crates above answers one of these, or a good result.
+/// A refusal: the error of the calls in the crates above.
 ///
 /// `offset` counts bytes from 0; a `Position` counts lines and columns from 1.
 #[derive(Debug, Drop, Error)]
@@ -12,7 +12,7 @@ pub enum Fault {
     /// The bytes are not UTF-8; the longest valid prefix ends at the offset.
     #[error("not UTF-8 after byte {offset}")]
     NotUtf8 { offset: usize },
-    /// No reading of the text is derived by the productions.
+    /// The productions derive no reading of the text.
     #[error("syntax: {what}")]
     Syntax { place: Position, what: &'static str },
     /// More collections are open than the depth limit allows.
@@ -30,19 +30,19 @@ pub enum Fault {
     /// The YAML directive's major version is not 1 (section 6.8.1).
     #[error("the YAML version is not 1.x")]
     BadVersion { place: Position },
-    /// An escape's number is no Unicode scalar value (section 5.7).
+    /// The number of an escape is not a Unicode scalar value (section 5.7).
     #[error("an escape is no character")]
     EscapeValue { place: Position },
-    /// A growth of memory was refused.
+    /// Memory was refused.
     #[error("no memory")]
     Memory,
-    /// The reader failed, or gave more than the limit.
+    /// The reader failed, or returned more than the limit.
     #[error("the input could not be read")]
     ReadFailed,
     /// The writer failed, or took no bytes.
     #[error("the output could not be written")]
     WriteFailed,
-    /// A settings key is unknown, of a wrong type or out of range; the key is empty where the text is no TOML.
+    /// A settings key is unknown, of a wrong type or out of range; the key is empty if the text is not TOML.
     #[error("a setting is wrong")]
     Config { key: OwnedText },
 }

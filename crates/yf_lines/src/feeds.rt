@@ -1,4 +1,4 @@
-//! Whether a text has a line feed. Two loads that overlap cover a short text.
+//! Finds a line feed in a text. Two loads that overlap cover a short text.
 ghost use Rattle.std.specs.Prelude.{◌≡◌, ◌+◌, ◌≤◌, length};
 ghost use Rattle.yf_lines.specs.Feeds.{TellsClear};
 ghost use Rattle.yf_lines.specs.Steady.{has_line_feed};
@@ -81,7 +81,7 @@ fn all_clear(text: &[u8]) -> bool
     clear_4(text, len - 4)
 }
 
-/// Whether a text has a line feed.
+/// Returns whether a text has a line feed.
 #[inline(always)]
 pub(crate) fn has_feed(text: &[u8]) -> bool
     ensures { result ≡ has_line_feed text.now }

@@ -1,4 +1,4 @@
-//! Folded line breaks inside of plain and quoted scalars (YAML 1.2.2, 6.5 "Line Folding"). Offsets count bytes.
+//! Folded line breaks within plain and quoted scalars (YAML 1.2.2, 6.5 "Line Folding"). Offsets count bytes.
 ghost use Rattle.std.specs.Prelude.{◌≡◌, ◌≢◌, ◌+◌, ◌<◌, ◌≤◌, ℕ, ℤ, pos, ◌<ℤ◌, Bool, true, false, List, [], ◌∷◌, IfSome, MatchOption};
 ghost use Rattle.std.specs.Str.{IsCharBoundary};
 ghost use Rattle.yf_chars.specs.Signs.{LINE_FEED};
@@ -11,16 +11,17 @@ ghost use Rattle.yf_lines.specs.Fold.{FoldsTo, FoldLines, ContentAt, line_feeds,
 
 use crate::basic::{line_break, skip_spaces, skip_whites};
 
-/// A folded line break: the number of empty lines in it, and the byte offset of what is after it.
+/// A folded line break: the number of its empty lines, and the byte offset after it.
 ///
-/// It means a space where no empty line is in it, else a line feed for each of them.
+/// It means one line feed for each empty line, or a space if it has none.
 #[derive(Clone, Copy)]
 pub struct Fold {
     pub feeds: usize,
     pub end: usize,
 }
 
-/// The indentation `n` as a number of spaces; `None` where it is negative, and no line is indented so.
+/// Returns the indentation `n` as a number of spaces, or `None` if it is negative, because no line has such an
+/// indentation.
 pub fn indent_width(n: i32) -> Option<usize>
     ensures { MatchOption result (n <ℤ pos 0) (λ w. n ≡ pos w) }
 {
@@ -30,11 +31,11 @@ pub fn indent_width(n: i32) -> Option<usize>
     Some(n as usize)
 }
 
-/// Reads the line break (s-flow-folded(n), production 74) at the end of a line of a scalar, with the white space around it and
-/// the empty lines after it, up to the first character that is neither a white nor a break.
+/// Reads the line break (s-flow-folded(n), production 74) at the end of a line of a scalar, with the white space around
+/// it and the empty lines after it, up to the first character that is neither white space nor a break.
 ///
-/// `None` where the line does not end there, or the next line that is not empty is indented by fewer than `width` spaces.
-/// Whether that line is forbidden is not asked.
+/// Returns `None` if the line does not end there, or if fewer than `width` spaces indent the next line that is not
+/// empty. It doesn't check whether that line is forbidden.
 #[inline(always)]
 pub fn flow_folded(s: &str, at: usize, width: usize) -> Option<Fold>
     requires { IsCharBoundary s.now at }
@@ -53,8 +54,8 @@ pub fn flow_folded(s: &str, at: usize, width: usize) -> Option<Fold>
     }
 }
 
-/// The empty lines from the start of a line on (l-empty(n,flow-in), production 70), and the indentation of the line after them
-/// (s-flow-line-prefix(n), production 69). Of each line the white space is passed once.
+/// Reads the empty lines from the start of a line on (l-empty(n,flow-in), production 70), and the indentation of the
+/// line after them (s-flow-line-prefix(n), production 69). It passes the white space of each line once.
 pub fn fold_lines(s: &str, at: usize, width: usize) -> Option<Fold>
     requires { IsCharBoundary s.now at }
     ensures reads { MatchOption result (Stuck (FoldLines s.now (pos width) at))

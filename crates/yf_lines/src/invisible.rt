@@ -1,10 +1,10 @@
-//! How hidden characters are written between quotes.
+//! The form of hidden characters between quotes.
 
-/// How quoted scalars hold hidden characters (those of `yf_chars::hidden`).
+/// The form of hidden characters (those of `yf_chars::hidden`) in quoted scalars.
 #[derive(Clone, Copy)]
 pub enum Invisible {
-    /// As they are, but for those that double quotes hold by an escape in any case.
+    /// Unchanged, except those that double quotes always escape.
     Plain,
-    /// By an escape each, in double quotes.
+    /// As escapes, in double quotes.
     Escaped,
 }

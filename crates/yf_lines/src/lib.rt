@@ -1,5 +1,5 @@
-//! Lines and places of a text, the faults that all crates answer, texts that borrow from their source, and readers
-//! and writers that tell whether they have failed.
+//! Lines and positions of a text, the faults that all crates return, texts that borrow from their source, and readers
+//! and writers that remember a failure.
 #![tactic(auto)]
 
 pub mod basic;

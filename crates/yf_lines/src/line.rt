@@ -1,7 +1,7 @@
 //! A line of a text.
 
-/// A line of a text, as byte offsets: where it begins, where it ends before its break, and where the next one begins;
-/// and with how many spaces it begins.
+/// A line of a text, as byte offsets: its start, its end before its break, and the start of the next line; and the
+/// number of spaces that begin it.
 ///
 /// A line that ends with the text and not with a break has `next` equal to `end`.
 #[derive(Clone, Copy)]

@@ -1,13 +1,13 @@
-//! Writing a whole text.
+//! Writes whole texts.
 ghost use Rattle.yf_lines.specs.Output.{TextWritten, texts};
 
 use crate::fault::Fault;
 use crate::watched::Sink;
 
-/// Writes all the bytes, by as many writes as it takes.
+/// Writes all bytes, with as many writes as needed.
 ///
-/// A write that fails, or that takes no bytes, is answered by `WriteFailed`; a prefix of the bytes has then been
-/// written. Nothing is flushed: a writer that keeps bytes back is flushed by its owner.
+/// Fails with `WriteFailed` if a write fails or takes no bytes; a prefix of the bytes has then been written. It doesn't
+/// flush: the owner of the writer does.
 pub fn write_text<W: Sink>(writer: &mut W, bytes: &[u8]) -> Result<(), Fault>
     ensures { TextWritten (W.contents writer.old) (W.contents writer.new)
         (W.has_failed writer.old) (W.has_failed writer.new) bytes.now result }
@@ -26,7 +26,7 @@ pub fn write_text<W: Sink>(writer: &mut W, bytes: &[u8]) -> Result<(), Fault>
     Ok(())
 }
 
-/// Writes the texts one after another, up to the first that is not written whole.
+/// Writes the texts one after another, up to the first that can't be written whole.
 pub fn write_texts<W: Sink>(writer: &mut W, parts: &[&str]) -> Result<(), Fault>
     ensures { TextWritten (W.contents writer.old) (W.contents writer.new)
         (W.has_failed writer.old) (W.has_failed writer.new) (texts parts.now) result }

@@ -1,4 +1,4 @@
-//! Lines in rows of eight bytes. Where a line ends is found in the text again.
+//! Lines in eight bytes each. The end of a line is found in the text again.
 ghost use Rattle.std.specs.Prelude.{◌≡◌, ◌<◌, ◌≤◌, Some, length, slice_get, IfOk};
 ghost use Rattle.std.specs.List.Sorted.{IsNonDecreasingBy};
 ghost use Rattle.yf_lines.specs.Rows.{RowsBegun, end_before, lines_of, next_start};
@@ -7,14 +7,14 @@ use crate::line::Line;
 use std::alloc::AllocError;
 use yf_chars::text::is_char_at;
 
-/// What is kept of a line: the byte offset at which it begins, and with how many spaces it begins.
+/// A packed line: its byte offset, and the number of spaces that begin it.
 #[derive(Clone, Copy)]
 pub struct PackedLine {
     pub start: u32,
     pub indent: u32,
 }
 
-/// The number in 32 bits. One that has no room there is refused as a growth of memory is: a stream has at most 2^30 bytes.
+/// Returns the number in 32 bits. Fails like a refusal of memory if it is too large: a stream has at most 2^30 bytes.
 #[inline(always)]
 pub fn narrow(offset: usize) -> Result<u32, AllocError>
     ensures { IfOk result (λ n. n ≡ offset) }
@@ -25,7 +25,7 @@ pub fn narrow(offset: usize) -> Result<u32, AllocError>
     Err(AllocError)
 }
 
-/// The row of a line.
+/// Packs a line.
 pub fn row_of(line: Line) -> Result<PackedLine, AllocError>
     ensures start { IfOk result (λ r. r.start ≡ line.start) }
     ensures indent { IfOk result (λ r. r.indent ≡ line.indent) }
@@ -35,7 +35,7 @@ pub fn row_of(line: Line) -> Result<PackedLine, AllocError>
     Ok(PackedLine { start, indent })
 }
 
-/// Where the text of a line ends after which the next line begins at that offset: before the break that ends there.
+/// Returns the end of a line's text, before its break. The next line begins at `next`.
 #[inline(always)]
 pub fn text_end(text: &str, next: usize) -> usize
     ensures { result ≡ end_before text.now next }
@@ -54,7 +54,7 @@ pub fn text_end(text: &str, next: usize) -> usize
     next
 }
 
-/// Where the line after that of an index begins; the end of the text after the last one.
+/// Returns the start of the line after that of an index, or the end of the text after the last line.
 #[inline(always)]
 fn start_after(rows: &[PackedLine], i: usize, end: usize) -> usize
     requires { i < length rows.now }
@@ -67,7 +67,7 @@ fn start_after(rows: &[PackedLine], i: usize, end: usize) -> usize
     end
 }
 
-/// The line of an index, from 0.
+/// Returns the line of an index, from 0.
 #[inline(always)]
 pub fn line_at(text: &str, rows: &[PackedLine], i: usize) -> Line
     requires { i < length rows.now }
@@ -83,7 +83,7 @@ pub fn line_at(text: &str, rows: &[PackedLine], i: usize) -> Line
     }
 }
 
-/// How many of the lines begin at the offset or before.
+/// Returns how many lines begin at the offset or before it.
 pub fn lines_begun(rows: &[PackedLine], offset: usize) -> usize
     requires { IsNonDecreasingBy (λ r. r.start) rows.now }
     ensures bound { result ≤ length rows.now }

@@ -3,8 +3,8 @@
 /// The quotes of a quoted scalar (YAML 1.2.2, section 7.3).
 #[derive(Clone, Copy)]
 pub enum Quotes {
-    /// `'`, in which no character is escaped.
+    /// `'`, without escapes.
     Single,
-    /// `"`, in which any character can be escaped.
+    /// `"`, with escapes for any character.
     Double,
 }

@@ -5,7 +5,7 @@ use std::alloc::{AllocError, Global};
 use std::marker::Model;
 
 /// Slices of the source, in order: the lines of a block scalar without their indentation and breaks, or the words of a
-/// directive. In a contract they are the list of their bytes.
+/// directive. Contracts see the list of their bytes.
 #[derive(Drop)]
 pub struct Slices<'a> {
     list: Vec<&'a str>,
@@ -36,7 +36,7 @@ impl<'a> Slices<'a> {
         Ok(())
     }
 
-    /// Keeps the first so many slices.
+    /// Keeps only the first `count` slices.
     pub fn truncate(&mut self, count: usize)
         ensures { self.new ≡ take count self.old }
     {
@@ -49,7 +49,7 @@ impl<'a> Slices<'a> {
         self.list.len()
     }
 
-    /// The slice of that number, from 0.
+    /// Returns the slice at an index, from 0.
     pub fn at(&self, index: usize) -> &'a str
         requires { index < length self.now }
         ensures { result.now ≡ slice_index_or self.now index [] }

@@ -1,4 +1,4 @@
-//! A text as the readers take it: with its lines.
+//! A text with its lines, as the readers take it.
 ghost use Rattle.std.specs.Prelude.{◌≡◌, ℕ, List, IfOk};
 ghost use Rattle.std.specs.Str.{IsCharBoundary};
 ghost use Rattle.yf_lines.specs.declared.line.Line.{Line};
@@ -9,7 +9,7 @@ use crate::table::LineTable;
 use std::alloc::{AllocError, Global};
 use std::marker::Model;
 
-/// A text and the table of its lines. In a contract it is what its table is.
+/// A text and the table of its lines. Contracts see the table.
 #[derive(Drop)]
 pub struct Src<'a> {
     table: LineTable<'a>,
@@ -28,7 +28,7 @@ impl<'a> Src<'a> {
     ///
     /// # Errors
     ///
-    /// `AllocError` where a growth of memory was refused.
+    /// Fails with `AllocError` if memory is refused, or if a line begins after byte 2^32 - 1 of the text.
     pub fn new(alloc: Global, text: &'a str) -> Result<Src<'a>, AllocError>
         ensures text { IfOk result (λ src. src.text ≡ text.now) }
         ensures lines { IfOk result (λ src. AreLines text.now src.lines) }
@@ -38,7 +38,7 @@ impl<'a> Src<'a> {
         Ok(Src { table })
     }
 
-    /// The text.
+    /// Returns the text.
     #[inline(always)]
     pub fn text(&self) -> &'a str
         ensures { result.now ≡ self.now.text }
@@ -46,7 +46,7 @@ impl<'a> Src<'a> {
         self.table.text()
     }
 
-    /// The text's lines.
+    /// Returns the text's lines.
     #[inline(always)]
     pub fn lines(&self) -> &LineTable<'a>
         ensures { result.now ≡ self.now }
@@ -54,7 +54,7 @@ impl<'a> Src<'a> {
         &self.table
     }
 
-    /// The place of the offset: its line and column, both from 1.
+    /// Returns the position of the offset: its line and column, both from 1.
     pub fn place(&self, offset: usize) -> Position
         requires { IsCharBoundary self.now.text offset }
         ensures place { PlaceOf self.now.text offset result.line result.column }

@@ -1,10 +1,10 @@
-//! Texts that stay what they are when they are written as a plain scalar on one line.
+//! Texts that a plain scalar on one line keeps unchanged.
 ghost use Rattle.std.specs.Prelude.{◌≡◌, ◌<◌};
 ghost use Rattle.yf_lines.specs.Steady as Steady;
 
 use crate::feeds::has_feed;
 
-/// Whether the bytes begin with three times the same one, and then end or go on with a white.
+/// Returns whether the bytes begin with three times the same one, before white space or the end.
 #[tactic(auto, unfolding(crate::specs::Steady::is_marker_of))]
 fn is_marker_of(byte: u8, bytes: &[u8]) -> bool
     requires { 0 < byte }
@@ -42,8 +42,8 @@ fn ends_with_colon(bytes: &[u8]) -> bool
     bytes[bytes.len() - 1] == b':'
 }
 
-/// Whether a plain scalar of this text may stay plain on one line: it holds no line feed, does not end with `:`, is
-/// not `-` or `?`, and does not begin with `---` or `...` followed by white or the end.
+/// Returns whether a plain scalar of this text may stay plain on one line: the text holds no line feed, does not end
+/// with `:`, is not `-` or `?`, and does not begin with `---` or `...` before white space or the end.
 #[tactic(auto, unfolding(crate::specs::Steady::is_steady))]
 pub fn is_steady(text: &str) -> bool
     ensures { result ≡ Steady.is_steady text.now }

@@ -1,4 +1,4 @@
-//! The lines of a text, found once and kept.
+//! The table of a text's lines.
 ghost use Rattle.std.specs.Prelude.{◌≡◌, ◌↔◌, ◌≢◌, ◌+◌, ◌-◌, ◌<◌, ◌≤◌, ℕ, true, false, Some, List, [], ◌∷◌, length, slice_get, IfOk, IfSome, IsTrue, MatchBool};
 ghost use Rattle.std.specs.Str.{IsCharBoundary};
 ghost use Rattle.yf_chars.specs.Chain.{Many};
@@ -14,7 +14,7 @@ use std::alloc::{AllocError, Global};
 use std::marker::Model;
 use yf_chars::text::peek;
 
-/// A text and all its lines. In a contract it is a record of the text's bytes and the list of the lines.
+/// A text and all its lines. Contracts see the text's bytes and the list of the lines.
 #[derive(Drop)]
 pub struct LineTable<'a> {
     text: &'a str,
@@ -38,7 +38,7 @@ impl<'a> LineTable<'a> {
     ///
     /// # Errors
     ///
-    /// `AllocError` where a growth of memory was refused, or where a line begins after byte 2^32 - 1 of the text.
+    /// Fails with `AllocError` if memory is refused, or if a line begins after byte 2^32 - 1 of the text.
     pub fn build(alloc: Global, text: &'a str) -> Result<LineTable<'a>, AllocError>
         ensures text { IfOk result (λ table. table.text ≡ text.now) }
         ensures lines { IfOk result (λ table. AreLines text.now table.lines) }
@@ -55,7 +55,7 @@ impl<'a> LineTable<'a> {
         Ok(LineTable { text, rows })
     }
 
-    /// The text that the table was built of.
+    /// Returns the text of the table.
     #[inline(always)]
     pub fn text(&self) -> &'a str
         ensures { result.now ≡ self.now.text }
@@ -63,7 +63,7 @@ impl<'a> LineTable<'a> {
         self.text
     }
 
-    /// How many lines the text has.
+    /// Returns the number of lines.
     #[inline(always)]
     pub fn len(&self) -> usize
         ensures count { result ≡ length self.now.lines }
@@ -72,14 +72,14 @@ impl<'a> LineTable<'a> {
         self.rows.as_slice().len()
     }
 
-    /// Whether the text is empty, and so without lines.
+    /// Returns whether the text is empty, and so has no lines.
     pub fn is_empty(&self) -> bool
         ensures { IsTrue result ↔ (self.now.lines ≡ []) }
     {
         self.len() == 0
     }
 
-    /// The line of that index, from 0.
+    /// Returns the line at an index, from 0.
     #[inline(always)]
     pub fn line(&self, i: usize) -> Line
         requires { i < length self.now.lines }
@@ -92,8 +92,8 @@ impl<'a> LineTable<'a> {
         line_at(self.text, self.rows.as_slice(), i)
     }
 
-    /// Whether the line of that index is forbidden: whether it begins, after its byte order marks, with a document
-    /// marker (c-forbidden, production 206).
+    /// Returns whether the line at an index is forbidden: it begins, after its byte order marks, with a document marker
+    /// (c-forbidden, production 206).
     pub fn is_forbidden(&self, i: usize) -> bool
         requires { i < length self.now.lines }
         ensures line { IfSome (slice_get self.now.lines i)
@@ -106,9 +106,9 @@ impl<'a> LineTable<'a> {
         is_forbidden_line(self.text, start)
     }
 
-    /// The place of the offset: its line and column, both from 1.
+    /// Returns the position of the offset: its line and column, both from 1.
     ///
-    /// The line is found by halving, and the column by counting the characters of that line alone.
+    /// A binary search finds the line. The column takes one pass over the characters of only that line.
     pub fn place(&self, offset: usize) -> Position
         requires { IsCharBoundary self.now.text offset }
         ensures place { PlaceOf self.now.text offset result.line result.column }
@@ -134,7 +134,7 @@ impl<'a> LineTable<'a> {
     }
 }
 
-// The column of the offset, from 1, in the line that begins at `start`.
+// Returns the column of the offset, from 1, in the line that begins at `start`.
 fn column_in_line(text: &str, start: usize, offset: usize) -> usize
     requires start { IsCharBoundary text.now start }
     requires offset { IsCharBoundary text.now offset }
@@ -147,7 +147,7 @@ fn column_in_line(text: &str, start: usize, offset: usize) -> usize
     column_from(text, at, 1, offset)
 }
 
-/// The column of the byte offset, from that of an earlier one in its line on.
+/// Returns the column of the byte offset, counted on from an earlier offset in its line.
 pub fn column_from(text: &str, from: usize, column: usize, offset: usize) -> usize
     requires from { IsCharBoundary text.now from }
     requires offset { IsCharBoundary text.now offset }
@@ -170,7 +170,7 @@ pub fn column_from(text: &str, from: usize, column: usize, offset: usize) -> usi
     reached
 }
 
-// Whether the line that begins at the offset is forbidden.
+// Returns whether the line that begins at the offset is forbidden.
 fn is_forbidden_line(text: &str, start: usize) -> bool
     requires { IsCharBoundary text.now start }
     ensures { MatchBool result (IsForbiddenLine text.now start) (IsForbiddenLine text.now start → ⊥) }
@@ -179,7 +179,7 @@ fn is_forbidden_line(text: &str, start: usize) -> bool
     is_marker_at(text, at)
 }
 
-/// The offset after all byte order marks that are at the offset.
+/// Returns the offset after all byte order marks at the offset.
 pub fn skip_marks(text: &str, at: usize) -> usize
     requires { IsCharBoundary text.now at }
     ensures marks { Marks text.now at result }
@@ -193,7 +193,7 @@ pub fn skip_marks(text: &str, at: usize) -> usize
     end
 }
 
-// The line that begins at the offset.
+// Returns the line that begins at the offset.
 fn read_line(text: &str, start: usize) -> Line
     requires inside { start < length text.now }
     requires boundary { IsCharBoundary text.now start }

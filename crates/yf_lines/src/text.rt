@@ -1,11 +1,11 @@
-//! Texts that are slices of their source where they can be.
+//! Texts that are slices of their source if possible.
 ghost use Rattle.std.specs.Prelude.{◌≡◌, List, ℕ};
 ghost use Rattle.std.specs.String.{string_bytes};
 
 use crate::fault::Fault;
 use std::marker::Model;
 
-/// A text of one's own. In a contract it is the list of its bytes, which are UTF-8.
+/// An owned text. Contracts see the list of its bytes, which are UTF-8.
 #[derive(Debug, Drop)]
 pub struct OwnedText {
     string: String,
@@ -18,7 +18,7 @@ impl Model for OwnedText {
 }
 
 impl OwnedText {
-    /// The same text as a `String`.
+    /// Creates a text from a `String`.
     pub fn new(string: String) -> OwnedText
         ensures { result ≡ string_bytes string }
     {
@@ -32,24 +32,23 @@ impl OwnedText {
     }
 }
 
-/// A text: a slice of the source, or a text of its own where what is meant is not what is written.
+/// A text: a slice of the source, or an owned text if its meaning differs from the source.
 #[derive(Drop)]
 pub enum Text<'a> {
     Part(&'a str),
     Owned(OwnedText),
 }
 
-/// What a reader of texts answers: the text that is there with the offset after it, `None` where none is, or a
-/// refusal.
+/// The result of a reader of texts: a text and the offset after it, `None` if there is none, or a refusal.
 pub type FoundText<'a> = ReadResult<(Text<'a>, usize)>;
 
-/// What a reader answers: what was read, `None` where nothing of the kind is there, or a refusal.
+/// The result of a reader: the value read, `None` if nothing of its kind is at the offset, or a refusal.
 pub type ReadResult<T> = Result<Option<T>, Fault>;
 
 impl Text<'_> {
     ghost use Rattle.yf_lines.specs.Text.{text_bytes};
 
-    /// The text's characters.
+    /// Returns the text's characters.
     pub fn as_str(&self) -> &str
         ensures { result.now ≡ text_bytes self.now }
     {

@@ -4,7 +4,7 @@ ghost use Rattle.std.specs.Prelude.{◌≡◌, ◌<◌, [], ◌∷◌, ◌++◌,
 use std::alloc::{AllocError, Global};
 use std::marker::Model;
 
-/// Values in order. In a contract it is the list of them.
+/// Values in order. Contracts see the list of the values.
 #[derive(Drop)]
 pub struct Values<T> {
     list: Vec<T>,
@@ -19,7 +19,7 @@ impl<T> Model for Values<T> {
 }
 
 impl<T> Values<T> {
-    /// No value; this asks for no memory.
+    /// Creates an empty list. Allocates no memory.
     pub fn new(alloc: Global) -> Values<T>
         ensures { result ≡ [] }
     {
@@ -34,7 +34,7 @@ impl<T> Values<T> {
         self.list.len()
     }
 
-    /// The value at an index.
+    /// Returns the value at an index.
     pub fn at(&self, i: usize) -> &T
         requires { i < length self.now }
         ensures { slice_get self.now i ≡ Some result.now }
@@ -42,7 +42,7 @@ impl<T> Values<T> {
         &self.list[i]
     }
 
-    /// The first value, if there is any.
+    /// Returns the first value, if any.
     pub fn first(&self) -> Option<&T>
         ensures { MatchOption result (self.now ≡ []) (λ first. (more : List T) × (self.now ≡ first.now ∷ more)) }
     {
@@ -68,7 +68,7 @@ impl<T: Drop> Values<T> {
         Ok(())
     }
 
-    /// Keeps the first values alone.
+    /// Keeps only the first `count` values.
     pub fn truncate(&mut self, count: usize)
         ensures { self.new ≡ take count self.old }
     {

@@ -1,4 +1,4 @@
-//! Readers and writers that tell whether they have failed.
+//! Readers and writers that remember a failure.
 ghost use Rattle.std.specs.Prelude.{◌≡◌, Bool, true, false};
 ghost use Rattle.std.specs.Io.{ReadsAtMost, WritesAtMost};
 ghost use Rattle.std.specs.Io.KnownBytes.{ReadConsumes, WriteAppends, Keeps};
@@ -6,48 +6,48 @@ ghost use Rattle.std.specs.Io.KnownBytes.{ReadConsumes, WriteAppends, Keeps};
 use std::io;
 use std::io::{Read, Write};
 
-/// A reader that tells whether a read of it has failed.
+/// A reader that remembers whether one of its reads has failed.
 pub trait Source: Read {
     ghost use Rattle.yf_lines.specs.Watched.{Notes};
 
     // A read has failed.
     ghost has_failed: { Self → Bool };
 
-    /// Reads as `read` does, and notes a failure.
+    /// Reads like `read`, and notes a failure.
     fn read_watched(&mut self, buffer: &mut [u8]) -> io::Result<usize>
         ensures bound { ReadsAtMost result buffer.new }
         ensures bytes { ReadConsumes (Self.remaining self.old) (Self.remaining self.new) result buffer.new }
         ensures note { Notes (has_failed self.old) (has_failed self.new) result };
 
-    /// True from the first read on that failed.
+    /// Returns whether a read has failed.
     fn failed(&self) -> bool
         ensures { result ≡ has_failed self.now };
 }
 
-/// A writer that tells whether a call of it has failed. A write that takes none of its bytes counts as failed.
+/// A writer that remembers whether one of its calls has failed. A write that takes none of its bytes is a failure.
 pub trait Sink: Write {
     ghost use Rattle.yf_lines.specs.Watched.{Notes, WriteNotes};
 
     // A call has failed.
     ghost has_failed: { Self → Bool };
 
-    /// Writes as `write` does, and notes a failure.
+    /// Writes like `write`, and notes a failure.
     fn write_watched(&mut self, bytes: &[u8]) -> io::Result<usize>
         ensures bound { WritesAtMost result bytes.now }
         ensures bytes { WriteAppends (Self.contents self.old) (Self.contents self.new) result bytes.now }
         ensures note { WriteNotes (has_failed self.old) (has_failed self.new) result bytes.now };
 
-    /// Writes out what is held back, as `flush` does, and notes a failure.
+    /// Flushes like `flush`, and notes a failure.
     fn flush_watched(&mut self) -> io::Result<()>
         ensures bytes { Keeps (Self.contents self.old) (Self.contents self.new) }
         ensures note { Notes (has_failed self.old) (has_failed self.new) result };
 
-    /// True from the first call on that failed.
+    /// Returns whether a call has failed.
     fn failed(&self) -> bool
         ensures { result ≡ has_failed self.now };
 }
 
-/// Makes a `Source` of any reader and a `Sink` of any writer.
+/// Makes a `Source` from any reader and a `Sink` from any writer.
 #[derive(Drop)]
 pub struct Watched<T> {
     inner: T,
@@ -68,14 +68,14 @@ impl<T> Watched<T> {
         }
     }
 
-    /// The reader or writer itself.
+    /// Returns the reader or writer.
     pub fn get_ref(&self) -> &T
         ensures { result.now ≡ watched_inner self.now }
     {
         &self.inner
     }
 
-    // A call has failed.
+    // Notes a failure.
     fn note_failure(&mut self)
         ensures inner { watched_inner self.new ≡ watched_inner self.old }
         ensures failed { watched_failed self.new ≡ true }
@@ -83,7 +83,7 @@ impl<T> Watched<T> {
         self.failed = true;
     }
 
-    /// Gives the reader or writer back.
+    /// Unwraps the reader or writer.
     pub fn into_inner(self) -> T
         ensures { result ≡ watched_inner self }
     {

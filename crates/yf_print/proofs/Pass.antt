@@ -1,4 +1,4 @@
--- what the printer writes, step by step
+-- the printer, step by step
 pub mod LookLemmas
 pub mod AwaitedLemmas
 pub mod DraftLemmas

@@ -1,4 +1,5 @@
--- the rows of a normal reading, the columns of comments, and how it is found whether the first `---` is left out
+-- the rows of a normal reading, the columns of comments, and the search for a comment that decides about the first
+-- `---`
 pub mod Rows
 pub mod CommentColumns
 pub mod SourceColumns

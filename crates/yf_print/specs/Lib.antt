@@ -1,4 +1,4 @@
--- the rows of a normal reading, the columns of comments, and whether the first `---` is left out
+-- the rows of a normal reading, the columns of comments, and whether to leave out the first `---`
 pub mod Layouts
--- what the passes do, event by event
+-- the passes, event by event
 pub mod Passes

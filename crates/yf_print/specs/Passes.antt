@@ -1,4 +1,4 @@
--- what the passes do, event by event
+-- the passes, event by event
 pub mod TrailPass
 pub mod PrintWork
 pub mod PrintPass

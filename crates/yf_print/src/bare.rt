@@ -1,4 +1,4 @@
-//! Whether the `---` of the first document is left out.
+//! Decides whether to leave out the `---` of the first document.
 ghost use Rattle.std.specs.Prelude.{◌≡◌};
 ghost use Rattle.yf_print.specs.Layouts.BareSearch as BareSearch;
 ghost use Rattle.yf_forms.specs.NormalForms.BareStart as BareStart;
@@ -8,7 +8,7 @@ use yf_events::reading::Reading;
 use yf_forms::form::comments_before::first_after;
 use yf_forms::style::{DocumentStart, Style};
 
-/// Whether the first document has no `---` in the text.
+/// Returns whether the first document has no `---` in the text.
 fn begins_bare(reading: &Reading) -> bool
     ensures { result ≡ BareStart.begins_bare reading.now.events }
 {
@@ -21,7 +21,8 @@ fn begins_bare(reading: &Reading) -> bool
     false
 }
 
-/// Whether the first comment after the beginning of the first document is before the first leaf with characters, and before the next document.
+/// Returns whether the first comment after the start of the first document is before the first leaf with characters and
+/// before the next document.
 fn is_led(reading: &Reading) -> bool
     ensures { result ≡ BareSearch.is_led reading.now }
 {
@@ -37,7 +38,7 @@ fn is_led(reading: &Reading) -> bool
     false
 }
 
-/// Whether the `---` of the first document is left out: where the text has none, and the style keeps it so.
+/// Returns whether to leave out the `---` of the first document: the text has none, and the style keeps it so.
 pub(crate) fn is_bare(reading: &Reading, style: &Style) -> bool
     ensures { result ≡ BareSearch.is_found_bare reading.now style.now }
 {

@@ -1,4 +1,4 @@
-//! The texts of comments, as they are printed.
+//! Prints the texts of comments.
 ghost use Rattle.std.specs.Prelude.{◌≡◌, ◌++◌, map, OnOk};
 ghost use Rattle.std.specs.String.{string_bytes};
 ghost use Rattle.yf_comments.specs.Comment.{comment_value};
@@ -8,7 +8,7 @@ ghost use Rattle.yf_print.specs.Passes.Drafts.{trailing_if};
 use std::alloc::AllocError;
 use yf_comments::comment::Comment;
 
-/// A text without the white space at its end.
+/// Returns a text without the white space at its end.
 fn without_whites(text: &str) -> &str
     ensures { result.now ≡ trimmed text.now }
 {
@@ -22,7 +22,7 @@ pub(crate) fn push_comment(out: &mut String, comment: &Comment) -> Result<(), Al
     out.push_str(without_whites(comment.text))
 }
 
-/// Appends a comment after a text, two spaces from it.
+/// Appends a comment, two spaces after a text.
 #[inline(never)]
 fn push_after_space(out: &mut String, comment: &Comment) -> Result<(), AllocError>
     ensures { OnOk result (string_bytes out.new ≡ string_bytes out.old ++ after_two_spaces (comment_value comment.now)) }
@@ -31,7 +31,7 @@ fn push_after_space(out: &mut String, comment: &Comment) -> Result<(), AllocErro
     push_comment(out, comment)
 }
 
-/// Appends the comment at an index, where there is one, after a text.
+/// Appends the comment at an index, if any, two spaces after a text.
 #[inline(always)]
 pub(crate) fn push_after_space_if(
     out: &mut String,

@@ -1,4 +1,4 @@
-//! The layout of a normal reading: one pass over its events. Columns count from 0 here.
+//! Prints a normal reading in one pass over its events. Columns count from 0.
 ghost use Rattle.std.specs.Prelude.{◌<◌, ◌≡◌, ◌≤◌, length, OnOk, IfOk};
 ghost use Rattle.std.specs.String.{string_bytes};
 ghost use Rattle.yf_events.specs.Event.{event_value, props_of};
@@ -27,16 +27,16 @@ use yf_forms::style::Style;
 #[derive(Drop)]
 pub(crate) struct Printer {
     output: Output,
-    /// The block collections that are open, the innermost last.
+    /// The open block collections, the innermost last.
     levels: Vec<PrintFrame>,
     /// How many documents have begun.
     documents: usize,
-    /// The index of the last event that needs no look.
+    /// The index of the last event that was printed or skipped.
     done: usize,
 }
 
 impl Printer {
-    /// Prints a leaf, an empty node or a flow collection that is kept.
+    /// Prints a leaf, an empty node or a kept flow collection.
     #[inline(always)]
     fn leaf(&mut self, page: &PrintContext, i: usize, role: Role) -> Result<(), AllocError>
         requires { i < length page.now.reading.now.events }
@@ -47,7 +47,7 @@ impl Printer {
         Ok(())
     }
 
-    /// Begins a block collection, or prints a collection that is kept or empty.
+    /// Begins a block collection, or prints a kept or empty collection.
     #[inline(always)]
     fn collection(
         &mut self,
@@ -69,7 +69,7 @@ impl Printer {
         Ok(())
     }
 
-    /// Prints the node that the event begins, or begins it where it is a block collection.
+    /// Prints the node that the event begins, or begins it if it is a block collection.
     #[inline(always)]
     fn node_at(&mut self, page: &PrintContext, i: usize, role: Role) -> Result<(), AllocError>
         requires { i < length page.now.reading.now.events }
@@ -83,7 +83,7 @@ impl Printer {
         }
     }
 
-    /// Prints what is before the node that the event begins, and the node.
+    /// Prints the sign before the node that the event begins, and the node.
     fn node(&mut self, page: &PrintContext, i: usize) -> Result<(), AllocError>
         requires { i < length page.now.reading.now.events }
         ensures { OnOk result (state_of self.new ≡ Printing.node (work_on page.now) i (measure_at page.now i) (form_at page.now i)
@@ -104,7 +104,7 @@ impl Printer {
         Ok(())
     }
 
-    /// Goes past one event.
+    /// Passes one event.
     #[inline(always)]
     fn event(&mut self, page: &PrintContext, i: usize, event: &Event) -> Result<(), AllocError>
         requires { i < length page.now.reading.now.events }
@@ -131,7 +131,7 @@ impl Printer {
         }
     }
 
-    /// Goes past one event, which gets no look where it is within a node that is printed.
+    /// Passes one event, but skips it if it is within a printed node.
     #[inline(always)]
     fn advance(&mut self, page: &PrintContext, i: usize) -> Result<(), AllocError>
         requires { i < length page.now.reading.now.events }
@@ -144,7 +144,7 @@ impl Printer {
     }
 }
 
-/// The text that is printed of a page.
+/// Returns the printed text of a page.
 fn text_of(page: &PrintContext) -> Result<String, AllocError>
     ensures printed { IfOk result (λ text. string_bytes text ≡ Printing.printed (work_on page.now)) }
     ensures within { IfOk result (λ text. length (string_bytes text) ≤ LONGEST) }
@@ -162,7 +162,7 @@ fn text_of(page: &PrintContext) -> Result<String, AllocError>
     output.finish(page)
 }
 
-/// The text that is printed of a reading by what was measured of it and by the forms of its nodes.
+/// Prints a reading from its measures and the forms of its nodes.
 pub fn layout_by(
     alloc: Global,
     text: &str,

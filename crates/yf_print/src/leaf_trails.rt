@@ -1,4 +1,4 @@
-//! Which comment trails which leaf, in four bytes for each event.
+//! The comments that trail leaves, in four bytes for each event.
 ghost use Rattle.std.specs.Prelude.{◌≡◌, get_or, length, replicate, set, None, Some, IfOk};
 ghost use Rattle.yf_print.specs.Layouts.LeafTrails.{counted};
 
@@ -6,10 +6,10 @@ use std::alloc::{AllocError, Global};
 use std::marker::Model;
 use yf_lines::packed_lines::narrow;
 
-/// For each event that begins a leaf, the index of the comment that trails it. In a contract it is the list of them.
+/// For each event that begins a leaf, the index of the comment that trails it. Contracts see the list of these indices.
 #[derive(Drop)]
 pub struct LeafTrails {
-    /// The index and one, or 0.
+    /// The index plus one, or 0 for none.
     list: Vec<u32>,
 }
 
@@ -23,7 +23,7 @@ impl Model for LeafTrails {
 }
 
 impl LeafTrails {
-    /// So many events whose leaves no comment trails.
+    /// Returns a list for `count` events, with no trailing comments.
     pub(crate) fn none(alloc: Global, count: usize) -> Result<LeafTrails, AllocError>
         ensures { IfOk result (λ trails. trails ≡ replicate count None) }
     {
@@ -31,7 +31,7 @@ impl LeafTrails {
         Ok(LeafTrails { list })
     }
 
-    /// Notes the comment that trails the leaf that an event begins.
+    /// Sets the comment that trails the leaf that an event begins.
     pub(crate) fn set(&mut self, event: usize, k: usize) -> Result<(), AllocError>
         ensures { IfOk result (λ _. self.new ≡ set self.old event (Some k)) }
     {
@@ -45,7 +45,7 @@ impl LeafTrails {
         Ok(())
     }
 
-    /// The index of the comment that trails the leaf that the event at an index begins.
+    /// Returns the index of the comment that trails the leaf that the event at an index begins.
     pub(crate) fn at(&self, i: usize) -> Option<usize>
         ensures { result ≡ get_or self.now i None }
     {

@@ -1,5 +1,4 @@
-//! Printing the nodes whose text goes to a line: scalars, aliases, and flow collections that are kept or empty. Columns
-//! count from 0 here.
+//! Prints the nodes that go on one line: scalars, aliases, and kept or empty flow collections. Columns count from 0.
 ghost use Rattle.std.specs.Prelude.{◌<◌, ◌≡◌, ◌+◌, drop, length, map, slice_get, OnOk, IfOk, Some};
 ghost use Rattle.yf_forms.specs.Passes.DecidePass as Deciding;
 ghost use Rattle.yf_print.specs.Passes.Drafts.{draft, with_text};
@@ -18,7 +17,7 @@ use yf_forms::form::keys::has_space;
 use yf_forms::text::block::{is_kept_whole, push_folded, push_header, push_literal, push_spaces};
 use yf_forms::text::written::push_scalar;
 
-/// Prints what is before the value of a key without `?`, in an entry at that column.
+/// Prints the separation before the value of a key without `?`, in an entry at that column.
 fn before_value(
     output: &mut Output,
     page: &PrintContext,
@@ -35,7 +34,7 @@ fn before_value(
     output.open_line(page, column.saturating_add(page.plan.style.indent))
 }
 
-/// Prints what is between the line so far and a node that has characters, which the event at an index begins.
+/// Prints the separation between the line so far and a node with characters, which the event at an index begins.
 #[inline(always)]
 fn before_text(
     output: &mut Output,
@@ -55,7 +54,7 @@ fn before_text(
     }
 }
 
-/// The column of the lines of a block scalar.
+/// Returns the column of the lines of a block scalar.
 fn column_of_lines(indent: usize, role: Role) -> usize
     ensures { result ≡ lines_column indent role }
 {
@@ -65,7 +64,7 @@ fn column_of_lines(indent: usize, role: Role) -> usize
     }
 }
 
-/// Prints a scalar of a block style: its header on the line, and its lines after that.
+/// Prints a block scalar: its header on the line, and its lines after that.
 fn push_block_scalar(
     output: &mut Output,
     plan: &Plan,
@@ -89,7 +88,7 @@ fn push_block_scalar(
     }
 }
 
-/// Prints the scalar that the event at an index is: its lines are looked up where it is written on them.
+/// Prints the scalar at an event. Its source lines are looked up only for a block style.
 #[inline(always)]
 fn push_scalar_node(
     output: &mut Output,
@@ -122,7 +121,7 @@ fn push_scalar_node(
     }
 }
 
-/// Prints a flow collection that is kept, or an empty one.
+/// Prints a kept or empty flow collection.
 fn push_collection(
     output: &mut Output,
     page: &PrintContext,
@@ -143,7 +142,7 @@ fn push_collection(
     )
 }
 
-/// Prints the text of a node that goes to the line: of the event at an index, with all up to the last one of the node.
+/// Prints a node that goes on the line: the events from an index to the node's last one.
 #[inline(always)]
 fn push_node(
     output: &mut Output,
@@ -167,7 +166,7 @@ fn push_node(
     }
 }
 
-/// Goes past the leaf that the event at an index begins, if it begins one, and notes the comment that trails it.
+/// Passes the leaf that the event at an index begins, if any, and adds the comment that trails it.
 #[inline(always)]
 fn note_leaf(
     output: &mut Output,
@@ -187,7 +186,7 @@ fn note_leaf(
     Ok(())
 }
 
-/// Goes past an entry and a leaf that the event at an index begins.
+/// Passes an entry and a leaf that the event at an index begins.
 #[inline(always)]
 fn note_event(output: &mut Output, page: &PrintContext, i: usize) -> Result<(), AllocError>
     requires { i < length page.now.reading.now.events }
@@ -200,7 +199,7 @@ fn note_event(output: &mut Output, page: &PrintContext, i: usize) -> Result<(), 
     note_leaf(output, page, i, is_leaf, span_at(page, i))
 }
 
-/// Goes past the entries and leaves within a node that is printed, whose events are from the one index to the other.
+/// Passes the entries and leaves within a printed node, with the events between two indices.
 fn note_within(
     output: &mut Output,
     page: &PrintContext,
@@ -221,7 +220,7 @@ fn note_within(
     Ok(())
 }
 
-/// Prints the `:` of a key, with a space before it or none.
+/// Prints the `:` of a key, after a space if `with_space`.
 fn push_mark(output: &mut Output, with_space: bool) -> Result<(), AllocError>
     ensures { OnOk result (draft output.new ≡ with_text (colon_text with_space) (draft output.old)) }
 {
@@ -231,7 +230,7 @@ fn push_mark(output: &mut Output, with_space: bool) -> Result<(), AllocError>
     output.line.push(':')
 }
 
-/// Prints the `:` after the node that the event at an index begins, where it is a key without `?`.
+/// Prints the `:` after the node that the event at an index begins, if the node is a key without `?`.
 #[inline(always)]
 fn push_colon(
     output: &mut Output,
@@ -250,7 +249,8 @@ fn push_colon(
     }
 }
 
-/// Prints a leaf, an empty node or a flow collection that is kept, and the `:` after a key, and answers the index of its last event.
+/// Prints a leaf, an empty node or a kept flow collection, and the `:` after a key. Returns the index of its last
+/// event.
 pub(crate) fn push_leaf(
     output: &mut Output,
     page: &PrintContext,

@@ -1,4 +1,4 @@
-//! Printing a normal reading: one pass over its events, by what was measured and decided of them.
+//! Prints a normal reading in one pass over its events, from measures and forms of its nodes.
 #![tactic(auto)]
 
 pub(crate) mod bare;

@@ -1,4 +1,4 @@
-//! What a printer looks at of the event at an index: each part alone, so that no more of the event is put together than is printed.
+//! Looks up single parts of the event at an index, so that the printer builds no part that it doesn't print.
 ghost use Rattle.std.specs.Prelude.{◌<◌, ◌≡◌, ◌++◌, length, map, not, OnOk};
 ghost use Rattle.std.specs.String.{string_bytes};
 ghost use Rattle.yf_events.specs.Event.{event_value, props_of};
@@ -11,7 +11,7 @@ use std::alloc::AllocError;
 use yf_events::event::{Entry, Event, Span};
 use yf_forms::text::written::{has_props, push_props};
 
-/// The event at an index.
+/// Returns the event at an index.
 #[inline(always)]
 pub(crate) fn event_at<'r>(page: &PrintContext<'r, '_>, i: usize) -> Event<'r>
     requires { i < length page.now.reading.now.events }
@@ -20,7 +20,7 @@ pub(crate) fn event_at<'r>(page: &PrintContext<'r, '_>, i: usize) -> Event<'r>
     page.reading.event(i)
 }
 
-/// The part of the text that the event at an index has.
+/// Returns the span of the event at an index.
 #[inline(always)]
 pub(crate) fn span_at(page: &PrintContext, i: usize) -> Option<Span>
     requires { i < length page.now.reading.now.events }
@@ -29,7 +29,7 @@ pub(crate) fn span_at(page: &PrintContext, i: usize) -> Option<Span>
     page.reading.span(i)
 }
 
-/// The entry that the event at an index begins.
+/// Returns the entry that the event at an index begins.
 #[inline(always)]
 pub(crate) fn entry_at(page: &PrintContext, i: usize) -> Option<Entry>
     requires { i < length page.now.reading.now.events }
@@ -38,7 +38,7 @@ pub(crate) fn entry_at(page: &PrintContext, i: usize) -> Option<Entry>
     page.reading.entry(i)
 }
 
-/// The lines of the scalar at an index, where it was read as a folded one; else none.
+/// Returns the lines of the scalar at an index if it was read as a folded scalar, otherwise none.
 pub(crate) fn folded_at<'r>(page: &PrintContext<'r, '_>, i: usize) -> &'r [&'r str]
     requires { i < length page.now.reading.now.events }
     ensures { map (λ line. line.now) result.now ≡ (placed_at page.now i).folded }
@@ -46,7 +46,7 @@ pub(crate) fn folded_at<'r>(page: &PrintContext<'r, '_>, i: usize) -> &'r [&'r s
     page.reading.folded_lines(i)
 }
 
-/// Whether the node that the event at an index begins has properties.
+/// Returns whether the node that the event at an index begins has properties.
 #[inline(always)]
 pub(crate) fn has_props_at(page: &PrintContext, i: usize) -> bool
     requires { i < length page.now.reading.now.events }
@@ -60,7 +60,7 @@ pub(crate) fn has_props_at(page: &PrintContext, i: usize) -> bool
     }
 }
 
-/// Appends the properties of that node. They are put together here alone, since most nodes have none.
+/// Appends the properties of that node. It is a separate function because most nodes have none.
 #[inline(never)]
 pub(crate) fn push_props_at(
     out: &mut String,
@@ -78,7 +78,7 @@ pub(crate) fn push_props_at(
     }
 }
 
-/// Appends the properties of that node with a space after them; nothing where there are none.
+/// Appends the properties of that node and a space, or nothing if it has none.
 #[inline(always)]
 pub(crate) fn push_props_before_at(
     out: &mut String,
@@ -95,7 +95,7 @@ pub(crate) fn push_props_before_at(
     out.push(' ')
 }
 
-/// Appends the properties of that node, where it has any.
+/// Appends the properties of that node, if it has any.
 #[inline(always)]
 pub(crate) fn push_props_if(
     out: &mut String,

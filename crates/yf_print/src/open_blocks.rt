@@ -1,4 +1,5 @@
-//! The block collections that are open, by the columns of their entries, and where a comment is among them. Columns count from 0 here.
+//! The open block collections, by the columns of their entries, and the column of a comment among them. Columns count
+//! from 0.
 ghost use Rattle.std.specs.Prelude.{◌≡◌, ◌≤◌, ◌<◌, ◌++◌, ◌∷◌, [], false, filter, length, nat_lt, reverse, take, true, IfOk, OnErr, OnOk};
 ghost use Rattle.std.specs.List.{All};
 ghost use Rattle.std.specs.List.Sorted.{IsNonDecreasingBy, IsPartitionPoint};
@@ -9,25 +10,25 @@ ghost use Rattle.yf_print.specs.Passes.HeldBlocks as Held;
 use std::alloc::{AllocError, Global};
 use std::marker::Model;
 
-/// A collection that is printed as a block.
+/// A collection that is printed in block style.
 #[derive(Clone, Copy)]
 pub struct OpenBlock {
-    /// The column of its first entry in the text that was read, where nothing but white space and the signs of entries is before it on
+    /// The column of its first entry in the source, if only white space and the signs of entries precede the entry on
     /// its line.
     pub source: Option<usize>,
-    /// The column at which its entries are printed.
+    /// The column of its printed entries.
     pub printed: usize,
     pub is_sequence: bool,
 }
 
-/// The collections that are open. In a contract it is the list of them, the innermost first.
+/// The open collections. Contracts see them as a list, the innermost first.
 ///
-/// Here the innermost is the last. Each one's entries are further right than those of the one around it (or it is a sequence at the column
-/// of a mapping), and no source column is left of one around it: so both are found by halving.
+/// Here the innermost is the last. The entries of each are further right than those of the one around it, or it is a
+/// sequence at the column of a mapping; and no source column is left of one around it. So a binary search finds both.
 #[derive(Drop)]
 pub struct OpenBlocks {
     all: Vec<OpenBlock>,
-    /// Those that have a column in the text that was read.
+    /// The collections with a source column.
     sourced: Vec<OpenBlock>,
 }
 
@@ -53,7 +54,7 @@ impl OpenBlocks {
         }
     }
 
-    /// Notes that nothing is open.
+    /// Ends all collections.
     pub(crate) fn clear(&mut self)
         ensures { self.new ≡ [] }
     {
@@ -61,7 +62,7 @@ impl OpenBlocks {
         self.sourced.clear();
     }
 
-    /// Notes that these entries have begun.
+    /// Begins these entries.
     pub(crate) fn push_entries(&mut self, entries: &[OpenBlock]) -> Result<(), AllocError>
         ensures { OnOk result (self.new ≡ after_blocks entries.now self.old) }
     {
@@ -71,7 +72,8 @@ impl OpenBlocks {
         Ok(())
     }
 
-    /// The column of a comment that was at that column, before a line that begins with these entries, or with a leaf alone.
+    /// Returns the column of a comment from that source column, before a line that begins with these entries, or with a
+    /// leaf if there are none.
     pub(crate) fn column_in(
         &self,
         indent: usize,
@@ -92,7 +94,7 @@ impl OpenBlocks {
         self.column_before_entry(indent, may_be_further, next, column, starts[0])
     }
 
-    /// That before a document, and at the end.
+    /// Returns the column of a comment before a document or at the end.
     fn column_at_end(
         &self,
         indent: usize,
@@ -106,7 +108,7 @@ impl OpenBlocks {
         Ok(self.column_or(column, left.unwrap_or(next)))
     }
 
-    /// That before an entry of a collection.
+    /// Returns the column of a comment before an entry of a collection.
     fn column_before_entry(
         &self,
         indent: usize,
@@ -127,7 +129,7 @@ impl OpenBlocks {
         Ok(self.column_or(column, next))
     }
 
-    /// That before an entry of a collection that is open.
+    /// Returns the column of a comment before an entry of an open collection.
     fn column_inward(
         &self,
         indent: usize,
@@ -145,8 +147,8 @@ impl OpenBlocks {
         Ok(self.column_or(column, left.unwrap_or(next)))
     }
 
-    /// The column of the innermost collection whose entries were at that column; else the margin, for a comment that was there; else the
-    /// other column.
+    /// Returns the printed column of the innermost collection with that source column; otherwise the margin, for a
+    /// comment that was there; otherwise `other`.
     fn column_or(&self, column: usize, other: usize) -> usize
         ensures { result ≡ Columns.or_else (Columns.column_at column self.now) (Columns.at_margin column self.now other) }
     {
@@ -157,7 +159,7 @@ impl OpenBlocks {
     }
 }
 
-/// At the margin a comment stays there, where something is open.
+/// Returns the margin for a comment that was there, if a collection is open; otherwise `other`.
 fn margin_or(column: usize, all: &[OpenBlock], other: usize) -> usize
     ensures { result ≡ Columns.at_margin column (reverse all.now) other }
 {
@@ -169,7 +171,7 @@ fn margin_or(column: usize, all: &[OpenBlock], other: usize) -> usize
     other
 }
 
-/// Whether that is the column of a collection in the text that was read.
+/// Returns whether that is the source column of a collection.
 fn is_source(column: usize, source: Option<usize>) -> bool
     ensures { result ≡ Columns.is_source column source }
 {
@@ -179,7 +181,7 @@ fn is_source(column: usize, source: Option<usize>) -> bool
     }
 }
 
-/// Whether an entry of a collection ends another one.
+/// Returns whether an entry of a collection ends another one.
 fn is_ended_by(entry: OpenBlock, block: OpenBlock) -> bool
     ensures { result ≡ Columns.is_ended_by entry block }
 {
@@ -194,7 +196,7 @@ fn is_ended_by(entry: OpenBlock, block: OpenBlock) -> bool
     false
 }
 
-/// How many collections an entry doesn't end.
+/// Returns the number of collections that an entry doesn't end.
 fn left_open(entry: OpenBlock, blocks: &[OpenBlock]) -> usize
     requires { IsNonDecreasingBy Held.rank blocks.now }
     ensures within { result ≤ length blocks.now }
@@ -203,7 +205,7 @@ fn left_open(entry: OpenBlock, blocks: &[OpenBlock]) -> usize
     blocks.partition_point(|block| !is_ended_by(entry, *block))
 }
 
-/// How many collections an entry is within, without its own.
+/// Returns the number of collections around an entry, without its own.
 fn left_outside(entry: OpenBlock, blocks: &[OpenBlock]) -> usize
     requires { IsNonDecreasingBy Held.rank blocks.now }
     ensures within { result ≤ length blocks.now }
@@ -212,7 +214,7 @@ fn left_outside(entry: OpenBlock, blocks: &[OpenBlock]) -> usize
     blocks.partition_point(|block| is_ended_by(*block, entry))
 }
 
-/// Whether a collection is the innermost of the first so many.
+/// Returns whether a collection is the innermost of the first `count`.
 fn goes_on(entry: OpenBlock, blocks: &[OpenBlock], count: usize) -> bool
     requires { count ≤ length blocks.now }
     ensures { result ≡ Columns.goes_on entry (reverse (take count blocks.now)) }
@@ -224,7 +226,7 @@ fn goes_on(entry: OpenBlock, blocks: &[OpenBlock], count: usize) -> bool
     block.printed == entry.printed && block.is_sequence == entry.is_sequence
 }
 
-/// Notes that an entry has begun.
+/// Begins an entry.
 fn push_entry(
     all: &mut Vec<OpenBlock>,
     sourced: &mut Vec<OpenBlock>,
@@ -240,7 +242,7 @@ fn push_entry(
     push_block(all, sourced, placed_in(entry, sourced.as_slice()))
 }
 
-/// Drops what an entry ends, and tells whether the collection of the entry is the innermost of what is left.
+/// Ends the collections that an entry ends. Returns whether the entry's collection is the innermost of the others.
 fn end_blocks(all: &mut Vec<OpenBlock>, sourced: &mut Vec<OpenBlock>, entry: OpenBlock) -> bool
     requires { Held.IsHeld all.old.items sourced.old.items }
     ensures held { Held.IsHeld all.new.items sourced.new.items }
@@ -256,7 +258,7 @@ fn end_blocks(all: &mut Vec<OpenBlock>, sourced: &mut Vec<OpenBlock>, entry: Ope
     is_known
 }
 
-/// The collection of an entry within others: its source column counts where it isn't left of one of theirs.
+/// Returns an entry's collection within others. It keeps its source column if that isn't left of one of theirs.
 fn placed_in(entry: OpenBlock, sourced: &[OpenBlock]) -> OpenBlock
     requires { Held.IsSourced sourced.now }
     ensures { result ≡ Columns.placed_in entry (reverse sourced.now) }
@@ -277,7 +279,7 @@ fn placed_in(entry: OpenBlock, sourced: &[OpenBlock]) -> OpenBlock
     entry
 }
 
-/// Adds a collection within all, or leaves them as they are.
+/// Adds a collection within all others, or changes nothing if memory is refused.
 fn push_block(
     all: &mut Vec<OpenBlock>,
     sourced: &mut Vec<OpenBlock>,
@@ -292,7 +294,7 @@ fn push_block(
     Ok(())
 }
 
-/// Adds a collection if it has a column in the text that was read.
+/// Adds a collection if it has a source column.
 fn push_sourced(sourced: &mut Vec<OpenBlock>, block: OpenBlock) -> Result<(), AllocError>
     ensures pushed { OnOk result (sourced.new.items ≡ sourced.old.items ++ filter Held.has_source (block ∷ [])) }
     ensures kept { OnErr result (sourced.new.items ≡ sourced.old.items) }
@@ -304,7 +306,7 @@ fn push_sourced(sourced: &mut Vec<OpenBlock>, block: OpenBlock) -> Result<(), Al
     Ok(())
 }
 
-/// The column of a collection in the text that was read.
+/// Returns the source column of a collection, or 0.
 fn source_of(block: OpenBlock) -> usize
     ensures { result ≡ Held.source_of block }
 {
@@ -314,7 +316,7 @@ fn source_of(block: OpenBlock) -> usize
     }
 }
 
-/// The column of the innermost collection whose entries were at that column.
+/// Returns the printed column of the innermost collection with that source column.
 fn column_at(column: usize, blocks: &[OpenBlock]) -> Option<usize>
     requires { Held.IsSourced blocks.now }
     ensures { result ≡ Columns.column_at column (reverse blocks.now) }
@@ -330,7 +332,7 @@ fn column_at(column: usize, blocks: &[OpenBlock]) -> Option<usize>
     None
 }
 
-/// One indentation further in, where that may be.
+/// Returns a column one indentation further in, if `may_be`.
 fn further_in(indent: usize, may_be: bool, column: usize) -> Result<usize, AllocError>
     ensures { IfOk result (λ further. further ≡ Columns.further_in indent may_be column) }
 {
@@ -343,7 +345,7 @@ fn further_in(indent: usize, may_be: bool, column: usize) -> Result<usize, Alloc
     }
 }
 
-/// The column of the innermost collection whose entries were left of that column.
+/// Returns the printed column of the innermost collection with a source column left of that column.
 fn column_left(
     indent: usize,
     may_be_further: bool,

@@ -1,4 +1,4 @@
-//! The text that is printed, line by line. Columns count from 0 here.
+//! The printed text, line by line. Columns count from 0.
 ghost use Rattle.std.specs.Prelude.{◌≡◌, ◌++◌, ◌+◌, ◌≤◌, ◌&&◌, drop, length, map, Option, OnOk, IfOk};
 ghost use Rattle.std.specs.String.{string_bytes};
 ghost use Rattle.yf_comments.specs.Comment.{comment_value};
@@ -26,46 +26,47 @@ use yf_forms::text::block::push_spaces;
 use yf_forms::text::limit::limited;
 use yf_quoted::filled::push_if_filled;
 
-/// What has been printed, and the line that is being made: comments that are met meanwhile are before that line.
+/// The printed text and the current line. Comments that are met meanwhile go before that line.
 ///
-/// A text of more than `LONGEST` bytes is refused where its next line begins, and so are the lines of a block scalar: what is held has at
-/// most twice that and two lines. A line has at most `indent` bytes for each open collection, which are its column and its signs, and beside
-/// these a few for each byte of the source that is on it: four where U+007F is written as `\x7F`.
+/// A text of more than `LONGEST` bytes is refused when its next line begins, and so are the lines of a block scalar. So
+/// an `Output` holds at most twice that and two lines. A line has at most `indent` bytes for each open collection, for
+/// its column and its signs, and besides these a few bytes for each byte of the source on it: four if U+007F is written
+/// as `\x7F`.
 #[derive(Drop)]
 pub struct Output {
     text: String,
-    /// Whether a line is being made, and its column.
+    /// Whether a line is open, and its column.
     is_open: bool,
     column: usize,
     /// The text of the line, without its column.
     pub(crate) line: String,
-    /// The comments that trail its leaves, as they are after its text.
+    /// The comments that trail its leaves, as printed after its text.
     trails: String,
     /// The lines of a block scalar that begins in the line.
     pub(crate) body: String,
-    /// Whether a blank line is noted before the line's first entry.
+    /// Whether a blank line precedes the line's first entry.
     blank_before: bool,
-    /// Whether a blank line may be after the line.
+    /// Whether a blank line may follow the line.
     may_follow: bool,
-    /// How many comments have been met, and how many of them have been printed or trail.
+    /// How many comments were met, and how many of them were printed or trail.
     met: usize,
     passed: usize,
-    /// Whether a blank line may be after what is printed.
+    /// Whether a blank line may follow the printed text.
     blank_may_follow: bool,
-    /// The byte offset of the first item that was gone past since a line was printed.
+    /// The byte offset of the first item that was passed since the last line was printed.
     first: Option<usize>,
-    /// Where comments keep their blocks, the collections of which an entry begins on the line.
+    /// If comments keep their blocks, the collections with an entry that begins on the line.
     starts: Vec<OpenBlock>,
-    /// The last of these entries in the text that was read.
+    /// The source line of the last of these entries.
     known: KnownLine,
     /// Whether a leaf is on the line.
     has_leaf: bool,
-    /// The collections that are open on the line that was printed last, and whether that has no block scalar.
+    /// The open collections on the last printed line, and whether that line has no block scalar.
     chain: OpenBlocks,
     is_bodyless: bool,
 }
 
-/// Whether comments keep the blocks in which they were written.
+/// Returns whether comments keep the blocks in which they were written.
 #[tactic(auto, unfolding(crate::specs::Layouts::KeptColumns::keeps_blocks))]
 fn keeps(style: &Style) -> bool
     ensures { result ≡ keeps_blocks style.now }
@@ -76,7 +77,7 @@ fn keeps(style: &Style) -> bool
     }
 }
 
-/// Whether the offset is before an item, where there is one.
+/// Returns whether the offset is before an item, or there is no item.
 fn is_before(item: Option<usize>, offset: usize) -> bool
     ensures { result ≡ Drafts.is_before item offset }
 {
@@ -86,7 +87,7 @@ fn is_before(item: Option<usize>, offset: usize) -> bool
     }
 }
 
-/// Appends a line feed where a blank line is before the next line. A text of more than `LONGEST` bytes gets no next line.
+/// Appends a line feed if a blank line precedes the next line. Fails if the text has more than `LONGEST` bytes.
 fn push_blank(out: &mut String, is_blank: bool) -> Result<(), AllocError>
     ensures { OnOk result (string_bytes out.new ≡ string_bytes out.old ++ blank_text is_blank) }
 {
@@ -122,7 +123,7 @@ impl Output {
         }
     }
 
-    /// Goes past all comments that begin before the byte offset.
+    /// Passes all comments that begin before the byte offset.
     pub fn meet(&mut self, reading: &Reading, offset: usize)
         ensures { draft self.new ≡ Drafts.past reading.now.comments offset (draft self.old) }
     {
@@ -132,7 +133,7 @@ impl Output {
         }
     }
 
-    /// Prints the line that is being made, and begins the next one at that column.
+    /// Prints the current line, and begins the next one at that column.
     pub(crate) fn open_line(&mut self, page: &PrintContext, column: usize) -> Result<(), AllocError>
         ensures { OnOk result (draft self.new ≡ opened (remarks_of (work_on page.now)) column (draft self.old)) }
     {
@@ -144,7 +145,7 @@ impl Output {
         Ok(())
     }
 
-    /// Notes that an entry of a collection at that column begins on the line.
+    /// Begins an entry of a collection at that column on the line.
     pub(crate) fn mark_start(
         &mut self,
         page: &PrintContext,
@@ -179,21 +180,21 @@ impl Output {
         Ok(())
     }
 
-    /// Notes whether a blank line is before the first entry of the line.
+    /// Sets whether a blank line precedes the first entry of the line.
     pub fn set_blank_before(&mut self, blank_before: bool)
         ensures { draft self.new ≡ with_blank blank_before (draft self.old) }
     {
         self.blank_before = blank_before;
     }
 
-    /// Notes that no blank line may be after the line.
+    /// Forbids a blank line after the line.
     pub fn forbid_blank(&mut self)
         ensures { draft self.new ≡ without_blank (draft self.old) }
     {
         self.may_follow = false;
     }
 
-    /// Ends the line by the comment of a leaf, if it has one.
+    /// Adds the trailing comment of a leaf to the line, if there is one.
     #[inline(always)]
     pub fn add_trail(&mut self, reading: &Reading, comment: Option<usize>) -> Result<(), AllocError>
         ensures { OnOk result (draft self.new ≡ Drafts.with_trail reading.now.comments comment (draft self.old)) }
@@ -202,7 +203,7 @@ impl Output {
         push_after_space_if(&mut self.trails, reading.comments(), comment)
     }
 
-    /// Appends to the text of the line a comment, if there is one, that trails a key.
+    /// Adds the trailing comment of a key to the text of the line, if there is one.
     pub fn add_key_trail(
         &mut self,
         reading: &Reading,
@@ -213,7 +214,7 @@ impl Output {
         push_after_space_if(&mut self.line, reading.comments(), comment)
     }
 
-    /// Prints the line that is being made, with the comments that were met before it.
+    /// Prints the current line after the comments that were met before it.
     fn close_line(&mut self, page: &PrintContext) -> Result<(), AllocError>
         ensures { OnOk result (draft self.new ≡ closed (remarks_of (work_on page.now)) (draft self.old)) }
     {
@@ -224,7 +225,7 @@ impl Output {
         Ok(())
     }
 
-    /// Prints the line that is being made.
+    /// Prints the current line.
     fn push_line(&mut self) -> Result<(), AllocError>
         ensures { OnOk result (draft self.new ≡ Drafts.with_line (draft self.old)) }
     {
@@ -245,7 +246,7 @@ impl Output {
         Ok(())
     }
 
-    /// Notes which collections are open after the line.
+    /// Updates the collections that are open after the line.
     fn note_open(&mut self) -> Result<(), AllocError>
         ensures { OnOk result (draft self.new ≡ Drafts.with_open (draft self.old)) }
     {
@@ -261,7 +262,7 @@ impl Output {
         Ok(())
     }
 
-    /// Prints the comments that were met and do not trail, each on a line of its own at that column.
+    /// Prints the comments that were met and don't trail, each on a line of its own before a line at that column.
     #[inline(always)]
     fn push_own_lines(&mut self, page: &PrintContext, column: usize) -> Result<(), AllocError>
         ensures { OnOk result (draft self.new ≡ met_lines (remarks_of (work_on page.now)) column (draft self.old)) }
@@ -273,7 +274,8 @@ impl Output {
         Ok(())
     }
 
-    /// Prints the comments between two indices that do not trail, each on a line of its own before a line at that column.
+    /// Prints the comments between two indices that don't trail, each on a line of its own before a line at that
+    /// column.
     #[inline(always)]
     fn push_between(
         &mut self,
@@ -294,7 +296,7 @@ impl Output {
         Ok(())
     }
 
-    /// The column of a comment on a line of its own before a line at that column.
+    /// Returns the column of a comment on a line of its own before a line at that column.
     fn own_column(
         &self,
         page: &PrintContext,
@@ -333,7 +335,7 @@ impl Output {
         }
     }
 
-    /// Prints a comment that does not trail, on a line of its own at that column.
+    /// Prints a comment that doesn't trail, on a line of its own at that column.
     fn push_own_line(
         &mut self,
         comment: &Comment,
@@ -355,7 +357,8 @@ impl Output {
         Ok(())
     }
 
-    /// The whole text: with the last line, and after it the comments that are left. A text of more than `LONGEST` bytes is refused.
+    /// Prints the last line and the remaining comments, and returns the whole text. Fails if the text has more than
+    /// `LONGEST` bytes.
     pub(crate) fn finish(mut self, page: &PrintContext) -> Result<String, AllocError>
         ensures finished { IfOk result (λ text. string_bytes text ≡ Drafts.finished (remarks_of (work_on page.now)) (draft self)) }
         ensures within { IfOk result (λ text. length (string_bytes text) ≤ LONGEST) }

@@ -1,5 +1,5 @@
-//! What the printer is given, its frames, and what it prints round nodes: documents, entries, and the beginning of block
-//! collections. Columns count from 0 here.
+//! The context of the printer, its frames, and how it prints documents, entries, and the start of block collections.
+//! Columns count from 0.
 ghost use Rattle.std.specs.Prelude.{◌<◌, ◌≡◌, ◌++◌, ◌∷◌, ◌==◌, false, length, map, not, reverse, slice_get, OnOk, IfOk};
 ghost use Rattle.std.specs.String.{string_bytes};
 ghost use Rattle.yf_print.specs.Passes.Drafts.{draft};
@@ -23,7 +23,7 @@ use yf_forms::form::measures::Measures;
 use yf_forms::style::Style;
 use yf_forms::text::block::push_spaces;
 
-/// What is decided of a reading before it is printed.
+/// The decisions on a reading before it is printed.
 #[derive(Drop)]
 pub struct Plan {
     pub measures: Measures,
@@ -32,11 +32,11 @@ pub struct Plan {
     pub style: Style,
 }
 
-/// What is printed, what was decided of it, and the memory in which that is done.
+/// The reading to print, the plan for it, and the allocator.
 #[derive(Clone, Copy)]
 pub struct PrintContext<'r, 'a> {
     pub alloc: Global,
-    /// The text that was read.
+    /// The source.
     pub text: &'r str,
     pub reading: &'r Reading<'a>,
     pub plan: &'r Plan,
@@ -49,23 +49,23 @@ pub enum FrameState {
     Item,
     /// A key, or the end.
     Key,
-    /// The value of a key that is written without `?`.
+    /// The value of a key without `?`.
     Value,
-    /// The value of a key that is written with `?`: the entry that the key begins.
+    /// The value of a key with `?`, with the entry that the key begins.
     ExplicitValue(Option<Entry>),
 }
 
-/// A block collection whose end has not come yet.
+/// An open block collection.
 #[derive(Clone, Copy)]
 pub struct PrintFrame {
     /// The column of its entries.
     pub column: usize,
     pub awaited: FrameState,
-    /// Whether its first entry goes to the line that is being made.
+    /// Whether its first entry goes on the current line.
     pub is_inline: bool,
 }
 
-/// Where a node goes: the line that is being made holds what is before it.
+/// The role of a node. The current line holds the text before the node.
 #[derive(Clone, Copy)]
 pub enum Role {
     /// The root of a document, on a line of its own.
@@ -78,7 +78,7 @@ pub enum Role {
     Value(usize),
 }
 
-/// Appends a space where one is needed.
+/// Appends a space if one is needed.
 fn push_space_if(out: &mut String, is_needed: bool) -> Result<(), AllocError>
     ensures { OnOk result (string_bytes out.new ≡ string_bytes out.old ++ space_text is_needed) }
 {
@@ -88,7 +88,7 @@ fn push_space_if(out: &mut String, is_needed: bool) -> Result<(), AllocError>
     Ok(())
 }
 
-/// Appends words with a space between two of them.
+/// Appends words, with one space between them.
 fn push_words(out: &mut String, words: &[&str]) -> Result<(), AllocError>
     ensures { OnOk result (string_bytes out.new ≡ string_bytes out.old ++ joined_words (map (λ word. word.now) words.now)) }
 {
@@ -117,7 +117,7 @@ fn push_directives(
     Ok(())
 }
 
-/// Prints the `...` and directives of a document that has directives.
+/// Prints the directives of a document, after a `...` unless the document is the first. Prints nothing if it has none.
 fn push_document_directives(
     output: &mut Output,
     page: &PrintContext,
@@ -136,7 +136,7 @@ fn push_document_directives(
     push_directives(output, page, directives)
 }
 
-/// Begins a document on a line that was begun: its directives, and not yet the `---`.
+/// Prints the directives of a document, on a line that was begun, but not its `---`.
 fn begin_document(
     output: &mut Output,
     page: &PrintContext,
@@ -158,7 +158,7 @@ fn push_document_mark(output: &mut Output) -> Result<(), AllocError>
     Ok(())
 }
 
-/// Begins an entry, on a line of its own unless it is the first one of a collection that goes to the line.
+/// Begins an entry, on a line of its own unless it is the first one of an inline collection.
 fn begin_entry(
     output: &mut Output,
     page: &PrintContext,
@@ -182,7 +182,7 @@ fn begin_entry(
     Ok(())
 }
 
-/// Begins the value of a key with `?`, which began that entry.
+/// Begins the value of a key with `?`. `entry` is the one that the key began.
 fn begin_explicit_value(
     output: &mut Output,
     page: &PrintContext,
@@ -199,7 +199,7 @@ fn begin_explicit_value(
     output.line.push(':')
 }
 
-/// The byte offset of the `:` after a key.
+/// Returns the byte offset of the `:` after a key.
 fn colon_of(entry: Option<Entry>) -> Option<usize>
     ensures { result ≡ Printing.colon_of entry }
 {
@@ -209,8 +209,8 @@ fn colon_of(entry: Option<Entry>) -> Option<usize>
     }
 }
 
-/// Prints what is before the next node of a block collection, notes the node there, and answers where it goes. What the event
-/// at an index says of an entry is looked at where an item or a key begins.
+/// Prints the sign before the next node of a block collection, updates the frame, and returns the node's role. The
+/// entry of the event at an index is looked up only for an item or a key.
 #[inline(always)]
 fn next_role(
     output: &mut Output,
@@ -260,7 +260,7 @@ fn next_role(
     }
 }
 
-/// Prints what is before the node that the event at an index begins, and answers where the node goes.
+/// Prints the sign before the node that the event at an index begins, and returns the node's role.
 #[inline(always)]
 pub(crate) fn node_role(
     output: &mut Output,
@@ -282,7 +282,7 @@ pub(crate) fn node_role(
     Ok(Role::Root)
 }
 
-/// Prints what is before the properties of a block collection, or before its entries where it has none.
+/// Prints the separation before the properties of a block collection, or before its entries if it has none.
 fn before_collection(
     output: &mut Output,
     page: &PrintContext,
@@ -316,7 +316,7 @@ fn before_collection(
     }
 }
 
-/// Prints a block collection's properties, and begins it.
+/// Prints the properties of a block collection, and begins it.
 #[inline(always)]
 pub(crate) fn begin_collection(
     output: &mut Output,
@@ -343,7 +343,7 @@ pub(crate) fn begin_collection(
     Ok(())
 }
 
-/// Begins the next document, and answers how many have begun.
+/// Begins the next document, and returns how many have begun.
 pub(crate) fn next_document(
     output: &mut Output,
     page: &PrintContext,

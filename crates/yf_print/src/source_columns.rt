@@ -1,4 +1,4 @@
-//! Columns in the text that was read. They count from 0 here.
+//! Columns in the source. They count from 0.
 ghost use Rattle.std.specs.Prelude.{◌≡◌};
 ghost use Rattle.yf_chars.specs.Class.{is_break_char};
 ghost use Rattle.yf_chars.specs.Text.{code};
@@ -10,7 +10,7 @@ use yf_chars::text::is_char_at;
 use yf_events::event::Entry;
 use yf_lines::basic::{is_mark_at, is_white_at};
 
-/// An offset in a text, and where its line begins, if nothing but white space and the signs of entries is before it on the line.
+/// An offset in a text, and the start of its line if only white space and the signs of entries precede it on the line.
 #[derive(Clone, Copy)]
 pub struct KnownLine {
     pub offset: usize,
@@ -25,7 +25,7 @@ impl KnownLine {
     };
 }
 
-/// Whether a line break is there.
+/// Returns whether a line break is at the offset.
 fn is_break_at(text: &str, at: usize) -> bool
     ensures { result ≡ is_break_char (code text.now at) }
 {
@@ -35,7 +35,7 @@ fn is_break_at(text: &str, at: usize) -> bool
     is_char_at(text, at, b'\r')
 }
 
-/// Whether white space is there, or the sign of an entry where that counts too.
+/// Returns whether white space is at the offset, or, if `with_signs`, the sign of an entry.
 fn counts(text: &str, at: usize, with_signs: bool) -> bool
     ensures { result ≡ SourceColumns.counts with_signs (code text.now at) }
 {
@@ -48,7 +48,7 @@ fn counts(text: &str, at: usize, with_signs: bool) -> bool
     false
 }
 
-/// Whether the sign of an entry is there.
+/// Returns whether the sign of an entry is at the offset.
 fn is_sign_at(text: &str, at: usize) -> bool
     ensures { result ≡ SourceColumns.is_sign (code text.now at) }
 {
@@ -61,8 +61,8 @@ fn is_sign_at(text: &str, at: usize) -> bool
     is_char_at(text, at, b':')
 }
 
-/// Where the line of an offset begins, counted back as far as the offset of which that is known; `None` where others are before it on the
-/// line than those that count.
+/// Returns the start of an offset's line, searched back as far as the known offset, or `None` if the line has other
+/// characters before the offset than those that count.
 fn line_start(text: &str, known: KnownLine, offset: usize, with_signs: bool) -> Option<usize>
     ensures { result ≡ KnownLines.start_since (SourceColumns.counts with_signs) text.now known offset }
 {
@@ -83,7 +83,7 @@ fn line_start(text: &str, known: KnownLine, offset: usize, with_signs: bool) -> 
     known.start
 }
 
-/// The column of an offset by where its line begins.
+/// Returns the column of an offset from the start of its line.
 fn column_of(line: KnownLine) -> Option<usize>
     ensures { result ≡ KnownLines.column_of line }
 {
@@ -93,7 +93,8 @@ fn column_of(line: KnownLine) -> Option<usize>
     }
 }
 
-/// How many bytes of white space are between the start of the line and the offset; `None` where others are there.
+/// Returns how many bytes of white space are between the start of the line and the offset, or `None` if other
+/// characters are there.
 pub(crate) fn own_column(text: &str, offset: usize) -> Option<usize>
     ensures { result ≡ SourceColumns.own_column text.now offset }
 {
@@ -101,7 +102,7 @@ pub(crate) fn own_column(text: &str, offset: usize) -> Option<usize>
     column_of(KnownLine { offset, start })
 }
 
-/// Where the line of an entry begins, counted back to the one before it.
+/// Returns the start of an entry's line, searched back to the entry before it.
 fn known_at(text: &str, known: KnownLine, offset: usize) -> KnownLine
     ensures { result ≡ KnownLines.known_at text.now known offset }
 {
@@ -113,7 +114,7 @@ fn known_at(text: &str, known: KnownLine, offset: usize) -> KnownLine
     KnownLine { offset, start }
 }
 
-/// What is known after the first entry of a collection, if that has a place in the text.
+/// Returns the known line after the first entry of a collection, if the entry has an offset.
 pub(crate) fn known_after(text: &str, known: KnownLine, entry: Option<Entry>) -> KnownLine
     ensures { result ≡ KnownLines.known_after text.now known (starts_of_entry entry) }
 {
@@ -123,7 +124,7 @@ pub(crate) fn known_after(text: &str, known: KnownLine, entry: Option<Entry>) ->
     }
 }
 
-/// The column of that entry, by what is known after it.
+/// Returns the column of that entry, from the known line after it.
 pub(crate) fn source_column(line: KnownLine, entry: Option<Entry>) -> Option<usize>
     ensures { result ≡ KnownLines.column_if line (starts_of_entry entry) }
 {

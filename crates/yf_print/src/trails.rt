@@ -1,4 +1,4 @@
-//! Which comments are after the text of a line, at its end: they trail a leaf or a key.
+//! Finds the comments at the ends of lines, after other text: they trail a leaf or a key.
 ghost use Rattle.std.specs.Prelude.{◌≡◌, ◌<◌, ◌≤◌, false, get_or, length, map, replicate, set, slice_get, true, IfOk, None};
 ghost use Rattle.yf_comments.specs.Comment.{comment_value};
 ghost use Rattle.yf_print.specs.Passes.TrailPass as Trailing;
@@ -22,14 +22,14 @@ pub struct Trails {
 }
 
 impl Trails {
-    /// The index of the comment that trails the leaf that the event at an index begins.
+    /// Returns the index of the comment that trails the leaf that the event at an index begins.
     pub fn of_leaf(&self, i: usize) -> Option<usize>
         ensures { result ≡ get_or self.now.of_leaf i None }
     {
         self.of_leaf.at(i)
     }
 
-    /// Whether the comment at an index trails a leaf or a key.
+    /// Returns whether the comment at an index trails a leaf or a key.
     pub fn is_trailing(&self, k: usize) -> bool
         ensures { result ≡ get_or self.now.is_trailing.items k false }
     {
@@ -40,7 +40,7 @@ impl Trails {
     }
 }
 
-/// A leaf after which the next comment may be.
+/// A leaf that the next comment may trail.
 #[derive(Clone, Copy)]
 pub struct Leaf {
     pub event: usize,
@@ -50,7 +50,7 @@ pub struct Leaf {
     pub first: usize,
 }
 
-/// Notes that a comment trails.
+/// Marks a comment as trailing.
 fn take(is_trailing: &mut Vec<bool>, k: usize)
     ensures { is_trailing.new.items ≡ set is_trailing.old.items k true }
 {
@@ -59,7 +59,7 @@ fn take(is_trailing: &mut Vec<bool>, k: usize)
     }
 }
 
-/// Notes that a comment, if there is one, trails a key.
+/// Marks a comment, if any, as trailing a key.
 fn take_key(is_trailing: &mut Vec<bool>, comment: Option<usize>)
     ensures { is_trailing.new.items ≡ taken is_trailing.old.items comment }
 {
@@ -68,8 +68,8 @@ fn take_key(is_trailing: &mut Vec<bool>, comment: Option<usize>)
     }
 }
 
-/// Whether a comment that begins after the leaf's start, and before the next leaf, is inside of the leaf or on the line
-/// on which it ends.
+/// Returns whether a comment is within the leaf or on the line on which the leaf ends. The comment begins after the
+/// leaf's start and before the next leaf.
 fn is_at(reading: &Reading, end: usize, k: usize) -> bool
     ensures { result ≡ Trailing.is_at reading.now end k }
 {
@@ -83,7 +83,7 @@ fn is_at(reading: &Reading, end: usize, k: usize) -> bool
     false
 }
 
-/// Whether the first comment after a leaf trails it, where the next leaf begins after the comments before `until`.
+/// Returns whether the first comment after a leaf trails it. The next leaf begins after the comments before `until`.
 fn trails_leaf(trails: &Trails, reading: &Reading, leaf: &Leaf, until: usize) -> bool
     ensures { result ≡ Trailing.trails_leaf reading.now trails.now.is_trailing.items leaf.now until }
 {
@@ -96,7 +96,7 @@ fn trails_leaf(trails: &Trails, reading: &Reading, leaf: &Leaf, until: usize) ->
     false
 }
 
-/// Gives the leaf the first of the comments from its start to the one of the index `until`, if that trails it.
+/// Gives the leaf the first of the comments from its start to the index `until`, if that comment trails it.
 fn close(
     trails: &mut Trails,
     reading: &Reading,
@@ -114,7 +114,7 @@ fn close(
     Ok(())
 }
 
-/// The leaf that the event at an index begins, where it begins one; the comments before the index `from` begin before it.
+/// Returns the leaf that the event at an index begins, if any. The comments before the index `from` begin before it.
 fn leaf_at(
     reading: &Reading,
     measures: &Measures,
@@ -136,7 +136,7 @@ fn leaf_at(
     None
 }
 
-/// The index of the first comment after a leaf.
+/// Returns the index of the first comment after the leaf's start, or 0 if there is no leaf.
 fn first_of(leaf: Option<Leaf>) -> usize
     ensures { result ≡ Trailing.first_of leaf }
 {
@@ -146,7 +146,7 @@ fn first_of(leaf: Option<Leaf>) -> usize
     }
 }
 
-/// Goes past one event, which begins a leaf with this place in the text, or none, and answers the last leaf.
+/// Passes one event, which begins a leaf with this span, or none, and returns the last leaf.
 fn pass(
     trails: &mut Trails,
     reading: &Reading,
@@ -167,14 +167,14 @@ fn pass(
     }
 }
 
-/// How many comments there are.
+/// Returns the number of comments.
 fn comment_count(reading: &Reading) -> usize
     ensures { result ≡ length reading.now.comments }
 {
     reading.comments().len()
 }
 
-/// So many comments of which none trails.
+/// Returns a list for `count` comments, none of them trailing.
 fn none_trailing(alloc: Global, count: usize) -> Result<Vec<bool>, AllocError>
     ensures { IfOk result (λ list. list.items ≡ replicate count false) }
 {
@@ -182,7 +182,7 @@ fn none_trailing(alloc: Global, count: usize) -> Result<Vec<bool>, AllocError>
     Ok(list)
 }
 
-/// Notes the comments that trail a key.
+/// Marks the comments that trail a key.
 fn take_keys(is_trailing: &mut Vec<bool>, forms: &Forms)
     ensures { is_trailing.new.items ≡ keys_taken forms.now is_trailing.old.items }
 {
@@ -191,7 +191,7 @@ fn take_keys(is_trailing: &mut Vec<bool>, forms: &Forms)
     }
 }
 
-/// No comment trails yet but those that end the line of a key.
+/// Returns the trails of keys, without those of leaves.
 fn trails_of_keys(alloc: Global, reading: &Reading, forms: &Forms) -> Result<Trails, AllocError>
     ensures { IfOk result (λ trails. found trails ≡ (Trailing.start reading.now forms.now).found) }
 {
@@ -204,8 +204,8 @@ fn trails_of_keys(alloc: Global, reading: &Reading, forms: &Forms) -> Result<Tra
     })
 }
 
-/// Finds the comments that trail: those that end a key's line, and for each leaf the first comment after its start and before
-/// the next leaf, where it is inside of the leaf or on the line on which the leaf ends.
+/// Finds the comments that trail: those that end the line of a key, and for each leaf the first comment after its start
+/// and before the next leaf, if the comment is within the leaf or on the line on which the leaf ends.
 pub fn find_trails(
     alloc: Global,
     reading: &Reading,

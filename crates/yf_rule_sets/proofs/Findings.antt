@@ -1,4 +1,4 @@
--- `known_positions`, `columns_of`: places and columns of offsets, and going back from an offset
+-- `known_positions`, `columns_of`: positions and columns of offsets, and going back from an offset
 pub mod PlacesLemmas
 pub mod CursorLemmas
 pub mod BackLemmas

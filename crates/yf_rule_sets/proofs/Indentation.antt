@@ -1,4 +1,4 @@
--- indentation: what its passes find is its set
+-- indentation: its passes find its set
 pub mod EntryLemmas
 pub mod FaultLemmas
 pub mod QuietLemmas

@@ -1,8 +1,8 @@
--- `known_positions`, `columns_of`: places and columns of offsets, and going back from an offset
+-- `known_positions`, `columns_of`: positions and columns of offsets, and going back from an offset
 pub mod Findings
--- what is known of texts, lines and readings, for several rules
+-- facts about texts, lines and readings that several rules use
 pub mod Texts
--- each rule but indentation: what its pass finds is its set
+-- each rule except indentation: its pass finds its set
 pub mod RuleSets
--- indentation: what its passes find is its set
+-- indentation: its passes find its set
 pub mod Indentation

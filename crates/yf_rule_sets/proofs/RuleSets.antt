@@ -1,4 +1,4 @@
--- each rule but indentation: what its pass finds is its set
+-- each rule except indentation: its pass finds its set
 pub mod TrailingLemmas
 pub mod StyleLemmas
 pub mod DocumentLemmas

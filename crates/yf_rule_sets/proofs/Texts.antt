@@ -1,4 +1,4 @@
--- what is known of texts, lines and readings, for several rules
+-- facts about texts, lines and readings that several rules use
 pub mod ExactLemmas
 pub mod BegunLemmas
 pub mod NotedLemmas

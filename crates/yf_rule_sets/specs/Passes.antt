@@ -1,4 +1,4 @@
--- what a pass keeps on its way, for private clauses
+-- the state of passes, for private clauses
 pub mod LineFlags
 pub mod FarthestEnds
 pub mod BlockLines

@@ -1,5 +1,4 @@
--- The places at fault of each rule, as byte offsets in any order: what is at fault in a text with these lines and this reading
--- under this style.
+-- The faults of each rule, as byte offsets in any order, for a text with these lines and this reading under this style.
 use Rattle.std.specs.Prelude.{◌≡◌, ◌≢◌, ◌==◌, if◌then◌else◌, ℕ, List, [], ◌∷◌, length}
 use Rattle.yf_chars.specs.Text.{code}
 use Rattle.yf_lines.specs.Basic.{Break}
@@ -41,7 +40,7 @@ line_breaks_at src reading style offsets = offsets ≡ first_return src.text src
 abbrev pub trailing_blanks_at : Table → Lists → Style → List ℕ → Type 0
 trailing_blanks_at src reading style offsets = Exactly (TrailingBlank src reading) offsets
 
--- of a reading with trees, which it has exactly where it is well placed
+-- for a reading with trees, which it has if and only if it is well placed
 abbrev pub indentation_at : Table → Lists → Style → List ℕ → Type 0
 indentation_at src reading style offsets = (trees : List DocumentTree) → TreesOf reading trees → Exactly (IndentFault src style trees) offsets
 
@@ -57,7 +56,7 @@ byte_order_mark_at src reading style offsets = Exactly (LooseMark src.text readi
 abbrev pub blank_lines_at : Table → Lists → Style → List ℕ → Type 0
 blank_lines_at src reading style offsets = Exactly (MisplacedBlank src reading) offsets
 
--- of a reading with trees whose comments are in the order of the text
+-- for a reading with trees, with its comments in the order of the text
 abbrev pub flow_layout_at : Table → Lists → Style → List ℕ → Type 0
 flow_layout_at src reading style offsets =
     (trees : List DocumentTree) → TreesOf reading trees → CommentsAscend reading → Exactly (LayoutFault src reading style) offsets
@@ -68,11 +67,11 @@ comment_space_at src reading style offsets = Exactly (CloseComment src.text read
 abbrev pub line_length_at : Table → Lists → Style → List ℕ → Type 0
 line_length_at src reading style offsets = Exactly (BeyondLimit src style.max_line) offsets
 
--- of a reading with trees too
+-- for a reading with trees
 abbrev pub repeated_keys_at : Table → Lists → Style → List ℕ → Type 0
 repeated_keys_at src reading style offsets = (trees : List DocumentTree) → TreesOf reading trees → Exactly (RepeatedKey reading trees) offsets
 
--- of a reading as texts have them
+-- for a reading of a text
 abbrev pub key_mark_at : Table → Lists → Style → List ℕ → Type 0
 key_mark_at src reading style offsets = (w : IsTextual reading) → Exactly (NeedlessMark src reading style w.trees) offsets
 

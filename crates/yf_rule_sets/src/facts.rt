@@ -1,4 +1,4 @@
-//! What is known of a text and its reading, for several rules.
+//! Facts about a text and its reading that several rules use.
 
 pub mod block_keys;
 pub mod cursor;

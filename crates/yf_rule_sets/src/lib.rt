@@ -1,4 +1,4 @@
-//! What each rule of style finds: its set, and the function that finds it.
+//! The rules of style: for each, the set of its faults and the function that finds them.
 #![tactic(auto)]
 
 pub mod facts;

@@ -1,4 +1,4 @@
-//! The rules of style, each with its function in a file of `rules`.
+//! The rules of style. Each has its function in a file of `rules`.
 ghost use Rattle.std.specs.Prelude.{IfOk};
 ghost use Rattle.yf_rule_sets.specs.RuleOf.{definition_of};
 
@@ -22,37 +22,42 @@ use crate::facts::found::{FoundOffsets, Global, Reading, Src, Style};
 /// The rules, in the order of their numbers.
 #[derive(Clone, Copy)]
 pub enum StyleRule {
-    /// The first of the white space that ends a line, unless it is a content line of a block scalar.
+    /// The first character of the white space that ends a line, except on content lines of block scalars.
     TrailingBlanks,
-    /// The first entry of a block collection that is not at the column of the house style, and the header of a block scalar whose content is not.
+    /// The first entry of a block collection that is not at its column in the house style, and the header of a block
+    /// scalar with content that is not.
     Indentation,
-    /// The first character of content of a scalar whose style is not the one that the house style gives it.
+    /// The first character of the content of a scalar that is not in the style that the house style gives it.
     Quoting,
-    /// The first character of content of a document without `---`, and a `---` with more than white space after it on its line.
+    /// The first character of content of a document without `---`, except the first document if the style keeps it so,
+    /// and a `---` with more than white space after it on its line.
     DocumentStart,
     /// The end of a text that is not empty and does not end with a line break.
     FinalBreak,
     /// The break of the first line whose break is not a line feed.
     LineBreaks,
-    /// Each byte order mark outside of scalars. Marks that are together at the start of a line have one place.
+    /// Each byte order mark outside of scalars. Marks together at the start of a line have one position.
     ByteOrderMark,
-    /// A blank line that is the first line, follows another one or a `---` alone on its line, is directly before a document marker or a directive, or has only blank lines after it.
+    /// A blank line that is the first line, follows another one or a `---` with only white space after it, is directly
+    /// before a document marker or a directive, or has only blank lines after it.
     BlankLines,
-    /// The opening bracket of a flow collection, in no other one, that is not written as the house style writes it, or may not be kept there.
+    /// The opening bracket of an outermost flow collection that is not written as the house style writes it, or may not
+    /// be kept there.
     FlowLayout,
-    /// The `#` of a comment that has a character other than white before it on its line and not exactly two spaces directly before it.
+    /// The `#` of a comment that follows other text on its line, unless exactly two spaces are between them.
     CommentSpace,
-    /// The column after the longest line that the style allows, of a line that is longer.
+    /// The first character past the longest line that the style allows, of each longer line.
     LineLength,
-    /// The first character of a scalar key whose text and resolved tag are those of an earlier scalar key of its mapping.
+    /// A scalar key with the text and the resolved tag of an earlier scalar key of its mapping.
     RepeatedKeys,
-    /// The `?` of an entry of a block mapping whose key the house style writes without it.
+    /// The `?` of an entry of a block mapping, if the house style writes its key without it.
     KeyMark,
-    /// Each hidden character but a byte order mark that no quoted scalar holds, where the style escapes them between quotes.
+    /// Each hidden character outside of quoted scalars, except byte order marks, if the style escapes hidden
+    /// characters.
     HiddenCharacter,
 }
 
-/// The byte offsets at fault by a rule.
+/// Returns the byte offsets at fault by a rule.
 pub fn offsets_by(
     rule: StyleRule,
     alloc: Global,

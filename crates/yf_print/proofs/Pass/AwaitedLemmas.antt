@@ -1,4 +1,4 @@
--- The innermost block collection that is open, after the next node in it.
+-- The innermost open block collection, after the next node in it.
 use Rattle.std.proofs.Common.{◌≡◌, ℕ, ◌-◌, ◌<◌, false, List, ◌∷◌, length, set, get_or, reverse, sym, ap, ◌∙◌}
 use Rattle.std.specs.Prelude.{Option, Result, Ok, Err, OnOk}
 use Rattle.yf_events.specs.declared.event.Entry.{Entry}

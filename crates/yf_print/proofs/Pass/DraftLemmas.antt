@@ -1,4 +1,4 @@
--- The steps of the output, as the code takes them.
+-- The steps of the output in the code.
 use Rattle.std.proofs.Common.{◌≡◌, ℕ, zero, suc, ◌+◌, ◌-◌, ◌<◌, ◌≤◌, Bool, true, false, List, [], ◌∷◌, length, map, get_or, take, drop, Option, Some, refl, sym, ap, ◌∙◌, arith, add-one}
 use Rattle.std.specs.Prelude.{slice_get}
 use Rattle.yf_comments.specs.Comment.{CommentValue, comment_value}
@@ -52,7 +52,7 @@ own_end trailing h k end cs d all l f =
     let none : end - k ≡ 0 = omega arith in
     ap (λ w. own_lines trailing h k (take w (drop k cs)) d) (sym none) ∙ f
 
--- a comment on its line changes no column
+-- printing a comment on its line changes no column
 pub column_stays : (r : Remarks) (column : ℕ) (b : Bool) (n : ℕ) (c : CommentValue) (d new first : Draft) → new ≡ own_line_if b n c d
     → ((e : CommentValue) → line_column r column d e ≡ line_column r column first e) → (e : CommentValue) → line_column r column new e ≡ line_column r column first e
 column_stays r column b n c d new first h k e = ap (λ w. line_column r column w e) h ∙ (by b ∙ k e) where

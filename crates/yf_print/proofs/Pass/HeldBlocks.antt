@@ -1,4 +1,5 @@
--- What is found by halving among open collections, the innermost of which is the last, is what the definition finds one by one: which of them an entry ends.
+-- Binary search among open collections, the innermost last, finds the collections that an entry ends, as the definition
+-- does one by one.
 use Rattle.std.proofs.Common.{◌≡◌, ℕ, ◌-◌, ◌<◌, ◌≤◌, Bool, true, false, true≢false, List, [], ◌∷◌, ◌++◌, length, take, drop, get_or, reverse, Option, Some, None, Result, Ok, Err, refl, sym, ap, ◌∙◌, subst, arith, append-nil, append_assoc}
 use Rattle.std.specs.Prelude.{not, nat_lt, filter, is_some, if◌then◌else◌, OnErr, OnOk}
 use Rattle.std.specs.List.{All}
@@ -12,7 +13,7 @@ use Rattle.yf_print.specs.Layouts.CommentColumns.{OpenBlock, goes_on, innermost_
 use Rattle.yf_print.specs.Passes.HeldBlocks.{IsHeld, IsSourced, RanksFall, has_source, rank, source_of}
 use Rattle.yf_print.proofs.Pass.HeldLists.{All-reverse, ended_above, ends_above, falls_filter, falls_rest, filter-reverse, front_all, further_rank, left_below, leaves_below, on_top, one_cut, rest_all, reversed_parts, rises_reversed, same_rank}
 
--- What a search asks.
+-- The test of the search.
 
 pub ended_last : (y : OpenBlock) (bs : List OpenBlock) → IsNonDecreasingBy rank bs → IsPartitionedBy (λ b. not (is_ended_by y b)) bs
 ended_last y bs rises i j d a l e =
@@ -68,7 +69,7 @@ inward_past y (u ∷ us) vs a =
 abbrev pub CutBy : OpenBlock → List OpenBlock → ℕ → Type 0
 CutBy y bs i = IsPartitionPoint (λ b. is_ended_by y b ≡ false) (λ b. is_ended_by y b ≡ true) bs i
 
--- Where an entry's collections are cut off.
+-- The cut between the collections that an entry ends and the others.
 
 module _ (y : OpenBlock) (bs : List OpenBlock) (i : ℕ) (l : i ≤ length bs) (p : CutBy y bs i) where
   pub stay_all : All (λ b. is_ended_by y b ≡ false) (take i bs)
@@ -86,7 +87,7 @@ module _ (y : OpenBlock) (bs : List OpenBlock) (i : ℕ) (l : i ≤ length bs) (
       ∙ (not_ended_past y (reverse (drop i bs)) (reverse (take i bs)) ended_inner
       ∙ not_ended_here y (reverse (take i bs)) (All-reverse (λ b. is_ended_by y b ≡ false) (take i bs) stay_all))
 
--- Both lists are cut alike.
+-- Both lists have the same cut.
 
 pub held_cut : (y : OpenBlock) (all sourced : List OpenBlock) (i j : ℕ) → IsHeld all sourced → i ≤ length all → j ≤ length sourced
     → CutBy y all i → CutBy y sourced j
@@ -127,7 +128,7 @@ some_source b e = go b.source e where
   go None f = absurd (true≢false (sym f))
   go (Some n) f = refl
 
--- the innermost of those that have a column
+-- the innermost collection with a source column
 pub last_source : (sourced : List OpenBlock) (d : OpenBlock) → IsSourced sourced → 0 < length sourced
     → innermost_source (reverse sourced) ≡ Some (source_of (get_or sourced (length sourced - 1) d))
 last_source sourced d s l =
@@ -151,7 +152,7 @@ pub placed_in_sourced : (y : OpenBlock) (all sourced : List OpenBlock) → IsHel
 placed_in_sourced y all sourced h =
     ap (λ o. record y { source = unless_left o y.source }) (ap innermost_source (sym (sourced_reversed all sourced h)) ∙ sourced_innermost (reverse all))
 
--- which is not left of those around it
+-- its source column is not left of those around it
 right_of_last : (y : OpenBlock) (sourced : List OpenBlock) (d : OpenBlock) → IsSourced sourced → 0 < length sourced
     → has_source (placed_in y (reverse sourced)) ≡ true
     → source_of (get_or sourced (length sourced - 1) d) ≤ source_of (placed_in y (reverse sourced))
@@ -185,7 +186,7 @@ held_pushed y all sourced h a e = record {
   go true f = IsNonDecreasingBy-push source_of sourced block h.rises (λ d l. right_of_last y sourced d (held_sources all sourced h) l f)
   go false f = subst (λ z. IsNonDecreasingBy source_of z) (sym (append-nil sourced)) h.rises
 
--- What is open then.
+-- The open collections after an entry.
 
 pub opened_known : (y : OpenBlock) (bs now : List OpenBlock) → now ≡ not_ended y bs → goes_on y now ≡ true → now ≡ open_after y bs
 opened_known y bs now e f = ap (λ v. if v then now else placed_in y now ∷ now) (sym f) ∙ ap (λ z. if goes_on y z then z else placed_in y z ∷ z) e
@@ -212,12 +213,12 @@ opened_after y bs now left {all} {sourced} {seen} block (Ok v) h n e f g pushed 
     ∙ ap (λ z. z ∷ reverse all) (g ∙ (ap (λ z. placed_in y (reverse z)) f ∙ placed_in_sourced y all sourced h))))
 opened_after y bs now left block (Err v) h n e f g pushed = tt
 
--- Those from the entry's collection inward.
+-- The collections from the entry's own one inward.
 
 abbrev pub OuterBy : OpenBlock → List OpenBlock → ℕ → Type 0
 OuterBy y bs k = IsPartitionPoint (λ b. is_ended_by b y ≡ true) (λ b. is_ended_by b y ≡ false) bs k
 
--- what an entry ends, before what it doesn't
+-- the collections that an entry ends, before those that it doesn't end
 record Parted (y : OpenBlock) (bs : List OpenBlock) : Type 0 where
   ended : List OpenBlock
   is : bs ≡ ended ++ not_ended y bs

@@ -1,4 +1,5 @@
--- What is found by halving among open collections, the innermost of which is the last, is what the definition finds one by one: where a comment is among them.
+-- Binary search among open collections, the innermost last, finds the column of a comment, as the definition does one
+-- by one.
 use Rattle.std.proofs.Common.{◌≡◌, ℕ, ◌-◌, ◌<◌, ◌≤◌, Bool, true, false, true≢false, List, [], ◌∷◌, ◌++◌, length, take, drop, get_or, reverse, Option, Some, None, Result, refl, sym, ap, ◌∙◌, subst, arith, ⊎_elim, leb, ltb}
 use Rattle.std.specs.Prelude.{nat_lt, filter, is_some, if◌then◌else◌, IfOk}
 use Rattle.std.specs.List.{All}
@@ -13,7 +14,7 @@ use Rattle.yf_print.specs.Passes.HeldBlocks.{IsHeld, IsSourced, has_source, sour
 use Rattle.yf_print.proofs.Pass.HeldLists.{All-reverse, on_top, rest_all, reversed_parts}
 use Rattle.yf_print.proofs.Pass.HeldBlocks.{CutBy, OuterBy, inner_sources, left_is, some_source, sourced_reversed}
 
--- Those without a column in the text that was read don't count.
+-- Collections without a source column don't count.
 
 no_source : (k : ℕ) (o : Option ℕ) → is_some o ≡ false → is_source k o ≡ false
 no_source k None e = refl
@@ -52,7 +53,7 @@ left_among indent may k bs ss e = ap (column_left indent may k) (sym e) ∙ left
 pub sourced_drop : (n : ℕ) (bs : List OpenBlock) → IsSourced bs → IsSourced (drop n bs)
 sourced_drop n bs s = record { each = All-drop (λ b. has_source b ≡ true) n bs s.each; rises = IsNonDecreasingBy-drop source_of n bs s.rises }
 
--- The one at a column.
+-- The collection at a column.
 
 not_source : (k : ℕ) (b : OpenBlock) → (source_of b ≡ k → ⊥) → is_source k b.source ≡ false
 not_source k b f = go b.source f where
@@ -101,12 +102,12 @@ module _ (k : ℕ) (bs : List OpenBlock) (n : ℕ) (l : n ≤ length bs) (s : Is
         (λ (a : n ≤ j). let right : k < source_of (get_or bs j d) = leb-false (source_of (get_or bs j d)) k (p.1 j d a m) in omega (arith, right, e))
         (cases_lt j n))
 
--- The one left of a column.
+-- The collection left of a column.
 
 abbrev pub LeftOf : ℕ → List OpenBlock → ℕ → Type 0
 LeftOf k bs n = IsPartitionPoint (λ b. ltb (source_of b) k ≡ true) (λ b. ltb (source_of b) k ≡ false) bs n
 
--- a collection whose column isn't left of that one
+-- a collection with a source column that isn't left of k
 record IsRight (k : ℕ) (b : OpenBlock) : Type 0 where
   has : has_source b ≡ true
   right : k ≤ source_of b
@@ -126,7 +127,7 @@ module _ (indent k : ℕ) where
   right_none may [] a = refl
   right_none may (u ∷ us) a = right_one may u us (All-head (IsRight k) u us a) ∙ right_none false us (All-tail (IsRight k) u us a)
 
-  -- where one is right of it
+  -- if one is right of it
   right_some : (may : Bool) (us vs : List OpenBlock) → 0 < length us → All (IsRight k) us
       → column_left indent may k (us ++ vs) ≡ column_left indent false k vs
   right_some may [] vs l a = absurd (omega arith)
@@ -165,7 +166,7 @@ module _ (indent : ℕ) (may : Bool) (k : ℕ) (bs : List OpenBlock) (n : ℕ) (
       → column_left indent may k (reverse bs) ≡ Some f
   left_last d f o m e = ap (λ z. column_left indent may k (reverse z)) (sym (take_all n bs m)) ∙ (here may d o ∙ ap Some (sym e))
 
--- What is found is that of all that is open. What is read of a list is that list.
+-- The result is that for all open collections.
 
 pub at_open : (k : ℕ) {now all sourced seen : List OpenBlock} {o : Option ℕ} → reverse all ≡ now → IsHeld all sourced → seen ≡ sourced
     → o ≡ column_at k (reverse seen) → o ≡ column_at k now
@@ -197,7 +198,7 @@ pub among_is : (indent : ℕ) (may : Bool) (next k : ℕ) (inner all : List Open
 among_is indent may next k inner all left e f g =
     g ∙ ap (λ z. or_else (column_at k all) (at_margin k all z)) (f ∙ (unwrap_is left next ∙ ap (λ o. or_else o next) e))
 
--- whether an entry goes on with what is open
+-- whether an entry goes on with the open collections
 pub goes_as : (y : OpenBlock) {now all seen read : List OpenBlock} (n : ℕ) {g : Bool} → reverse all ≡ now → seen ≡ all → read ≡ all
     → n ≤ length seen → CutBy y seen n → g ≡ goes_on y (reverse (take n read))
     → goes_on y (not_ended y now) ≡ g

@@ -1,4 +1,4 @@
--- Open collections as the printer holds them: their ranks, those with a column in the text that was read, and what a search by halving cuts off.
+-- The open collections in the printer: their ranks, those with a source column, and the cut of a binary search.
 use Rattle.std.proofs.Common.{◌≡◌, ℕ, ◌+◌, ◌-◌, ◌<◌, ◌≤◌, Bool, true, false, true≢false, List, [], ◌∷◌, ◌++◌, length, take, drop, get_or, reverse, refl, sym, ap, ◌∙◌, subst, arith, append-nil}
 use Rattle.std.specs.Prelude.{◌&&◌, ◌||◌, not, ◌==◌, nat_lt, filter, if◌then◌else◌}
 use Rattle.std.specs.List.{All, AllWithin}
@@ -69,7 +69,7 @@ further_sequence m n e = grind (arith, nat_tests)
 further_mapping : (m n : ℕ) → nat_lt (m + m + 0) (n + n + 1) ≡ false → n + n + 1 < m + m + 0
 further_mapping m n e = grind (arith, nat_tests)
 
--- an entry of a collection that is new is further in
+-- an entry of a new collection is further in
 pub further_rank : (y b : OpenBlock) → is_ended_by y b ≡ false → is_same_block y b ≡ false → rank b < rank y
 further_rank y b e f = go y.is_sequence b.is_sequence (sym (ended_by_rank y b) ∙ e) f where
   go : (p q : Bool) → nat_lt (y.printed + y.printed + (if p then 1 else 0)) (b.printed + b.printed + (if q then 1 else 0)) ≡ false
@@ -99,13 +99,13 @@ module _ {X : Type 0} where
       let long : length (drop i xs) ≡ length xs - i = length-drop i xs in
       subst P (sym (get_or-drop i xs k d)) (h (i + k) d (omega arith) (omega (arith, long, m, l)))
 
-  -- the last of the first so many
+  -- the last of the first k
   pub on_top : (xs : List X) (k : ℕ) (d : X) → 0 < k → k ≤ length xs → reverse (take k xs) ≡ get_or xs (k - 1) d ∷ reverse (take (k - 1) xs)
   on_top xs k d p l =
       let e : k ≡ k - 1 + 1 = omega (arith, p) in
       ap (λ z. reverse (take z xs)) e ∙ (ap reverse (take_more xs (k - 1) d (omega (arith, p, l))) ∙ reverse-append (take (k - 1) xs) (get_or xs (k - 1) d ∷ []))
 
-  -- up to the first that passes the test
+  -- the items before the first that passes the test
   abbrev pub front : (X → Bool) → List X → List X
   front q [] = []
   front q (x ∷ xs) = if q x then [] else x ∷ front q xs
@@ -117,7 +117,7 @@ module _ {X : Type 0} where
       ap (λ z. if z then [] else u ∷ front q (us ++ vs)) (All-head (λ x. q x ≡ false) u us a)
       ∙ ap (λ z. u ∷ z) (front_is q us vs (All-tail (λ x. q x ≡ false) u us a) b)
 
-  -- a list falls in one way into those before the first that passes and the rest, where all of these pass
+  -- only one cut of a list has no item that passes the test before it, and only such items after it
   pub one_cut : (q : X → Bool) (us vs ws zs : List X) → us ++ vs ≡ ws ++ zs → All (λ x. q x ≡ false) us → All (λ x. q x ≡ true) vs
       → All (λ x. q x ≡ false) ws → All (λ x. q x ≡ true) zs → us ≡ ws
   one_cut q us vs ws zs e a b c d = sym (front_is q us vs a b) ∙ (ap (front q) e ∙ front_is q ws zs c d)

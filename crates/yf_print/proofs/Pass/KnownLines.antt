@@ -1,4 +1,4 @@
--- Where lines begin in the text that was read: counted back step by step, and the columns by that, which are those of the definition.
+-- The starts of lines in the source, searched back step by step, give the columns of the definition.
 use Rattle.std.proofs.Common.{◌≡◌, ℕ, zero, suc, ◌+◌, ◌-◌, ◌<◌, ◌≤◌, Bool, true, false, List, [], ◌∷◌, Option, Some, None, refl, sym, ap, ◌∙◌, arith, add-zero, zero-add}
 use Rattle.std.specs.Prelude.{◌==◌, nat_lt, option_map, if◌then◌else◌}
 use Rattle.std.proofs.lemmas.Bool.{ne_eqb}
@@ -74,7 +74,7 @@ start_within p t (suc n) s e = go (is_break_char (code t (0 + n))) (p (code t (0
   go false false true rest f = next f
   go false false false rest f = absurd cc
 
--- the column by where the line begins
+-- the column from the start of the line
 pub column_is : (p : ℕ → Bool) (t : List ℕ) (i : ℕ) → option_map (λ s. i - s) (start_on p t text_start i) ≡ column_by p t i
 unfolding start_on column_by
 column_is p t zero = refl
@@ -101,7 +101,7 @@ own_is t i start e =
     let all : i - 0 ≡ i = omega arith in
     ap (option_map (λ s. i - s)) (e ∙ ap (start_on is_white t text_start) all) ∙ column_is is_white t i
 
--- What is known of entries.
+-- The known lines of entries.
 
 pub record IsKnown (t : List ℕ) (k : KnownLine) : Type 0 where
   pub is : k.start ≡ start_on is_white_or_sign t text_start k.offset

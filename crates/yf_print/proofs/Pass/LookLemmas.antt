@@ -1,4 +1,4 @@
--- What is looked up of an event by itself is that part of the event.
+-- Each part of an event that is looked up is that part of the event.
 use Rattle.std.proofs.Common.{◌≡◌, ℕ, zero, suc, ◌<◌, List, [], ◌∷◌, get_or, length, map, Some, refl, arith}
 use Rattle.std.specs.Prelude.{slice_get}
 use Rattle.yf_events.specs.Event.{EventInText}

@@ -1,4 +1,4 @@
--- The steps of the pass that finds the comments that trail, as the code takes them.
+-- The steps, in the code, of the pass that finds the comments that trail.
 use Rattle.std.proofs.Common.{◌≡◌, ℕ, zero, suc, ◌+◌, ◌≤◌, Bool, true, false, List, [], ◌∷◌, length, map, get_or, drop, Option, None, Some, refl, sym, ap, ◌∙◌, add-one, arith}
 use Rattle.std.specs.Prelude.{◌&&◌, nat_lt, not, slice_get}
 use Rattle.std.proofs.lemmas.Bool.Decides.{nat_tests}
@@ -31,7 +31,7 @@ pub passed_end : (r : Lists) (ms : List Measure) (i : ℕ) (es : List EventInTex
 unfolding pass
 passed_end r ms i es w all l h = ap (λ v. pass r ms i v w) (sym (drop_all i es l)) ∙ h
 
--- Where no comment is left the last leaf, nothing more is found.
+-- If no comment follows the last leaf, nothing more is found.
 
 none_left : (cs : List CommentValue) (from offset : ℕ) → length cs ≤ from → from + count_to offset (drop from cs) ≡ from
 none_left cs from offset l =

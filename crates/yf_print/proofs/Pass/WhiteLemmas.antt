@@ -1,4 +1,4 @@
--- Laws of texts without the white space that ends them.
+-- Laws of texts without the white space at their end.
 use Rattle.std.proofs.Common.{◌≡◌, ◌≢◌, ℕ, ◌-◌, Bool, true, false, true≢false, List, [], ◌∷◌, ◌++◌, Option, Some, None, IfSome, length, take, refl, sym, ap, ◌∙◌, subst, ⊎_elim, arith}
 use Rattle.std.proofs.lemmas.Bool.{cases_Bool, cases_eq}
 use Rattle.std.proofs.lemmas.Bool.Decides.{nat_tests}
@@ -11,7 +11,7 @@ use Rattle.yf_forms.proofs.Texts.BlockLemmas.{Snoc, cut_end, cut_none, cut_one, 
 use Rattle.yf_forms.proofs.Texts.BlockLemmas.Snoc.{nothing, ending_in}
 use Rattle.yf_lines.proofs.BasicLemmas.{white_below}
 
--- what the pattern of a space and a tab finds at the end
+-- the result of the pattern of a space and a tab at the end
 abbrev pub FindsBlank : List ℕ → Option ℕ → Type 0
 FindsBlank u o = (k : ℕ → Bool) → ((c : ℕ) → char_set_contains (32 ∷ 9 ∷ []) c ≡ k c) → FindsSuffixBy k u o
 

@@ -1,4 +1,4 @@
--- How it is found whether the `---` of the first document is left out: by the first comment after its beginning alone.
+-- Whether to leave out the `---` of the first document, decided by the first comment after the document's start.
 use Rattle.std.specs.Prelude.{ℕ, Bool, false, not, ◌&&◌, ◌==◌, ◌+◌, List, [], ◌∷◌, Option, Some, None}
 use Rattle.yf_events.specs.Reading.{place_at}
 use Rattle.yf_events.specs.declared.document.Doc.{Doc}
@@ -7,7 +7,7 @@ use Rattle.yf_forms.specs.declared.style.Style.{Style}
 use Rattle.yf_forms.specs.NormalForms.BareStart.{begins_bare, keeps_starts}
 use Rattle.yf_forms.specs.Passes.Searches.{count_to}
 
--- after one document, and no leaf
+-- after one document, and before any leaf
 abbrev pub is_leading : Option (ℕ × ℕ) → Bool
 is_leading None = false
 is_leading (Some place) = (place.0 == 1) && (place.1 == 0)

@@ -1,5 +1,5 @@
--- At which column each comment on a line of its own is printed, by the rows of a layout and the text that was read: at that of the next row, or where it
--- keeps the block in which it was written.
+-- The printed column of each comment on a line of its own, from the rows of a layout and the source: that of the next
+-- row, or the one that keeps the comment's block.
 use Rattle.std.specs.Prelude.{ℕ, Bool, true, false, nat_lt, if◌then◌else◌, List, [], ◌∷◌}
 use Rattle.std.specs.List.{list_any}
 use Rattle.yf_comments.specs.Comment.{CommentValue}
@@ -19,7 +19,7 @@ Columns = CommentValue → ℕ → ℕ
 abbrev pub next_columns : Columns
 next_columns d column = column
 
--- whether comments keep the blocks in which they were written
+-- whether comments keep their source blocks
 abbrev pub is_block : CommentColumns → Bool
 is_block Next = false
 is_block Block = true
@@ -27,7 +27,7 @@ is_block Block = true
 unfoldable pub keeps_blocks : Style → Bool
 keeps_blocks s = is_block s.comments
 
--- an item that is on the row follows the comment in the source
+-- an item on the row follows the comment in the source
 abbrev pub precedes_item : Row → CommentValue → Bool
 precedes_item row c = list_any (λ item. nat_lt c.offset item) row.items
 
@@ -35,7 +35,7 @@ abbrev pub is_before_first : List ℕ → ℕ → Bool
 is_before_first [] offset = true
 is_before_first (item ∷ items) offset = nat_lt offset item
 
--- Which collections are open: after entries that begin; and after a row, where a row with neither an entry nor a leaf begins a document.
+-- The open collections: after some entries; and after a row, which begins a document if it has no entry and no leaf.
 
 abbrev pub block_of : List ℕ → Start → OpenBlock
 block_of t s = record { source = source_column t s.offsets; printed = s.column; is_sequence = s.is_item }
@@ -61,13 +61,13 @@ abbrev pub is_bodyless : List (List ℕ) → Bool
 is_bodyless [] = true
 is_bodyless (l ∷ ls) = false
 
--- the column of a comment directly before a row, after one on which those collections are open; a comment that is not before all that is on the
--- row is at the row's column
+-- the column of a comment directly before a row, after a row with those open collections; a comment after an item of
+-- the row gets the row's column
 abbrev pub column_above : List ℕ → Style → List OpenBlock → Bool → Row → CommentValue → ℕ
 column_above t s bs may row d =
     if is_before_first row.items d.offset then comment_column s.indent may row.column (own_column t d.offset) (beginning t row.starts row.leaves) bs else row.column
 
--- of a comment that is somewhere among these rows, or after them
+-- the column of a comment among these rows, or after them
 abbrev pub column_among_rows : List ℕ → Style → List OpenBlock → Bool → List Row → CommentValue → ℕ
 column_among_rows t s bs may [] d = comment_column s.indent may 0 (own_column t d.offset) begins_document bs
 column_among_rows t s bs may (row ∷ rows) d =
@@ -77,6 +77,6 @@ abbrev pub columns_if : Bool → ℕ → ℕ → ℕ
 columns_if true kept next = kept
 columns_if false kept next = next
 
--- the columns of the comments of a layout with these rows, where t is the text that was read
+-- the columns of the comments of a layout with these rows, from the source t
 abbrev pub columns_of : List ℕ → Style → List Row → Columns
 columns_of t s rows d next = columns_if (keeps_blocks s) (column_among_rows t s [] true rows d) next

@@ -1,5 +1,5 @@
--- The lines that the house style gives a normal reading, without their comments: each with its column and text, what of the
--- source is on it, and what kind of end it has. Columns count from 0.
+-- The lines of a normal reading in the house style, without their comments: each with its column and text, its source
+-- items, and its ending. Columns count from 0.
 use Rattle.std.specs.Prelude.{ℕ, ◌-◌, Bool, true, false, ◌==◌, ◌&&◌, if◌then◌else◌, List, [], ◌∷◌, ◌++◌, codes, map, replicate, option_to_list, Option, Some, None}
 use Rattle.yf_comments.specs.Comment.{CommentValue}
 use Rattle.yf_props.specs.Props.{PropsValue}
@@ -16,20 +16,20 @@ use Rattle.yf_forms.specs.Nodes.OneLine.{spaced, props_text, written, colon_afte
 use Rattle.yf_events.specs.Tree.{Node, scalar, alias, sequence, mapping, Items, no_items, item, Pairs, no_pairs, pair, DocumentTree, standing, props_of, leaves, items_in, entry_start, is_block_collection}
 use Rattle.yf_forms.specs.Nodes.Lines.{is_empty_text}
 
--- with what a line ends, for the blank line after it
+-- the ending of a line, which decides on a blank line after it
 pub data Ending : Type 0 where
   -- nothing is printed yet
   at_text_start : Ending
   -- the `---` of a document
   at_document_start : Ending
-  -- a block scalar whose sign is `+`
+  -- a block scalar with the sign `+`
   at_kept_tail : Ending
-  -- the `:` of an implicit key, or the properties of a collection, where the node's text is still to come
+  -- the `:` of an implicit key, or the properties of a collection, with the node's text on the next line
   before_node : Ending
   anywhere : Ending
 
--- where an entry begins, or the `:` of a key that has a `?`: the offset of that in the text that was read, where it has one, and what begins with it; the
--- column at which the entries of its collection are; and whether that is a sequence
+-- the start of an entry, or of the `:` of a key with `?`: its offset in the source, if it has one, and the offsets that
+-- begin with it; the column of its collection's entries; and whether that is a sequence
 pub record Start : Type 0 where
   pub offsets : List ℕ
   pub column : ℕ
@@ -40,28 +40,28 @@ pub record Row : Type 0 where
   pub text : List ℕ
   -- the entries that begin on it
   pub starts : List Start
-  -- what is on it of the items: the beginnings of documents and entries, each `:` of a key that has a `?`, and the
-  -- beginnings of leaves with characters
+  -- the source offsets of its items: the starts of documents and entries, each `:` of a key with `?`, and the starts of
+  -- leaves with characters
   pub items : List ℕ
   pub leaves : List Span
   -- the comment that trails its key
   pub key_comment : Option CommentValue
-  -- it begins with an entry before which a blank line is
+  -- it begins with an entry after a blank line
   pub blank_before : Bool
   -- a document without `---` begins on it
   pub begins : Bool
   pub ending : Ending
-  -- the lines of a block scalar, and the column at which they are; 0 where there are none
+  -- the lines of a block scalar, and their column, or 0 if there are none
   pub body : List (List ℕ)
   pub lines : ℕ
 
--- a line with that text alone
+-- a line with only that text
 abbrev pub plain_row : ℕ → List ℕ → Row
 plain_row column text =
     record { column = column; text = text; starts = []; items = []; leaves = []; key_comment = None; blank_before = false; begins = false; ending = anywhere; body = []; lines = 0 }
 
--- the first line of a node is on the line that a sign or key begins, after so many spaces; an empty node has no line, and no
--- space is left before it
+-- the first line of a node joins the line of a sign or key, after that number of spaces; an empty node has no line, and
+-- no space before it
 abbrev pub joined : Row → ℕ → List Row → List Row
 joined head spaces [] = head ∷ []
 joined head spaces (r ∷ rs) = record {
@@ -107,7 +107,7 @@ scalar_rows s margins x props Literal text lines = block_scalar s margins x prop
 scalar_rows s margins x props Folded text lines = block_scalar s margins x props Folded text lines
 scalar_rows s margins x props style text lines = one_line s margins x
 
--- the properties of a block collection are before its first entry's line
+-- the properties of a block collection precede the line of its first entry
 abbrev pub props_row : ℕ → List ℕ → List Row
 props_row column [] = []
 props_row column (b ∷ text) = record (plain_row column (b ∷ text)) { ending = before_node } ∷ []
@@ -126,7 +126,7 @@ is_dash [] = false
 is_dash (c ∷ []) = c == 45
 is_dash (c ∷ d ∷ cs) = false
 
--- the line that an entry begins with this text, at the column of the entries
+-- the line of an entry that begins with this text, at the column of the entries
 abbrev pub entry_row : ℕ → List ℕ → Node → Row
 entry_row column text x = record (plain_row column text) {
   starts = start_of column (is_dash text) (entry_start x) ∷ [];
@@ -134,11 +134,11 @@ entry_row column text x = record (plain_row column text) {
   blank_before = blank_before_entry (standing x).entry;
 }
 
--- after `-`, `?` and the `:` of an explicit value are as many spaces as make up the indentation
+-- the spaces after `-`, `?` and the `:` of an explicit value make up the indentation
 abbrev pub after_sign : Style → Row → List Row → List Row
 after_sign s head rows = joined head (s.indent - 1) rows
 
--- the line of a `:` whose key has a `?`
+-- the line of the `:` of a key with `?`
 abbrev pub colon_offset : Option Entry → List ℕ
 colon_offset None = []
 colon_offset (Some entry) = option_to_list entry.colon
@@ -150,17 +150,17 @@ abbrev pub explicit_pair : Style → ℕ → Node → List Row → List Row → 
 explicit_pair s column k key_rows value_rows =
     after_sign s (entry_row column (codes "?") k) key_rows ++ after_sign s (colon_row column k) value_rows
 
--- an implicit key with its `:`; an empty node as key is the `:` alone
+-- an implicit key with its `:`; an empty key is only the `:`
 abbrev pub key_row : Style → ℕ → Node → Row
 key_row s column k =
     let row = entry_row column (written s k ++ colon_after k) k in
     record row { starts = start_of column false row.items ∷ []; items = row.items ++ items_in k; leaves = leaves k }
 
--- whether a value begins on a line of its own: the entries of a block collection that has no properties
+-- whether a value begins on a line of its own: a block collection without properties
 abbrev pub begins_below : Node → Bool
 begins_below v = is_block_collection v && is_empty_text (props_text (props_of v))
 
--- the value after an implicit key: on the next line where a comment trails the key, else after one space
+-- the value after an implicit key: on the next line if a comment trails the key, otherwise after one space
 abbrev pub after_key : Row → Option CommentValue → Bool → List Row → List Row
 after_key head (Some c) below rows = record head { key_comment = Some c; ending = before_node } ∷ rows
 after_key head None true rows = record head { ending = before_node } ∷ rows
@@ -183,7 +183,7 @@ abbrev mutual
   rows c margins (mapping at true props pairs) = one_line c.style margins (mapping at true props pairs)
   rows c margins (mapping at false props pairs) = props_row margins.column (props_text props) ++ rows_of_pairs c margins.entries pairs
 
-  -- of entries at that column
+  -- the lines of entries at that column
   pub rows_of_items : LayoutSetting → ℕ → Items → List Row
   rows_of_items c column no_items = []
   rows_of_items c column (item x xs) =
@@ -196,7 +196,7 @@ abbrev mutual
 
 -- Documents.
 
--- a directive's parts are joined by one space
+-- one space joins the parts of a directive
 abbrev pub joined_words : List (List ℕ) → List ℕ
 joined_words [] = []
 joined_words (w ∷ []) = w
@@ -205,7 +205,7 @@ joined_words (w ∷ w2 ∷ ws) = w ++ (32 ∷ joined_words (w2 ∷ ws))
 abbrev pub directive_row : Directive → Row
 directive_row d = plain_row 0 (37 ∷ joined_words d.words)
 
--- `...` is only before a document with directives that is not the first
+-- `...` only precedes a document with directives that is not the first
 abbrev pub end_rows : Bool → List Directive → List Row
 end_rows true ds = []
 end_rows false [] = []
@@ -214,7 +214,7 @@ end_rows false (d ∷ ds) = plain_row 0 (codes "...") ∷ []
 abbrev pub start_row : Row
 start_row = record (plain_row 0 (codes "---")) { ending = at_document_start }
 
--- the beginning of a document is on the first of these lines
+-- the start of a document is on the first of these lines
 abbrev pub beginning_at : ℕ → List Row → List Row
 beginning_at start [] = []
 beginning_at start (r ∷ rs) = record r { items = start ∷ r.items } ∷ rs
@@ -237,7 +237,7 @@ begun_at start (r ∷ rs) = record r { items = start ∷ r.items; begins = true 
 abbrev pub bare_rows : LayoutSetting → Doc → DocumentTree → List Row
 bare_rows c d tree = begun_at d.start (rows c (root_margins c.style) tree.root)
 
--- all lines; the flag says whether the `---` of the first document is left out
+-- all lines; the flag leaves out the `---` of the first document
 abbrev pub all_rows : LayoutSetting → Bool → List Doc → List DocumentTree → List Row
 all_rows c false ds trees = stream_rows c true ds trees
 all_rows c true [] trees = []

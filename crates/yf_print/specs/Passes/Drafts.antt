@@ -1,4 +1,4 @@
--- What is printed so far, and the line that is being made: how it changes by each part of a line. Columns count from 0.
+-- The printed text and the current line, and how each part of a line changes them. Columns count from 0.
 use Rattle.std.specs.Prelude.{ℕ, ◌+◌, ◌-◌, min, Bool, true, false, ◌&&◌, nat_lt, if◌then◌else◌, List, [], ◌∷◌, ◌++◌, length, replicate, take, drop, get_or, slice_get, Option, Some, None}
 use Rattle.std.specs.String.{string_bytes}
 use Rattle.yf_comments.specs.Comment.{CommentValue}
@@ -13,7 +13,7 @@ use Rattle.yf_print.specs.Passes.KnownLines.{column_if, known_after, text_start}
 use Rattle.yf_print.specs.declared.source_columns.KnownLine.{KnownLine}
 use Rattle.yf_forms.specs.Passes.Searches.{count_to}
 
--- all comments, and for each whether it trails a leaf or a key; the text that was read, and the style
+-- all comments, and for each whether it trails a leaf or a key; the source, and the style
 pub record Remarks : Type 0 where
   pub comments : List CommentValue
   pub trailing : List Bool
@@ -23,8 +23,8 @@ pub record Remarks : Type 0 where
 abbrev pub remarks : List ℕ → Style → List CommentValue → List Bool → Remarks
 remarks text style comments trailing = record { comments = comments; trailing = trailing; text = text; style = style }
 
--- where comments keep their blocks, the collections of which an entry begins on the line, and what is known in the text that was read of the last of these
--- entries; and whether a leaf is on the line
+-- if comments keep their blocks, the collections with an entry that begins on the line, and the known line of the last
+-- of these entries; and whether a leaf is on the line
 pub record LineMarks : Type 0 where
   pub starts : List OpenBlock
   pub known : KnownLine
@@ -34,27 +34,27 @@ abbrev pub no_marks : LineMarks
 no_marks = record { starts = []; known = text_start; has_leaf = false }
 
 pub record Draft : Type 0 where
-  -- what is printed
+  -- the printed text
   pub text : List ℕ
-  -- whether a line is being made; its column, its text, the comments that trail its leaves, and the lines of a block scalar that
-  -- begins in it
+  -- whether a line is open; its column, its text, the comments that trail its leaves, and the lines of a block scalar
+  -- that begins on it
   pub is_open : Bool
   pub column : ℕ
   pub line : List ℕ
   pub trails : List ℕ
   pub body : List ℕ
-  -- a blank line is noted before its first entry, and one may be after it
+  -- whether a blank line precedes its first entry, and whether one may follow it
   pub blank_before : Bool
   pub may_follow : Bool
-  -- how many comments are before what has been gone past, and how many of them are printed or trail
+  -- the number of comments before the cursor, and of those that are printed or trail
   pub met : ℕ
   pub passed : ℕ
-  -- a blank line may be after what is printed
+  -- whether a blank line may follow the printed text
   pub blank_may_follow : Bool
-  -- the offset of the first that was gone past since a line was printed
+  -- the offset of the first item that was passed since the last line was printed
   pub first : Option ℕ
   pub marks : LineMarks
-  -- the collections that are open on the line that was printed last, the innermost first, and whether that has no block scalar
+  -- the open collections on the last printed line, the innermost first, and whether that line has no block scalar
   pub chain : List OpenBlock
   pub is_bodyless : Bool
 
@@ -111,7 +111,7 @@ with_blank blank d = record d { blank_before = blank }
 abbrev pub without_blank : Draft → Draft
 without_blank d = record d { may_follow = false }
 
--- the collection of an entry, by what is known of the one before it
+-- the collection of an entry, from the known line of the one before it
 abbrev pub block_since : List ℕ → KnownLine → Start → OpenBlock
 block_since t k s = record { source = column_if (known_after t k s.offsets) s.offsets; printed = s.column; is_sequence = s.is_item }
 
@@ -138,7 +138,7 @@ with_block_start t s d = record d {
 abbrev pub with_start : Remarks → Start → Draft → Draft
 with_start r s d = record d { marks = start_marked r s d.marks }
 
--- a leaf is on it
+-- a leaf is on the line
 abbrev pub leaf_marked : LineMarks → LineMarks
 leaf_marked m = record m { has_leaf = true }
 
@@ -151,7 +151,7 @@ abbrev pub trailing_if : List CommentValue → Option ℕ → List ℕ
 trailing_if cs None = []
 trailing_if cs (Some k) = trailing_at (slice_get cs k)
 
--- of a leaf
+-- the comment of a leaf
 abbrev pub with_trail : List CommentValue → Option ℕ → Draft → Draft
 with_trail cs k d = record d { trails = d.trails ++ trailing_if cs k; marks = leaf_marked d.marks }
 
@@ -182,12 +182,12 @@ abbrev pub own_line_if : Bool → ℕ → CommentValue → Draft → Draft
 own_line_if true column c d = d
 own_line_if false column c d = own_line column c d
 
--- these comments, the first of which is the one at that index, each at its column
+-- these comments, from the one at index k on, each at its column
 unfoldable pub own_lines : List Bool → (CommentValue → ℕ) → ℕ → List CommentValue → Draft → Draft
 own_lines trailing columns k [] d = d
 own_lines trailing columns k (c ∷ cs) d = own_lines trailing columns (k + 1) cs (own_line_if (get_or trailing k false) (columns c) c d)
 
--- where a comment keeps its block, before a line at that column
+-- The column of a comment that keeps its block, before a line at that column.
 
 abbrev pub is_before : Option ℕ → ℕ → Bool
 is_before None offset = true
@@ -208,25 +208,25 @@ kept_column r column d c = column_kept r column d c.offset
 abbrev pub line_column : Remarks → ℕ → Draft → CommentValue → ℕ
 line_column r column d c = columns_if (keeps_blocks r.style) (kept_column r column d c) column
 
--- those between two indices
+-- the comments between two indices
 abbrev pub between : ℕ → ℕ → List CommentValue → List CommentValue
 between first end cs = take (end - first) (drop first cs)
 
 abbrev pub all_passed : Draft → Draft
 all_passed d = record d { passed = d.met }
 
--- those that were met
+-- the comments that were met
 abbrev pub met_lines : Remarks → ℕ → Draft → Draft
 met_lines r column d =
     all_passed (own_lines r.trailing (line_column r column d) d.passed (between d.passed (min d.met (length r.comments)) r.comments) d)
 
 -- Lines.
 
--- the line as it is printed
+-- the printed line
 abbrev pub line_text : Draft → List ℕ
 line_text d = replicate d.column 32 ++ (d.line ++ (d.trails ++ (10 ∷ d.body)))
 
--- the collections that are open after it
+-- the open collections after it
 abbrev pub after_blocks : List OpenBlock → List OpenBlock → List OpenBlock
 after_blocks [] bs = bs
 after_blocks (y ∷ ys) bs = after_blocks ys (open_after y bs)
@@ -271,11 +271,11 @@ closed r d = closed_if r d.is_open d
 abbrev pub fresh : ℕ → Draft → Draft
 fresh column d = record d { is_open = true; column = column; blank_before = false; may_follow = true }
 
--- and the next one begins at that column
+-- the next line begins at that column
 abbrev pub opened : Remarks → ℕ → Draft → Draft
 opened r column d = fresh column (closed r d)
 
--- the whole text: with the last line, and after it the comments that are left
+-- the whole text, with the last line and the remaining comments
 abbrev pub all_met : Remarks → Draft → Draft
 all_met r d = record d { met = length r.comments }
 

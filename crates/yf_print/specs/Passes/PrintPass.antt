@@ -37,12 +37,12 @@ abbrev pub space_text : Bool → List ℕ
 space_text true = 32 ∷ []
 space_text false = []
 
--- words after another one, each with a space before it
+-- words, each after a space
 abbrev pub more_words : List (List ℕ) → List ℕ
 more_words [] = []
 more_words (w ∷ ws) = 32 ∷ (w ++ more_words ws)
 
--- words after others, or the first ones
+-- words after others if the flag is true, otherwise the first ones
 abbrev pub words_from : Bool → List (List ℕ) → List ℕ
 words_from true ws = more_words ws
 words_from false ws = joined_words ws
@@ -67,7 +67,7 @@ marked d = without_blank (with_text (codes "---") d)
 
 -- Nodes.
 
--- where the node goes, and what is before its text
+-- the role of the node, and the separation before its text
 abbrev pub before_value : Work → Option ℕ → ℕ → Draft → Draft
 before_value g None column d = with_text (32 ∷ []) d
 before_value g (Some k) column d =
@@ -105,7 +105,7 @@ with_scalar s role props Double text lines d = with_text (scalar_text s Double t
 with_scalar s role props Literal text lines d = with_block s role Literal text lines (with_props_before props d)
 with_scalar s role props Folded text lines d = with_block s role Folded text lines (with_props_before props d)
 
--- a flow collection whose events are from the one index to the other
+-- a flow collection with the events between two indices
 abbrev pub with_kept : Work → ℕ → ℕ → PropsValue → Draft → Draft
 with_kept g i last props d =
     with_text (OneLineRun.run g.style [] (OneLineRun.between i last g.reading.events)) (with_props_before props d)
@@ -125,7 +125,7 @@ with_node_event g i last mapping_ends lines role d = d
 abbrev pub with_node : Work → ℕ → ℕ → EventInText → Role → Draft → Draft
 with_node g i last e role d = with_node_event g i last e.event e.folded role d
 
--- what is within a node on one line: its leaves and their comments, and its entries
+-- the contents of a node on one line: its leaves and their comments, and its entries
 
 abbrev pub leaf_noted : Work → ℕ → Option Span → Draft → Draft
 leaf_noted g j None d = d
@@ -145,7 +145,7 @@ entry_met g (Some entry) d = past g.reading.comments entry.start d
 abbrev pub event_noted : Work → ℕ → EventInText → Draft → Draft
 event_noted g j e d = leaf_noted_if (is_leaf g j) g j e.span (entry_met g e.entry d)
 
--- events from an index on, up to another one
+-- the events from index j up to `last`
 unfoldable pub events_noted : Work → ℕ → ℕ → List EventInText → Draft → Draft
 events_noted g last j [] d = d
 events_noted g last j (e ∷ es) d = if nat_le j last then events_noted g last (j + 1) es (event_noted g j e d) else d
@@ -230,7 +230,7 @@ abbrev pub colon_of : Option Entry → Option ℕ
 colon_of None = None
 colon_of (Some entry) = entry.colon
 
--- Where the next node goes, what is awaited after it, and what is before it.
+-- The role of the next node, the state after it, and the text before it.
 
 abbrev pub key_role : Bool → ℕ → Role
 key_role true column = Role.Key
@@ -265,7 +265,7 @@ abbrev pub question_if : Bool → Draft → Draft
 question_if true d = d
 question_if false d = with_text (codes "?") d
 
--- the entry is that of the key
+-- `entry` is the key's entry
 abbrev pub with_colon : Work → ℕ → Option Entry → Draft → Draft
 with_colon g column entry d =
     with_text (codes ":") (colon_past g (colon_of entry) (with_start (remarks_of g) (start_of column false (starts_of_entry entry)) (next_line g column d)))
@@ -282,8 +282,8 @@ sign g f entry (level ∷ levels) d = sign_in g f entry level.is_inline level.co
 
 -- Events.
 
--- what is printed, the block collections that are open, the innermost first, how many documents have begun, and the index of the last
--- event that needs no look
+-- the printed text, the open block collections, the innermost first, the number of documents that have begun, and the
+-- index of the last event that was printed or skipped
 pub record PrintState : Type 0 where
   pub draft : Draft
   pub levels : List PrintFrame
@@ -293,7 +293,7 @@ pub record PrintState : Type 0 where
 abbrev pub state : Draft → List PrintFrame → ℕ → ℕ → PrintState
 state d levels documents done = record { draft = d; levels = levels; documents = documents; done = done }
 
--- a collection whose entries are on lines of their own is begun
+-- begins a collection with entries on lines of their own
 abbrev pub collection_at : Work → ℕ → Form → PropsValue → FrameState → Role → PrintState → PrintState
 collection_at g i f props first role w = record w {
   draft = collection_begun g props role w.draft;
@@ -316,7 +316,7 @@ node_in g i m f e (sequence_starts flow props) role w = collection_if (is_whole 
 node_in g i m f e (mapping_starts flow props) role w = collection_if (is_whole i m f) g i m f e props Key role w
 node_in g i m f e _ role w = leaf_at g i m f e role w
 
--- what is before a node is printed
+-- prints the sign before a node
 abbrev pub signed : Work → Form → Option Entry → PrintState → PrintState
 signed g f entry w = record w { draft = sign g f entry w.levels w.draft; levels = frames_after f entry w.levels }
 
@@ -361,11 +361,11 @@ past_event g i m f e stream_ends w = w
 abbrev pub looked : Work → ℕ → EventInText → PrintState → PrintState
 looked g i e w = past_event g i (get_or g.measures i no_measure) (get_or g.forms i no_form) e e.event w
 
--- the event at an index, which gets no look where it is within a node on one line
+-- the event at index i, which is skipped if it is within a node on one line
 abbrev pub next : Work → ℕ → EventInText → PrintState → PrintState
 next g i e w = if nat_lt w.done i then looked g i e w else w
 
--- past all these events, the first of which is the one at that index
+-- these events, the first of which has index i
 unfoldable pub pass : Work → ℕ → List EventInText → PrintState → PrintState
 pass g i [] w = w
 pass g i (e ∷ es) w = pass g (i + 1) es (next g i e w)

@@ -1,4 +1,4 @@
--- What the pass that prints a reading looks at.
+-- The input of the pass that prints a reading.
 use Rattle.std.specs.Prelude.{ℕ, Bool, List, Option}
 use Rattle.yf_events.specs.declared.lists.Lists.{Lists}
 use Rattle.yf_forms.specs.declared.form.decide.Form.{Form}
@@ -8,14 +8,14 @@ use Rattle.yf_print.specs.declared.printer.Plan.{Plan}
 use Rattle.yf_print.specs.Passes.Drafts.{Remarks, remarks}
 use Rattle.yf_print.specs.Passes.TrailPass.{TrailsSoFar, found}
 
--- what the pass looks at: the text that was read, the reading, and what was found of it before
+-- the input of the pass: the source, the reading, and the results of earlier passes
 pub record Work : Type 0 where
   pub text : List ℕ
   pub reading : Lists
   pub style : Style
   pub measures : List Measure
   pub forms : List Form
-  -- the comments that trail the leaves that the events begin, as indices, and which comments trail
+  -- for each event that begins a leaf, the index of the comment that trails it; and whether each comment trails
   pub trails : List (Option ℕ)
   pub trailing : List Bool
 

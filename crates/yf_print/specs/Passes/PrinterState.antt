@@ -1,4 +1,4 @@
--- The printer between two events, as what it has printed and what it awaits.
+-- The printer between two events, as a state of the pass.
 use Rattle.std.specs.Prelude.{reverse}
 use Rattle.yf_print.specs.declared.layout.Printer.{Printer}
 use Rattle.yf_print.specs.Passes.Drafts.{draft}

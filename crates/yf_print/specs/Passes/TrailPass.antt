@@ -1,4 +1,4 @@
--- The pass over the events that finds which comments trail, one event at a time. Comments are told by their index.
+-- The pass over the events that finds the comments that trail, one event at a time. Comments are given by their index.
 use Rattle.std.specs.Prelude.{ℕ, ◌+◌, Bool, true, false, not, ◌&&◌, ◌||◌, nat_lt, List, [], ◌∷◌, drop, get_or, length, replicate, set, slice_get, Option, Some, None}
 use Rattle.yf_comments.specs.Comment.{CommentValue}
 use Rattle.yf_events.specs.Event.{EventInText}
@@ -20,7 +20,7 @@ pub record TrailsSoFar : Type 0 where
 abbrev pub found : Trails → TrailsSoFar
 found t = record { of_leaf = t.of_leaf; trailing = t.is_trailing.items }
 
--- those that trail a key
+-- the comments that trail a key
 
 abbrev pub taken : List Bool → Option ℕ → List Bool
 taken trailing None = trailing
@@ -30,9 +30,9 @@ abbrev pub keys_taken : List Form → List Bool → List Bool
 keys_taken [] trailing = trailing
 keys_taken (f ∷ fs) trailing = keys_taken fs (taken trailing f.key_comment)
 
--- those that trail a leaf
+-- The comments that trail a leaf.
 
--- the comment is before that offset, or on the line on which the last leaf before it ends
+-- the comment is before the leaf's end, or on the line on which the last leaf before it ends
 abbrev pub is_at_end : ℕ → Bool → Option CommentValue → Bool
 is_at_end end on_line None = false
 is_at_end end on_line (Some c) = nat_lt c.offset end || on_line
@@ -40,7 +40,7 @@ is_at_end end on_line (Some c) = nat_lt c.offset end || on_line
 abbrev pub is_at : Lists → ℕ → ℕ → Bool
 is_at r end k = is_at_end end (get_or r.on_leaf_line k false) (slice_get r.comments k)
 
--- the first comment after a leaf and before the one at an index trails it
+-- the first comment after a leaf, and before the one at index `until`, trails the leaf
 abbrev pub trails_leaf : Lists → List Bool → Leaf → ℕ → Bool
 trails_leaf r trailing leaf until =
     nat_lt leaf.first until && (not (get_or trailing leaf.first false) && is_at r leaf.end leaf.first)
@@ -53,7 +53,7 @@ abbrev pub given : Lists → Option Leaf → ℕ → TrailsSoFar → TrailsSoFar
 given r None until f = f
 given r (Some leaf) until f = given_if (trails_leaf r f.trailing leaf until) leaf f
 
--- the leaf that the event at an index begins, after the comments that begin before the last leaf
+-- The leaf that the event at index i begins, and the comments before it, from the last leaf's first comment on.
 
 abbrev pub first_of : Option Leaf → ℕ
 first_of None = 0
@@ -70,7 +70,7 @@ leaf_if false cs i from span = None
 abbrev pub is_leaf : List Measure → ℕ → Bool
 is_leaf ms i = is_leaf_at i (get_or ms i no_measure).first_leaf
 
--- what was found, and the last leaf
+-- the comments found, and the last leaf
 pub record TrailState : Type 0 where
   pub found : TrailsSoFar
   pub last : Option Leaf
@@ -96,6 +96,6 @@ abbrev pub start : Lists → List Form → TrailState
 start r fs =
     state (record { of_leaf = replicate (length r.events) None; trailing = keys_taken fs (replicate (length r.comments) false) }) None
 
--- what is found of all events
+-- the comments found for all events
 abbrev pub all_found : Lists → List Measure → List Form → TrailsSoFar
 all_found r ms fs = ended r (pass r ms 0 r.events (start r fs))

@@ -1,4 +1,4 @@
--- Laws of going back from a cursor: the characters from an offset to the cursor are counted.
+-- Laws of going back from a cursor: counting the characters from an offset to the cursor.
 use Rattle.std.proofs.Common.{◌≡◌, ℕ, ◌+◌, ◌-◌, ◌<◌, ◌≤◌, ◌⊎◌, true, false, List, [], ◌∷◌, zero, suc, length, refl, sym, subst, ap, inl, inr, ⊎_elim, arith, length-append}
 use Rattle.std.specs.Prelude.{slice_get, Some}
 use Rattle.std.specs.Str.{IsCharBoundary, IsUtf8}
@@ -17,12 +17,12 @@ use Rattle.yf_lines.specs.Lines.PlaceOf.{in_line}
 use Rattle.yf_lines.proofs.PlaceLemmas.{not_inside}
 use Rattle.yf_rule_sets.specs.RuleSets.Places.{HasColumn}
 
--- characters take a byte at least, so they end as many bytes later or more
+-- each character takes at least one byte
 run_long : {t : List ℕ} {i j : ℕ} {x : List ℕ} → Many t is_char i j x → i + length x ≤ j
 run_long done = omega arith
 run_long {t} (step (one {i = i} p) rest) = let n = next_later t i in let m = run_long rest in omega (arith, n, m)
 
--- between two offsets is one run of characters
+-- one run of characters is between two offsets
 same_run : {t : List ℕ} {i j k : ℕ} {x y : List ℕ} → Many t is_char i j x → Many t is_char i k y → j ≡ k → x ≡ y
 same_run done done e = refl
 same_run {t} done (step (one {i = i} p) rest) e = absurd (let n = next_later t i in let m = run_long rest in omega (arith, n, m, e))
@@ -32,7 +32,7 @@ same_run {t} (step (one {i = i} p) rest) (step (one q) more) e = ap (λ z. code 
 pub is_real : (c : ℕ) → is_char c ≡ true → c < no_char
 is_real c e = grind (arith, nat_tests)
 
--- a run begins at a boundary, if it ends at one
+-- a run that ends at a boundary begins at one
 run_start : {t : List ℕ} {i j : ℕ} {x : List ℕ} → IsCharBoundary t j → Many t is_char i j x → IsCharBoundary t i
 run_start b done = b
 run_start {t} b (step (one {i = i} p) rest) =
@@ -40,7 +40,7 @@ run_start {t} b (step (one {i = i} p) rest) =
     (λ (e : begins t i ≡ false). absurd (let n = code-nowhere t i e in let m = is_real (code t i) p in omega (arith, n, m)))
     (cases_Bool (begins t i))
 
--- characters are between two boundaries
+-- a run of characters is between two boundaries
 characters_between : (t : List ℕ) (i j : ℕ) → IsUtf8 t → IsCharBoundary t i → IsCharBoundary t j → i ≤ j → (x : List ℕ) × Many t is_char i j x
 characters_between t i j u a b w = go j i (omega arith) a w where
   go : (n i : ℕ) → j ≤ i + n → IsCharBoundary t i → i ≤ j → (x : List ℕ) × Many t is_char i j x
@@ -55,7 +55,7 @@ characters_between t i j u a b w = go j i (omega arith) a w where
       (λ (h : j ≤ i). ([], subst (λ k. Many t is_char i k []) (let e : i ≡ j = omega arith in e) done))
       (cases_lt i j)
 
--- an offset with these characters between it and the cursor is one of the marks of the line, or is after them
+-- an offset this many characters before the cursor is one of the marks of the line, or is after them
 marks_or_after : (t : List ℕ) (start at column offset : ℕ) (y : List ℕ) → IsUtf8 t → (r : HasColumn t start at column) → IsCharBoundary t offset → Many t is_char offset at y
     → ((offset < r.follows) × (column ≤ length y)) ⊎ ((z : List ℕ) × Many t is_char r.follows offset z × (column ≡ length z + length y + 1))
 marks_or_after t start at column offset y u r b m =

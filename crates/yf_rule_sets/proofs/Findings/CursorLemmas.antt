@@ -19,18 +19,18 @@ use Rattle.yf_lines.specs.Lines.PlaceOf.{in_line}
 use Rattle.yf_rule_sets.specs.declared.facts.cursor.Cursor.{Cursor}
 use Rattle.yf_rule_sets.specs.RuleSets.Places.{HasColumn, IsCursor}
 
--- what a cursor says in its line
+-- the fact of a cursor in its line
 pub reached_in : (t : List ℕ) (ls : List Line) (s : Cursor) (l : Line) → IsCursor t ls s → slice_get ls s.line ≡ Some l → HasColumn t l.start s.at s.column
 reached_in t ls s l h e = subst (λ o. IfSome o (λ (m : Line). HasColumn t m.start s.at s.column)) e h.reached
 
 pub cursor_of : (t : List ℕ) (ls : List Line) (s : Cursor) (l : Line) → slice_get ls s.line ≡ Some l → HasColumn t l.start s.at s.column → IsCursor t ls s
 cursor_of t ls s l e r = record { reached = subst (λ o. IfSome o (λ (m : Line). HasColumn t m.start s.at s.column)) (sym e) r }
 
--- after the last line nothing is said
+-- a cursor after the last line is valid
 pub no_cursor : (t : List ℕ) (ls : List Line) (s : Cursor) → length ls ≤ s.line → IsCursor t ls s
 no_cursor t ls s h = record { reached = subst (λ o. IfSome o (λ (m : Line). HasColumn t m.start s.at s.column)) (sym (slice_get_past ls s.line h)) tt }
 
--- after the marks of a line is column 1
+-- the offset after the marks of a line has column 1
 pub reached_first : (t : List ℕ) (start at : ℕ) → Marks t start at → IsCharBoundary t at → HasColumn t start at 1
 reached_first t start at m b =
     record { follows = at; marks = m; characters = []; run = done; count = omega arith; boundary = b; room = omega arith }
@@ -80,7 +80,7 @@ place_reached t ls l k number offset d a e n h r =
     let column : ColumnOf t l.start offset d = subst (ColumnOf t l.start offset) (sym r.count) (after_marks r.marks r.run) in
     subst (λ m. PlaceOf t offset m d) (sym n) (in_line k a e h column)
 
--- no characters end where they begin
+-- the run of no characters ends at its start
 pub many_none : {t : List ℕ} {p : ℕ → Bool} {i j : ℕ} {x : List ℕ} → Many t p i j x → length x ≡ 0 → i ≡ j
 many_none done e = refl
 many_none (step (one h) rest) e = let none : ⊥ = omega (arith, e) in absurd none

@@ -1,4 +1,4 @@
--- Laws of the places of a list of offsets.
+-- Laws of the positions of a list of offsets.
 use Rattle.std.proofs.Common.{◌≡◌, ℕ, ◌+◌, ◌<◌, ◌&&◌, ◌==◌, Bool, true, List, [], ◌∷◌, ◌++◌, length, take, get_or, sym, subst, ap, ◌∙◌, ⊎_elim, arith}
 use Rattle.std.specs.Cmp.{IsEquivalence, IsTotalOrder, both_tied, unsigned_ties}
 use Rattle.std.specs.List.{Contains}
@@ -31,7 +31,7 @@ no_places t ps e = subst (PlacesOf t []) (sym e) (record {
 wider : (t os : List ℕ) (o : ℕ) (p : Position) → IsPlaceIn t os p → IsPlaceIn t (os ++ o ∷ []) p
 wider t os o p w = record { offset = w.offset; among = Contains-append_left os (o ∷ []) w.offset w.among; boundary = w.boundary; place = w.place }
 
--- one more offset, with its place or without one
+-- one more offset, with its position or without one
 place_added : (t os : List ℕ) (o : ℕ) (ps : List Position) (p : Position) → PlacesOf t os ps → IsCharBoundary t o → PlaceOf t o p.line p.column
     → PlacesOf t (os ++ o ∷ []) (ps ++ p ∷ [])
 place_added t os o ps p s b h = record {
@@ -63,7 +63,7 @@ pub places_passed : (t : List ℕ) (os : List ℕ) (i : ℕ) (ps : List Position
     → (IsCharBoundary t (get_or os i 0) → ⊥) → PlacesOf t (take (i + 1) os) ps
 places_passed t os i ps h s n = subst (λ xs. PlacesOf t xs ps) (sym (take_more os i 0 h)) (place_left t (take i os) (get_or os i 0) ps s n)
 
--- the order of places is total, and places that it does not tell apart are equal
+-- the order of positions is total, and positions that compare equal are equal
 pub place_total : IsTotalOrder place_cmp
 place_total = then_total (on_total (λ p. p.line) nat_cmp_total) (on_total (λ p. p.column) nat_cmp_total)
 

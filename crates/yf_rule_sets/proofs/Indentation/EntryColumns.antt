@@ -1,4 +1,4 @@
--- Where the entries of a node begin: the column that the pass of the rule indentation keeps of them.
+-- The entries of a node: the column that the pass of the rule indentation keeps.
 use Rattle.std.proofs.Common.{◌≡◌, ◌≢◌, ℕ, ◌+◌, ◌-◌, ◌<◌, Bool, true, false, not, List, ◌++◌, Option, Some, None, drop, get_or, length, refl, sym, subst, ap, ◌∙◌, ⊎_elim, arith, true≢false}
 use Rattle.std.specs.Prelude.{◌==◌, if◌then◌else◌}
 use Rattle.std.specs.Str.{IsCharBoundary}
@@ -24,7 +24,7 @@ use Rattle.yf_rule_sets.proofs.Texts.FlowLemmas.{event_there}
 use Rattle.yf_rule_sets.proofs.Texts.NodeLemmas.{events_after}
 use Rattle.yf_chars.proofs.Tests.{none_some}
 
--- where the entries of a node begin
+-- the start of a node's entries
 
 abbrev entry_in : Option Node → Option Entry
 entry_in None = None
@@ -58,7 +58,7 @@ start_of t (mapping at flow props (pair k v ps)) after = ap (λ e. if not flow t
 starts_there : (t : List ℕ) (es : List EventInText) (i : ℕ) (y : Node) → NodeAt es i y → entries_from t (drop i es) ≡ start_in t y
 starts_there t es i y n = ap (entries_from t) (events_after n) ∙ start_of t y n.after
 
--- what is told where they begin
+-- the start of a node's entries in the pass
 record Begins (src : Table) (y : Node) (start : ℕ) : Type 0 where
   first : Node
   entry : Entry

@@ -1,4 +1,4 @@
--- Laws of what the events of a reading tell of entries.
+-- Laws of entries in the events of a reading.
 use Rattle.std.proofs.Common.{◌≡◌, ℕ, zero, suc, ◌+◌, ◌-◌, ◌<◌, ◌≤◌, Bool, true, false, not, List, [], ◌∷◌, ◌++◌, Option, Some, None, drop, get_or, length, map, refl, sym, ap, subst, ◌∙◌, ⊎_elim, arith, add-one}
 use Rattle.std.specs.Prelude.{◌==◌, ◌&&◌, ◌||◌, nat_le, nat_lt, slice_get, slice_index, if◌then◌else◌, MatchBool}
 use Rattle.std.specs.Option.{option_to_list}
@@ -58,7 +58,7 @@ module _ (t bytes : List ℕ) (es : List EventInText) (i : ℕ) where
   pub starts_none : slice_get (map (λ (e : EventInText). e.entry) es) i ≡ Some None → None ≡ start_at t (first_entry (drop i es))
   starts_none e = sym (ap (start_at t) (entry_there es i None e))
 
--- where the entries begin of the block collection that an event begins
+-- the start of the entries of the block collection that an event begins
 entries_at : (t : List ℕ) (es : List EventInText) (i : ℕ) (e : EventValue) → slice_get (map (λ (e : EventInText). e.event) es) i ≡ Some e
     → entries_from t (drop i es) ≡ (if starts_block e then start_at t (first_entry (drop (suc i) es)) else None)
 entries_at t [] i e q = absurd (none_some q)
@@ -77,7 +77,7 @@ in_none t es i e b q f h = entries_at t es i e q ∙ ap (λ b. if b then start_a
 pub past_events : (t : List ℕ) (es : List EventInText) (i : ℕ) → length es ≤ i → start_at t (first_entry (drop i es)) ≡ None
 past_events t es i l = ap (λ es. start_at t (first_entry es)) (drop_all i es l)
 
--- one more of all of them
+-- one more block collection
 
 all_more : (t : List ℕ) (es : List EventInText) (i : ℕ) → i < length es → all_entries t (drop i es) ≡ and_those (entries_from t (drop i es)) (all_entries t (drop (suc i) es))
 all_more t [] i l = absurd (omega (arith, l))

@@ -1,4 +1,4 @@
--- Laws of what the rule indentation finds event by event.
+-- Laws of the findings of the rule indentation, event by event.
 use Rattle.std.proofs.Common.{◌≡◌, ℕ, ◌+◌, ◌≤◌, false, List, [], ◌∷◌, ◌++◌, Option, Some, None, append_assoc, drop, get_or, length, reverse, unwrap_or, refl, sym, subst, ap, ◌∙◌, ⊎_elim, arith, true≢false, add-one}
 use Rattle.std.specs.List.{Contains}
 use Rattle.std.specs.Option.{option_to_list}
@@ -32,7 +32,7 @@ use Rattle.yf_rule_sets.proofs.Texts.BlockLemmas.{content_same, same_after, scal
 use Rattle.yf_rule_sets.proofs.RuleSets.KeySetLemmas.{nothing_in}
 use Rattle.yf_chars.proofs.Tests.{none_some}
 
--- what is told of the content of one scalar
+-- the content of one scalar
 
 pub content_sole : {src : Table} {r : Lists} {i : ℕ} {x y : ℕ × ℕ} → ContentAt src r i x → ContentAt src r i y → x ≡ y
 content_sole {src} (content_at {props} {style} {text} {s} b f n h y g c) (content_at {props = p} {style = v} {text = x} {s = z} b' f' n' h' y' g' c') =
@@ -68,7 +68,7 @@ module _ (src : Table) (r : Lists) (i : ℕ) where
       content_answers start (Some x) e (of_line h c) =
           subst (λ m. IsTheOne (ContentAt src r i) (Some (m, x.indent))) (sym e) (let k = content_at follows x.first x.indent is h b c in record { holds = k; only = λ y w. content_sole w k })
 
--- answers
+-- results
 
 answers_same : {A : Type 0} (P : A → Type 0) (a b : Option A) → IsTheOne P a → IsTheOne P b → a ≡ b
 answers_same P None None h k = refl
@@ -111,7 +111,7 @@ module _ (P : Stood → ℕ → Type 0) (nodes : List Stood) (os new : List ℕ)
 pub none_found_yet : (P : Stood → ℕ → Type 0) (os : List ℕ) → os ≡ [] → FoundBy P [] os
 none_found_yet P os e = record { only = λ o c. absurd (nothing_in o (subst (λ w. Contains w o) e c)); all = λ s o c p. absurd (nothing_in s c) }
 
--- what is found of one event
+-- the faults of one event
 module _ (src : Table) (r : Lists) (house : Style) (columns : List ℕ) (i : ℕ) (st : List ContextFrame) (content : Option (ℕ × ℕ)) (a : IsTheOne (ContentAt src r i) content)
     (nodes : List Stood) (os new : List ℕ) (f : FoundBy (AtFault src r house columns) nodes os) (answer : Option ℕ) (n : new ≡ os ++ option_to_list answer) where
   pub event_found : (e : EventValue) → slice_get (events_of r) i ≡ Some e
@@ -132,7 +132,7 @@ module _ (src : Table) (r : Lists) (house : Style) (columns : List ℕ) (i : ℕ
   event_found (alias_node name) q h = node_found (AtFault src r house columns) nodes os new f (stood i (outer st) (beside st)) answer
       (fault_answers src r house columns (stood i (outer st) (beside st)) (alias_node name) q content answer a h) n
 
--- one event more
+-- one more event
 
 pub first_reached : (src : Table) (r : Lists) (house : Style) (columns : List ℕ) (begun : ℕ) (st : List ContextFrame) (os : List ℕ) → IsPass src.text r.events columns begun 0 → st ≡ [] → os ≡ []
     → IndentPassAt src r house columns begun 0 st os

@@ -1,4 +1,4 @@
--- What the rule indentation finds of the nodes of trees is what is out of place there.
+-- The rule indentation finds exactly the misplaced nodes of trees.
 use Rattle.std.proofs.Common.{◌≡◌, ℕ, ◌+◌, ◌≤◌, Bool, true, false, not, List, [], Option, Some, None, drop, length, unwrap_or, refl, sym, subst, ap, ◌∙◌, ⊎_elim, true≢false}
 use Rattle.std.specs.List.{Contains}
 use Rattle.std.specs.Prelude.{◌&&◌, if◌then◌else◌, slice_get}
@@ -58,7 +58,7 @@ module _ (src : Table) (r : Lists) (house : Style) (columns : List ℕ) (is : Co
   found_key : {k : NumberedNode} → IsNodeOf trees k → WithoutMark src k.1 → M k.0 ≡ true
   found_key {k} n w = unmarked_found src r columns is k.0 k.1 (node_there t n) ∙ key_unmarked w
 
-  -- the column that is wanted
+  -- the wanted column
   by_column : {x y : NumberedNode} (n : IsNodeOf trees x) (h : IsChildOf x y) (flag : Bool) (wanted : ℕ) → (ImplicitValue src x y → flag ≡ true)
       → (flag ≡ true → is_block_collection x.1 ≡ true → ImplicitValue src x y) → (o : Option ℕ) → C x.0 ≡ o → wanted_column house flag (held o) ≡ Some wanted
       → WantedColumn src house trees y wanted
@@ -108,7 +108,7 @@ module _ (src : Table) (r : Lists) (house : Style) (columns : List ℕ) (is : Co
       both : (b c : Bool) → b ≡ true → c ≡ true → (b && c) ≡ true
       both b c e f = ap (λ b. b && c) e ∙ f
 
-  -- what holds a node of which a column is wanted
+  -- what holds a node with a wanted column
   record HeldBy (y : NumberedNode) (W : Around → Bool → Type 0) : Type 0 where
     around : Around
     beside : Bool
@@ -166,7 +166,7 @@ module _ (src : Table) (r : Lists) (house : Style) (columns : List ℕ) (is : Co
         ∙ ap (λ b. Some (if not b then column else column + house.indent)) s;
   }
 
-  -- the indentation that is wanted
+  -- the wanted indentation
   by_indent : {x y : NumberedNode} (n : IsNodeOf trees x) (h : IsChildOf x y) (wanted : ℕ) (o : Option ℕ) → C x.0 ≡ o → wanted_indent house (held o) ≡ Some wanted → WantedIndent src house trees y wanted
   by_indent n h wanted None e q = absurd (none_some q)
   by_indent {x} {y} n h wanted (Some column) e q = subst (WantedIndent src house trees y) (same_Some _ _ q) (in_entry n h (col_found x n column e).2)
@@ -183,7 +183,7 @@ module _ (src : Table) (r : Lists) (house : Style) (columns : List ℕ) (is : Co
   indent_there (in_entry {x = x} n (as_key c) e) = record { around = held (C x.0); beside = false; is_held = as_its_key n c; wants = ap (λ o. wanted_indent house (held o)) (found_col n e).0 }
   indent_there (in_entry {x = x} n (as_value {k = k} c) e) = record { around = held (C x.0); beside = M k.0; is_held = as_its_value n c; wants = ap (λ o. wanted_indent house (held o)) (found_col n e).0 }
 
-  -- what is found is out of place
+  -- each finding is misplaced
   module _ (y : NumberedNode) (a : Around) (b : Bool) (h : IsHeld C M trees y a b) where
     entry_out : (flag : Bool) (o : ℕ) (c : Option ℕ) → is_sequence y.1 ≡ flag → C y.0 ≡ c
         → entry_fault (unwrap_or (entries_from src.text (drop y.0 r.events)) 0) c (wanted_column house (flag && b) a) ≡ Some o → IndentFault src house trees y.0 o
@@ -236,7 +236,7 @@ module _ (src : Table) (r : Lists) (house : Style) (columns : List ℕ) (is : Co
       let w = all_told C M trees s c in
       (w.node.0, at_out w.node s.around s.beside w.is (subst (λ i. AtFault src r house columns (stood i s.around s.beside) o) (sym w.at) f))
 
-  -- and what is out of place is found
+  -- each misplaced node is found
   no_content : (x : Node) (p : PropsValue) (v : ScalarStyle) (u : List ℕ) → is_block_collection x ≡ true → event_of x ≡ scalar_node p v u → ⊥
   no_content (scalar at props style text lines) p v u h e = true≢false (sym h)
   no_content (alias at name) p v u h e = true≢false (sym h)
@@ -282,7 +282,7 @@ module _ (src : Table) (r : Lists) (house : Style) (columns : List ℕ) (is : Co
     all = λ k o m. let w = out_told k o m in f.all w.0 o w.1 w.2;
   }
 
--- what the whole pass finds
+-- the findings of the whole pass
 pub pass_done : (src : Table) (r : Lists) (house : Style) (columns : List ℕ) (begun i : ℕ) (st : List ContextFrame) (os : List ℕ) → length r.events ≤ i
     → IndentPassAt src r house columns begun i st os → (trees : List DocumentTree) → TreesOf r trees → Exactly (IndentFault src house trees) os
 pass_done src r house columns begun i st os l m trees t =

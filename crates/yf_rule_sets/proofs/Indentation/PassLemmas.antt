@@ -1,4 +1,4 @@
--- Laws of the pass that tells where nodes are.
+-- Laws of the pass that finds the contexts of nodes.
 use Rattle.std.proofs.Common.{◌≡◌, ℕ, suc, ◌+◌, ◌-◌, ◌<◌, Bool, true, false, List, [], ◌∷◌, ◌++◌, Option, Some, None, drop, get_or, length, map, reverse, set, take, unwrap_or, refl, sym, ap, subst, ◌∙◌, arith}
 use Rattle.std.specs.Prelude.{◌&&◌, if◌then◌else◌, slice_get}
 use Rattle.std.proofs.lemmas.List.{drop_all, length-take-le, reverse-append, take-append-drop}
@@ -48,7 +48,7 @@ module _ (xs : List ContextFrame) (n : ℕ) (l : ContextFrame) (c : length xs �
   pub beside_is : (l.is_map && is_beside l.key) ≡ beside (reverse xs)
   beside_is = sym (ap beside first)
 
--- one event more
+-- one more event
 
 module _ (t : List ℕ) (es : List EventInText) (columns : List ℕ) (begun i : ℕ) (l : i < length es) (p : IsPass t es columns begun i) where
   pub none_begun : entries_from t (drop i es) ≡ None → IsPass t es columns begun (i + 1)
@@ -98,7 +98,7 @@ rest_reversed (x ∷ ys) =
     let e : xs ≡ take k xs ++ get_or xs k x ∷ [] = sym (take-append-drop k xs) ∙ ap (λ w. take k xs ++ w) d in
     sym (ap (λ w. drop 1 (reverse w)) e ∙ ap (drop 1) (reverse-append (take k xs) (get_or xs k x ∷ [])))
 
--- a collection that begins
+-- the start of a collection
 abbrev with_entries : Option ℕ → ℕ → NodeContext → NodeContext
 with_entries c f x = record { outer = x.outer; is_implicit_value = x.is_implicit_value; column = c; first = f }
 

@@ -1,4 +1,4 @@
--- Laws of scalars of which the rule indentation finds nothing.
+-- Laws of scalars for which the rule indentation finds nothing.
 use Rattle.std.proofs.Common.{◌≡◌, ℕ, ◌+◌, ◌<◌, List, None, length, reverse, sym, ap, subst, ◌∙◌}
 use Rattle.std.proofs.lemmas.List.{append-nil}
 use Rattle.std.proofs.lemmas.Option.{same_Some}

@@ -1,4 +1,4 @@
--- What the pass tells in trees is what holds their nodes.
+-- In trees, the pass finds what holds their nodes.
 use Rattle.std.proofs.Common.{◌≡◌, ℕ, ◌+◌, ◌<◌, ◌≤◌, ◌⊎◌, Bool, false, List, [], ◌∷◌, ◌++◌, Option, length, refl, sym, subst, ap, ◌∙◌, inl, inr, ⊎_elim, arith}
 use Rattle.std.specs.List.{Contains}
 use Rattle.std.proofs.lemmas.List.Elements.{Contains-append_cases, Contains-append_left, Contains-append_right}
@@ -13,7 +13,7 @@ use Rattle.yf_rule_sets.specs.declared.facts.node_context.Around.{Around}
 use Rattle.yf_rule_sets.specs.declared.facts.node_context.Around.TheVariants.{Nothing}
 use Rattle.yf_forms.proofs.Texts.OneLineRuns.{flat_filled as node_size}
 
--- a node of which it is told
+-- a node of the pass
 pub record NodeWithContext (c : ℕ → Option ℕ) (m : ℕ → Bool) (trees : List DocumentTree) (s : Stood) : Type 0 where
   pub node : NumberedNode
   pub at : node.0 ≡ s.at
@@ -87,11 +87,11 @@ roots_told c m trees (d ∷ ds) i f s q =
     (λ (h : Contains (stood_in_documents c m j ds) s). roots_told c m trees ds j (λ x w. f x (is_later (i + 1, d.root) (roots_from j ds) x w)) s h)
     (Contains-append_cases X (stood_in_documents c m j ds) s q)
 
--- all that is told is so
+-- each result of the pass is right
 pub all_told : (c : ℕ → Option ℕ) (m : ℕ → Bool) (trees : List DocumentTree) (s : Stood) → Contains (stood_in_documents c m 1 trees) s → NodeWithContext c m trees s
 all_told c m trees s q = roots_told c m trees trees 1 (λ x w. w) s q
 
--- the other way: of each node it is told what holds it
+-- the other way: the pass has a result for each node
 
 module _ (c : ℕ → Option ℕ) (m : ℕ → Bool) where
   first_there : (i : ℕ) (a : Around) (b : Bool) (x : Node) → Contains (stood_in c m i a b x) (stood i a b)
@@ -160,7 +160,7 @@ module _ (c : ℕ → Option ℕ) (m : ℕ → Bool) where
       (head_or_later (i + 1, d.root) (roots_from j ds) x q)
 
   module _ (trees : List DocumentTree) where
-    -- all that is told in a node, for some that holds it, is told
+    -- the results within a node, for some holder, are results of the pass
     abbrev Within : NumberedNode → Type 0
     Within x = (a : Around) × (b : Bool) × ((s : Stood) → Contains (stood_in c m x.0 a b x.1) s → Contains (stood_in_documents c m 1 trees) s)
 
@@ -239,7 +239,7 @@ sole_key (alias at name) i k l v q p = absurd (nothing_in (k, v) q)
 sole_key (sequence at flow props items) i k l v q p = absurd (nothing_in (k, v) q)
 sole_key (mapping at flow props pairs) i k l v q p = one_key pairs (i + 1) k l v q p
 
--- no key of a node is a value of it, nor is an item
+-- no key of a node is a value or an item of it
 pub key_no_value : (x : Node) (i : ℕ) (k l v : NumberedNode) → Contains (pairs_of i x) (k, v) → Contains (pairs_of i x) (l, k) → ⊥
 key_no_value (scalar at props style text lines) i k l v q p = nothing_in (k, v) q
 key_no_value (alias at name) i k l v q p = nothing_in (k, v) q

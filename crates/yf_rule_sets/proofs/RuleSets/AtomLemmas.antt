@@ -1,5 +1,5 @@
--- Laws of keys that are scalars or aliases and are written with a `?`: whether they are wanted without it is told by the pass over the
--- events and by themselves.
+-- Laws of keys that are scalars or aliases with a `?`: the pass over the events and the keys themselves decide whether
+-- the `?` is needless.
 use Rattle.std.proofs.Common.{◌≡◌, ◌≢◌, ℕ, zero, suc, ◌+◌, ◌<◌, ◌≤◌, true, false, ◌&&◌, Bool, List, [], ◌∷◌, ◌++◌, Some, length, get_or, flat_map, refl, sym, ap, subst, ◌∙◌, append-nil, arith, true≢false}
 use Rattle.std.specs.Prelude.{replicate, slice_get}
 use Rattle.std.proofs.lemmas.Option.{same_Some}
@@ -30,20 +30,20 @@ Enclosed es i = (j : ℕ) × (y : Node) × NodeAt es j y × (is_flow y ≡ true)
 pub not_enclosed : {es : List EventInText} {i : ℕ} → IsOutsideFlow es i → Enclosed es i → ⊥
 not_enclosed o w = let b = o.outside w.0 w.1 w.2 w.3 w.4 in omega (arith, b, w.5)
 
--- what the role of the event v tells of whether it begins an implicit key
+-- whether the event v begins an implicit key, as far as its role decides it
 pub record Tells (s : Style) (implicit : Bool) (n : Role) (v : EventValue) : Type 0 where
   pub node : implicit ≡ true → begins_node v ≡ true
   pub key : implicit ≡ true → is_key n ≡ true
   pub atom : is_atom v ≡ true → implicit ≡ (is_key n && is_implicit_atom s v)
 
--- The forms of these events, from the index i on, agree with the roles that the pass tells, outside of flow collections.
+-- Outside of flow collections, the forms of these events, from the index i on, agree with the roles of the pass.
 data Agree (s : Style) (es : List EventInText) : ℕ → List Form → List Role → List EventInText → Type 0 where
   none_left : {i : ℕ} → Agree s es i [] [] []
   one_more : {i : ℕ} {f : Form} {n : Role} {e : EventInText} {fs : List Form} {ns : List Role} {ds : List EventInText}
       → (in_flow n ≡ true → Enclosed es i) → (in_flow n ≡ false → Tells s f.is_implicit n e.event)
       → Agree s es (i + 1) fs ns ds → Agree s es i (f ∷ fs) (n ∷ ns) (e ∷ ds)
 
--- an event that begins no key, and one that is no atom besides
+-- an event that begins no key, and one that is not an atom either
 no_key : {s : Style} (n : Role) (v : EventValue) → is_key n ≡ false → Tells s false n v
 no_key {s} n v e = record { node = λ h. absurd (true≢false (sym h)); key = λ h. absurd (true≢false (sym h)); atom = λ h. sym (ap (λ b. b && is_implicit_atom s v) e) }
 
@@ -55,7 +55,7 @@ outer : {s : Style} {es : List EventInText} {i : ℕ} {f : Form} {n : Role} {e :
     → in_flow n ≡ false → Tells s f.is_implicit n e.event → Agree s es (i + 1) fs ns ds → Agree s es i (f ∷ fs) (n ∷ ns) (e ∷ ds)
 outer p t a = one_more (λ h. absurd (true≢false (sym h ∙ p))) (λ h. t) a
 
--- one that is the last of a collection or of others, and no node
+-- a single event that is not an atom, outside of flow collections
 at_end : {s : Style} {es : List EventInText} {i : ℕ} {n : Role} {e : EventInText} → in_flow n ≡ false → is_atom e.event ≡ false → Agree s es i (no_form ∷ []) (n ∷ []) (e ∷ [])
 at_end {n = n} {e = e} p q = outer p (no_node n e.event q) none_left
 
@@ -172,7 +172,7 @@ agree_at {s} {es} {i} zero n e (one_more {f = f} {n = m} {e = d} g h a) p q =
 agree_at {s} {es} {i} (suc k) n e (one_more g h a) p q =
     let w = agree_at k n e a p q in ((λ z. subst (Enclosed es) (let y : i + 1 + k ≡ i + suc k = omega arith in y) (w.0 z)), w.1)
 
--- what the roles tell of a reading with trees
+-- the roles in a reading with trees
 pub role_tells : (t : List ℕ) (r : Lists) (house : Style) (trees : List DocumentTree) (i : ℕ) (n : Role) (e : EventInText) → TreesOf r trees
     → slice_get (roles [] r.events) i ≡ Some n → slice_get r.events i ≡ Some e
     → (in_flow n ≡ true → Enclosed r.events i)

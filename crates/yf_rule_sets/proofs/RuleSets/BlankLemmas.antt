@@ -1,4 +1,4 @@
--- Laws of blank lines, and of what is noted of lines to tell which of them are at fault.
+-- Laws of blank lines, and of the notes that decide which of them are at fault.
 use Rattle.std.proofs.Common.{◌≡◌, ◌≢◌, ℕ, ◌+◌, ◌-◌, ◌<◌, ◌≤◌, Bool, true, false, List, Some, None, length, get_or, set, refl, sym, subst, ap, ◌∙◌, ⊎_elim, arith, true≢false}
 use Rattle.std.specs.Prelude.{slice_get, IfSome, MatchBool}
 use Rattle.std.proofs.lemmas.Bool.{cases_Bool, cases_lt, cases_eq}
@@ -37,7 +37,7 @@ use Rattle.yf_rule_sets.proofs.Texts.BlockLemmas.{scalar_same}
 use Rattle.yf_rule_sets.proofs.Texts.LastLemmas.{EndsInText, no_white_end}
 use Rattle.yf_rule_sets.proofs.Texts.NotedLemmas.{sole_noted, none_noted}
 
--- the lines of a scalar are told by where its content begins and where it ends
+-- the start of a scalar's content and its end determine its lines
 module _ (src : Table) (r : Lists) (i : ℕ) (props : PropsValue) (style : ScalarStyle) (text : List ℕ) (s : Span) (first : ℕ)
     (is : IsScalar r i props style text s) (begun : LinesBegunAt src.lines (content_start src.text s props) first) where
   within_part : {k : ℕ} → ScalarLine src r k i → InRange src.lines (record { first = first; end = s.end; indent = None }) k
@@ -64,7 +64,7 @@ scalar_line_event {r = r} {i = i} (of_scalar {props} {style} {text} h e m n) =
 pub offset_within : {src : Table} {offset k : ℕ} → HasOffset src offset k → k < length src.lines
 offset_within {src} {offset} {k} h = slice_get_within src.lines k h.line h.at
 
--- it is the last one that begins there or before
+-- that line is the last one that begins at the offset or before it
 last_begun : (src : Table) (offset begun k : ℕ) → AreLines src.text src.lines → begun ≤ length src.lines → LinesBegunAt src.lines offset begun → HasOffset src offset k → k + 1 ≡ begun
 last_begun src offset begun k a w b h =
     ⊎_elim
@@ -153,7 +153,7 @@ unless_parts {src} l e (is_white {l = m} f w) = (refl, subst (λ (x : Line). Whi
 pub other_no_blank : (src : Table) (k : ℕ) (b : Bool) (l : Line) → slice_get src.lines k ≡ Some l → (WhitesEnd src.text l.start l.end l.start → ⊥) → BlankUnless src k b → ⊥
 other_no_blank src k b l e n u = n (unless_parts l e u).1
 
--- a line that ends in text is none of white space
+-- a line that ends in text is not one of white space
 pub text_unless : (src : Table) (k : ℕ) (b : Bool) → EndsInText src k → BlankUnless src k b → ⊥
 text_unless src k b f (is_white {l} e w) = let p = f l e in no_white_end src.text l.start l.end l.start p.1 w p.0
 
@@ -162,7 +162,7 @@ pub white_unless : (src : Table) (k : ℕ) (b white : Bool) (l : Line) → b ≡
 white_unless src k b true l e f m = blank_unless src k b l e f m
 white_unless src k b false l e f m = other_no_blank src k b l f m
 
--- a pass over the lines that says of each whether it is blank, in place of whether it is part of a scalar
+-- a pass over the lines that replaces each flag for a scalar's line by the flag for a blank line
 pub record BlankTo (src : Table) (r : Lists) (scalars list : List Bool) (n : ℕ) : Type 0 where
   pub len : length list ≡ length scalars
   pub only : (j : ℕ) → j < n → get_or list j false ≡ true → IsBlank src r j
@@ -217,7 +217,7 @@ module _ (src : Table) (r : Lists) (scalars : List Bool) (notes : FlagsOf scalar
     all = λ k p. b.all k (let m = slice_get_within src.lines k p.line p.at in omega (arith, m, h, w)) p;
   }
 
--- what is answered by a flag
+-- the result of a flag
 pub by_flag : {P : Type 0} {Q : Type 0} (b : Bool) → (b ≡ true → P) → (b ≡ false → Q) → MatchBool b P Q
 by_flag true p q = p refl
 by_flag false p q = q refl
@@ -260,7 +260,7 @@ module _ (src : Table) (r : Lists) (bs ms ds : List Bool) (notes : AreNotes src 
     there : {o : ℕ} → MisplacedBlank src r k o → o ≡ l.start
     there (misplaced {l = x} g b w) = ap (λ (y : Line). y.start) (same_Some _ _ (sym g ∙ f))
 
-  -- before the last line that is not blank, only what is directly before and after counts
+  -- before the last line that is not blank, only the lines directly before and after matter
   pub well_placed : (k last : ℕ) → LastLine bs last → k < last → get_or bs k false ≡ true → (IsAfterBlankOrMarker src r k → ⊥) → (IsBeforeMarker src r k → ⊥) → (o : ℕ) → MisplacedBlank src r k o → ⊥
   well_placed k last h l q f p o (misplaced g b (is_first e)) = f (no_line e)
   well_placed k last h l q f p o (misplaced g b (after_blank e x)) = f (blank e x)
@@ -291,7 +291,7 @@ last_precedes src r bs ms ds k notes h (directive_next x) = let w = document_lin
 pub misplaced_line : {src : Table} {r : Lists} {k o : ℕ} → MisplacedBlank src r k o → k < length src.lines
 misplaced_line {src} {r} {k} (misplaced {l} e b w) = slice_get_within src.lines k l e
 
--- the line of an index, with what is said of it
+-- the line of an index has F
 pub line_said : (src : Table) (k : ℕ) (F : Line → Type 0) → k < length src.lines → IfSome (slice_get src.lines k) F → (l : Line) × (slice_get src.lines k ≡ Some l) × F l
 line_said src k F h f =
     ⊎_elim (λ (w : (x : Line) × (k < length src.lines) × (slice_get src.lines k ≡ Some x) × (get_or src.lines k x ≡ x)).

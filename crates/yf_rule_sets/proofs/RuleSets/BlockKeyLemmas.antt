@@ -1,4 +1,4 @@
--- Laws of the pass that tells keys of block mappings: what it tells in trees, and which events are outside of flow collections.
+-- Laws of the pass that finds keys of block mappings: its result in trees, and the events outside of flow collections.
 use Rattle.std.proofs.Common.{◌≡◌, ℕ, zero, suc, ◌+◌, ◌-◌, ◌<◌, ◌≤◌, Bool, true, false, List, [], ◌∷◌, ◌++◌, Some, drop, length, get_or, flat_map, reverse, set, take, refl, sym, ap, ◌∙◌, append_assoc, ⊎_elim, arith, true≢false}
 use Rattle.std.specs.Prelude.{replicate, slice_get}
 use Rattle.std.proofs.lemmas.Bool.{cases_lt}
@@ -14,7 +14,7 @@ use Rattle.yf_rule_sets.specs.declared.facts.block_keys.Role.{Role}
 use Rattle.yf_rule_sets.specs.declared.facts.block_keys.Role.TheVariants.{InFlow, Item, Key, Value}
 use Rattle.yf_rule_sets.proofs.RuleSets.KeyPassLemmas.{last_is, last_set}
 
--- In trees: the role of the next node at each event of a node that has a role itself.
+-- In trees: the role of the next node at each event of a node with a role.
 abbrev mutual
   pub roles_of : Role → Node → List Role
   roles_of n (scalar at props style text lines) = n ∷ []
@@ -143,7 +143,7 @@ got_same : (k m : ℕ) → k < m → slice_get (replicate m InFlow) k ≡ Some I
 got_same k m l =
     slice_get-get_or (replicate m InFlow) k InFlow (let n = length-replicate m InFlow in omega (arith, l, n)) ∙ ap Some (get_or-replicate m k InFlow InFlow l)
 
--- all of a flow collection but its first event
+-- all events of a flow collection but the first
 inside_flow : (y : Node) (n : Role) (k : ℕ) → is_flow y ≡ true → suc k < length (flat y) → slice_get (roles_of n y) (suc k) ≡ Some InFlow
 inside_flow (scalar at props style text lines) n k f l = absurd cc
 inside_flow (alias at name) n k f l = absurd cc
@@ -194,7 +194,7 @@ key_outside es i n g h = record {
       (cases_lt i (j + length (flat y)));
 }
 
--- as the code keeps the open collections
+-- the open collections in the code
 
 module _ (xs : List Role) (n : ℕ) (l : Role) (c : length xs ≡ n) (h : 0 < n) (e : l ≡ get_or xs (n - 1) l) where
   innermost : reverse xs ≡ l ∷ reverse (take (n - 1) xs)
@@ -204,7 +204,7 @@ module _ (xs : List Role) (n : ℕ) (l : Role) (c : length xs ≡ n) (h : 0 < n)
   role_passed new f =
       ap reverse (last_set xs n l c h e new) ∙ reverse-append (take (n - 1) xs) (new ∷ []) ∙ ap (λ m. m ∷ reverse (take (n - 1) xs)) f ∙ sym (ap after innermost)
 
--- one event more
+-- one more event
 pub event_passed : (es : List EventInText) (i : ℕ) (st before : List Role) (e : EventInText) → length before ≡ i → slice_get es i ≡ Some e
     → roles [] es ≡ before ++ roles st (drop i es)
     → (slice_get (roles [] es) i ≡ Some (next_role st)) × (roles [] es ≡ (before ++ next_role st ∷ []) ++ roles (next e.event st) (drop (i + 1) es))

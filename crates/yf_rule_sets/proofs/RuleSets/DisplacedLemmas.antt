@@ -1,4 +1,4 @@
--- Laws of flow collections that are written otherwise than the house style writes them.
+-- Laws of flow collections that are not written as the house style writes them.
 use Rattle.std.proofs.Common.{◌≡◌, ◌≢◌, ℕ, ◌+◌, ◌-◌, ◌<◌, ◌≤◌, Bool, true, false, List, [], ◌∷◌, ◌++◌, Option, Some, None, length, drop, take, min, refl, sym, ap, subst, ◌∙◌, ⊎_elim, arith, true≢false}
 use Rattle.std.specs.Str.{IsCharBoundary, IsUtf8}
 use Rattle.std.specs.Prelude.{◌==◌, MatchBool, if◌then◌else◌, slice_get, slice_range}
@@ -27,7 +27,7 @@ use Rattle.yf_rule_sets.proofs.Texts.NodeLemmas.{none_first, same_node}
 use Rattle.yf_chars.proofs.Tests.{none_some, some_none, no_cons}
 use Rattle.yf_forms.proofs.Texts.OneLineRuns.{flat_filled as node_size}
 
--- how many events a flow collection has
+-- the number of events of a flow collection
 
 pub empty_size : (x : Node) → is_flow x ≡ true → is_filled_flow x ≡ false → length (flat x) ≡ 2
 empty_size (scalar at props style text lines) h f = absurd (true≢false (sym h))
@@ -59,7 +59,7 @@ is_empty_by x i last e h l = ⊎_elim (λ (f : is_filled_flow x ≡ true). let n
 pub is_filled_by : (x : Node) (i last : ℕ) → last + 1 ≡ i + length (flat x) → is_flow x ≡ true → 1 < last - i → is_filled_flow x ≡ true
 is_filled_by x i last e h l = ⊎_elim (λ (f : is_filled_flow x ≡ true). f) (λ (f : is_filled_flow x ≡ false). let n = empty_size x h f in absurd (omega (arith, n, e, l))) (cases_Bool (is_filled_flow x))
 
--- the text of an empty one
+-- the text of an empty flow collection
 pub empty_bare : (house : Style) (x : Node) → is_flow x ≡ true → is_filled_flow x ≡ false → empty_text (event_of x) ≡ bare house x
 empty_bare house (scalar at props style text lines) h f = absurd (true≢false (sym h))
 empty_bare house (alias at name) h f = absurd (true≢false (sym h))
@@ -68,7 +68,7 @@ empty_bare house (sequence at flow props (item x xs)) h f = absurd (true≢false
 empty_bare house (mapping at flow props no_pairs) h f = refl
 empty_bare house (mapping at flow props (pair k v ps)) h f = absurd (true≢false (sym h ∙ f))
 
--- a part of a text
+-- a span
 
 slice_cut : (t : List ℕ) (a b e : ℕ) → e ≡ min b (length t) → take (e - a) (drop a t) ≡ slice_range t a b
 slice_cut t a b e m = ⊎_elim
@@ -160,7 +160,7 @@ brackets_begin t mapping_ends o inside h = absurd (none_some h)
 brackets_begin t (scalar_node props style text) o inside h = absurd (none_some h)
 brackets_begin t (alias_node name) o inside h = absurd (none_some h)
 
--- the flow collection with that part of the text, which the event of the index i begins
+-- the flow collection with that span, which the event of the index i begins
 pub record Bracketed (src : Table) (r : Lists) (i : ℕ) (inside : Span) : Type 0 where
   pub x : Node
   pub s : Span

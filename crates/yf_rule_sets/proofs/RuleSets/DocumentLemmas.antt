@@ -1,4 +1,4 @@
--- Laws of how documents begin.
+-- Laws of the starts of documents.
 use Rattle.std.proofs.Common.{◌≡◌, ◌≢◌, ℕ, ◌+◌, ◌<◌, ◌≤◌, Bool, true, false, List, ◌∷◌, ◌++◌, Option, Some, None, length, drop, get_or, add-one, append_assoc, refl, sym, subst, ap, ◌∙◌, ◌⊎◌, ⊎_elim, arith, true≢false}
 use Rattle.std.specs.Option.{option_to_list}
 use Rattle.std.specs.Prelude.{slice_get, IfSome}
@@ -33,7 +33,7 @@ starts_there : {t : List ℕ} {m b : Bool} {o x : ℕ} → IsUnmarked t m b o x 
 starts_there without_marker = refl
 starts_there (not_alone n) = refl
 
--- a character of a break is no white
+-- a character of a break is not white
 white_no_break : (c : ℕ) → is_break_char c ≡ true → is_white c ≡ false
 unfolding is_white
 white_no_break c e = ⊎_elim (λ (h : c ≡ 13). ap is_white h) (λ (h : c ≡ 10). ap is_white h) (break_char_cases c e)
@@ -41,7 +41,7 @@ white_no_break c e = ⊎_elim (λ (h : c ≡ 13). ap is_white h) (λ (h : c ≡ 
 ends_white : (t : List ℕ) (i : ℕ) → (is_break_char (code t i) ≡ true) ⊎ (i ≡ length t) → is_white (code t i) ≡ false
 ends_white t i s = ⊎_elim (λ (e : is_break_char (code t i) ≡ true). white_no_break (code t i) e) (λ (e : i ≡ length t). no_white_past t i (omega (arith, e))) s
 
--- other characters than white are after the marker
+-- a character other than white space is after the marker
 pub crowded : (t : List ℕ) (marker end : ℕ) (x : List ℕ) → Many t is_white (marker + 3) end x → is_white (code t end) ≡ false
     → is_break_char (code t end) ≡ false → end ≢ length t → IsAlone t marker → ⊥
 crowded t marker end x m w b n a =
@@ -53,7 +53,7 @@ stuck_there : {t : List ℕ} {i j : ℕ} {x : List ℕ} → Many t is_white i j 
 stuck_there done e = refl
 stuck_there (step (one a) c) e = absurd (true≢false (sym a ∙ e))
 
--- nothing is after a marker beyond the end
+-- nothing is after a marker past the end
 pub beyond_text : (t : List ℕ) (marker : ℕ) → length t ≤ marker → IsAlone t marker → ⊥
 beyond_text t marker l a =
     let same : marker + 3 ≡ a.end = stuck_there a.run (no_white_past t (marker + 3) (omega (arith, l))) in
@@ -72,7 +72,7 @@ char_boundary t i h =
 break_below : (c : ℕ) → is_break_char c ≡ true → c < no_char
 break_below c e = ⊎_elim (λ (h : c ≡ 13). omega arith) (λ (h : c ≡ 10). omega arith) (break_char_cases c e)
 
--- nothing is after a marker that ends inside of a character
+-- nothing is after a marker that ends within a character
 pub inside_char : (t : List ℕ) (marker : ℕ) → (IsCharBoundary t (marker + 3) → ⊥) → IsAlone t marker → ⊥
 inside_char t marker n a = n (by_run a.run a.stops) where
   by_run : {i j : ℕ} {x : List ℕ} → Many t is_white i j x → (is_break_char (code t j) ≡ true) ⊎ (j ≡ length t) → IsCharBoundary t i
@@ -89,7 +89,7 @@ pub crowded_at : (t : List ℕ) (marker end : ℕ) → ((x : List ℕ) × Many t
     → code t end ≢ 10 → code t end ≢ 13 → end ≢ length t → IsAlone t marker → ⊥
 crowded_at t marker end w e m n l a = crowded t marker end w.0 w.1 e (no_break (code t end) m n) l a
 
--- of the documents, and of the events that begin them
+-- documents, and the events that begin them
 pub marker_more : (es : List EventValue) (i : ℕ) (e : EventValue) (ms ns : List Bool) → slice_get es i ≡ Some e → ms ++ markers_in (drop i es) ≡ markers_in es
     → ((rest : List EventValue) → markers_in (e ∷ rest) ≡ ns ++ markers_in rest) → (ms ++ ns) ++ markers_in (drop (i + 1) es) ≡ markers_in es
 marker_more es i e ms ns q inv f =
@@ -148,7 +148,7 @@ marker_step es i ms new o l inv f q =
 pub event_count : (r : Lists) → length (events_of r) ≡ length r.events
 event_count r = length-map r.events (λ e. e.event)
 
--- the same of the documents as the code has them
+-- the documents in the code
 pub document_answered : (t u : List ℕ) (r : Lists) (s : Style) (ds : List Doc) (ms : List Bool) (k : ℕ) (d : Doc) (m b : Bool) (answer : Option ℕ) → u ≡ t → b ≡ may_be_bare s k → ds ≡ r.documents
     → ms ≡ markers_in (events_of r) → k < length ds → k < length ms → m ≡ get_or ms k m → IsTheOne (IsUnmarked u m b (get_or ds k d).start) answer
     → IsTheOne (NoMarkerLine t r s k) answer

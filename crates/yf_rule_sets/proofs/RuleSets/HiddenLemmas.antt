@@ -1,4 +1,4 @@
--- hidden-character: what its pass finds are the hidden characters that no quoted scalar holds.
+-- hidden-character: its pass finds the hidden characters outside of quoted scalars.
 use Rattle.std.proofs.Common.{◌≡◌, ℕ, ◌<◌, ◌≤◌, true, false, List, [], Option, Some, length, sym, subst, ap, ◌∙◌, ⊎_elim, arith}
 use Rattle.std.specs.Str.{IsCharBoundary}
 use Rattle.std.proofs.lemmas.Bool.{cases_Bool}
@@ -23,7 +23,7 @@ use Rattle.yf_rule_sets.specs.RuleSets.Scalars.ScalarSpan.{of_scalar}
 use Rattle.yf_rule_sets.proofs.RuleSets.MarkPassLemmas.{in_cover, out_of_cover, sole_kind, span_event, span_sole}
 use Rattle.yf_rule_sets.proofs.Texts.ExactLemmas.{none_yet, same_answer}
 
--- the part of a quoted scalar is one
+-- the span of a quoted scalar is unique
 pub part_event : {t : List ℕ} {r : Lists} {i : ℕ} {s : Span} → QuotedPart t r i s → i < length r.events
 part_event (of_quoted h q) = span_event (of_scalar h)
 
@@ -42,14 +42,14 @@ part_sole {t} {r} {i} {props} {style} {text} {s} h q = record { holds = of_quote
 no_sign : {t : List ℕ} {reach k : ℕ} → code t k ≡ no_char → (o : ℕ) → IsBeyond IsHiddenSign t reach k o → ⊥
 no_sign e _ (is_beyond s l) = let c = s.is_char in omega (arith, c, e)
 
--- none begins at an offset within a character, and none at the end
+-- none begins within a character or at the end
 pub no_sign_inside : (t : List ℕ) (reach k : ℕ) → (IsCharBoundary t k → ⊥) → (o : ℕ) → IsBeyond IsHiddenSign t reach k o → ⊥
 no_sign_inside t reach k n = ⊎_elim (λ (b : begins t k ≡ true). absurd (n (boundary_from_begins t k b))) (λ (b : begins t k ≡ false). no_sign (code-nowhere t k b)) (cases_Bool (begins t k))
 
 pub sign_there : (t : List ℕ) (reach k c : ℕ) → code t k ≡ c → IsHiddenSign c → reach ≤ k → Sole (IsBeyond IsHiddenSign t reach k) k
 sign_there t reach k c e s l = sole_kind t reach k (subst (λ v. IsHiddenSign v) (sym e) s) l
 
--- where hidden characters are not to be escaped, none is at fault
+-- if the style doesn't escape hidden characters, none is at fault
 apart : Plain ≡ Escaped → ⊥
 apart e = cc
 
@@ -63,7 +63,7 @@ none_asked t r house xs e plain =
       never : (k x : ℕ) → HiddenCharacter t r house k x → ⊥
       never k _ (in_no_quotes escaped c h n f) = apart (sym plain ∙ escaped)
 
--- a hidden character that nothing reaches is in no quoted scalar
+-- a hidden character that no span reaches is in no quoted scalar
 module _ (t : List ℕ) (r : Lists) (house : Style) (escaped : house.invisible ≡ Escaped) (spans : List Span) (count reach k : ℕ) (s : Exactly (QuotedPart t r) spans)
     (c : Covers spans count reach) (b : AllBegin spans count k) (n : NoneBegins spans count k) where
   hidden : (o : ℕ) → IsBeyond IsHiddenSign t reach k o → HiddenCharacter t r house k o
@@ -75,6 +75,6 @@ module _ (t : List ℕ) (r : Lists) (house : Style) (escaped : house.invisible �
   pub hidden_answered : (answer : Option ℕ) → IsTheOne (IsBeyond IsHiddenSign t reach k) answer → IsTheOne (HiddenCharacter t r house k) answer
   hidden_answered answer a = same_answer hidden beyond_all answer a
 
--- at each offset at fault a character begins
+-- a character begins at each offset at fault
 pub hidden_within : {t : List ℕ} {r : Lists} {house : Style} {k o : ℕ} → HiddenCharacter t r house k o → k < length t
 hidden_within {t} {k = k} (in_no_quotes w c h n f) = within_from_code t k c

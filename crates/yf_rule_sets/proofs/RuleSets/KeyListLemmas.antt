@@ -66,7 +66,7 @@ holds_added w [] k = if_itself (same_value (key_value k) w)
 holds_added w (x ∷ own) k = ap (λ b. if same_value (key_value x) w then true else b) (holds_added w own k)
     ∙ if_nested (same_value (key_value x) w) (holds_key w own) (same_value (key_value k) w)
 
--- a set without keys has none
+-- an empty set has no key
 pub none_more : (k : ScalarKey) (ks : List ScalarKey) → length ks ≡ 0 → list_any (is_at (key_cmp k)) ks ≡ false
 none_more k [] e = refl
 none_more k (x ∷ ks) e = absurd (omega (arith, e))
@@ -75,7 +75,7 @@ module _ {outer ks : List ScalarKey} {c : KeyedCollection} {l : OpenCollection} 
   pub own_is : drop c.first ks ≡ i.own
   own_is = ap (λ n. drop n ks) (sym i.begins) ∙ ap (λ ys. drop (length outer) ys) i.keys ∙ drop-append_seam outer i.own
 
-  -- a key that is among the first few
+  -- a key among the first few
   pub key_known : (k : ScalarKey) → true ≡ holds_key (key_value k) (drop c.first ks) → IsLast outer ks c (with_key (key_value k) l) × (true ≡ has_key (key_value k) l.keys)
   key_known k h =
       let w = key_value k in
@@ -91,7 +91,7 @@ module _ {outer ks : List ScalarKey} {c : KeyedCollection} {l : OpenCollection} 
         sym known,
       )
 
-  -- a new one, where no mapping has further keys
+  -- a new one, if no mapping has further keys
   pub key_pushed : (ms : List ScalarKey) (k : ScalarKey) → ms ≡ ks ++ k ∷ [] → false ≡ holds_key (key_value k) (drop c.first ks) → contains key_cmp c.more k ≡ false
       → IsLast outer ms c (with_key (key_value k) l) × (false ≡ has_key (key_value k) l.keys)
   key_pushed ms k e h m =
@@ -114,7 +114,7 @@ module _ {outer ks : List ScalarKey} {c : KeyedCollection} {l : OpenCollection} 
         sym (sym (is.same_keys k) ∙ ap (λ b. if b then true else contains key_cmp c.more k) held ∙ m),
       )
 
-  -- one among the further keys
+  -- a key among the further ones
   pub key_added : (d : KeyedCollection) (k : ScalarKey) (hit : Bool) → false ≡ holds_key (key_value k) (drop c.first ks)
       → ((own : List ScalarKey) (l : OpenCollection) → IsCollection own c l → holds_key (key_value k) own ≡ false
       → (d.first ≡ c.first) × IsCollection own d (with_key (key_value k) l) × (hit ≡ has_key (key_value k) l.keys))
@@ -127,7 +127,7 @@ module _ {outer ks : List ScalarKey} {c : KeyedCollection} {l : OpenCollection} 
   pub turned : (d : KeyedCollection) → d.first ≡ c.first → ((own : List ScalarKey) (l : OpenCollection) → IsCollection own c l → IsCollection own d (past_key None l)) → IsLast outer ks d (past_key None l)
   turned d e g = record { own = i.own; keys = i.keys; begins = i.begins ∙ sym e; collection_is = g i.own l i.collection_is }
 
--- past a scalar that is a key, and past one that is none
+-- past a scalar that is a key, and past one that is not
 module _ (outer ms : List ScalarKey) (c : KeyedCollection) (w : KeyValue) (l : OpenCollection) where
   key_at : (b hit : Bool) → b ≡ true
       → IsLast outer ms c (record { is_map = l.is_map; at_value = not l.at_value; keys = w ∷ (if b then l.keys else l.keys) }) × (hit ≡ has_key w (if b then l.keys else l.keys))

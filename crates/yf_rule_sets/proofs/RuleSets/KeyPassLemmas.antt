@@ -93,7 +93,7 @@ pub start_passed : (mid new : List KeyedCollection) (a : KeyedCollection) (is_ma
 start_passed mid new a is_map ks st q e i h = subst (λ xs. AreCollections ks xs (new_collection is_map ∷ st)) (sym (ap reverse q ∙ reverse_push mid a))
     (one_collection (record { own = []; keys = sym (append-nil ks); begins = e; collection_is = i }) h)
 
--- one event more
+-- one more event
 pub event_at : (r : Lists) (i : ℕ) → i < length r.events → (x : EventInText) × (slice_get r.events i ≡ Some x) × (slice_get (events_of r) i ≡ Some x.event)
 event_at r i h = ⊎_elim
     (λ (w : (x : EventInText) × (i < length r.events) × (slice_get r.events i ≡ Some x) × (get_or r.events i x ≡ x)).

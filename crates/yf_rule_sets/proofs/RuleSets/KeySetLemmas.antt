@@ -1,4 +1,4 @@
--- What the pass finds in trees are the repeated keys of these trees.
+-- In trees, the pass finds the repeated keys of these trees.
 use Rattle.std.proofs.Common.{◌≡◌, ℕ, ◌+◌, ◌<◌, ◌≤◌, ◌⊎◌, Bool, true, false, List, [], ◌∷◌, ◌++◌, Option, Some, None, length, refl, sym, subst, ap, ◌∙◌, inl, inr, ⊎_elim, arith, true≢false}
 use Rattle.std.specs.List.{Contains}
 use Rattle.std.specs.Cmp.{nat_cmp_is}
@@ -37,7 +37,7 @@ is_head x xs = (0, omega arith, refl)
 pub is_later : {X : Type 0} (x : X) (xs : List X) (y : X) → Contains xs y → Contains (x ∷ xs) y
 is_later x xs y c = Contains-append_right (x ∷ []) xs y c
 
--- an offset that is found on a condition
+-- an offset that is found if a condition holds
 when_found : (b : Bool) (o p : ℕ) → Contains (offset_if b p) o → (b ≡ true) × (p ≡ o)
 when_found true o p c = (refl, ⊎_elim (λ (h : p ≡ o). h) (λ (h : Contains [] o). absurd (nothing_in o h)) (head_or_later p [] o c))
 when_found false o p c = absurd (nothing_in o c)
@@ -50,7 +50,7 @@ is_found false p e = absurd (true≢false (sym e))
 abbrev key_at : List (Option (List ℕ)) → NumberedNode → Option KeyValue
 key_at tags k = key_of tags k.0 k.1
 
--- what a key tells of its node
+-- keys and their nodes
 
 not_less : Less ≡ Equal → ⊥
 not_less e = cc
@@ -70,7 +70,7 @@ tag_of (alias at name) tags i w e = absurd (none_some e)
 tag_of (sequence at flow props items) tags i w e = absurd (none_some e)
 tag_of (mapping at flow props pairs) tags i w e = absurd (none_some e)
 
--- values that compare as equal are equal
+-- values that compare equal are equal
 exact_option : {K : Type 0} (R : K → K → Ordering) → CmpEqualImpliesEq R → CmpEqualImpliesEq (option_cmp R)
 exact_option R x None None e = refl
 exact_option R x None (Some b) e = absurd (not_less e)
@@ -130,7 +130,7 @@ none_or : (o : Option KeyValue) → (o ≡ None) ⊎ ((w : KeyValue) × (o ≡ S
 none_or None = inl refl
 none_or (Some w) = inr (w, refl)
 
--- a key that is known repeats an earlier one
+-- a known key repeats an earlier one
 repeats_known : (r : Lists) (trees : List DocumentTree) (x k v : NumberedNode) (ks : List KeyValue) → IsNodeOf trees x → AllOf r.resolved x k.0 ks → Contains (pairs_of x.0 x.1) (k, v)
     → is_known (key_at r.resolved k) ks ≡ true → Repeated r trees (key_place k.1)
 repeats_known r trees x k v ks s a c e = ⊎_elim
@@ -198,7 +198,7 @@ roots_repeat r trees (d ∷ ds) i f o c =
     (λ (h : Contains (found_in_documents r.resolved j ds) o). roots_repeat r trees ds j (λ x m. f x (is_later (i + 1, d.root) (roots_from j ds) x m)) o h)
     (Contains-append_cases (found_in r.resolved (i + 1) d.root) (found_in_documents r.resolved j ds) o c)
 
--- the other way: what is found in a part is found in the whole
+-- the other way: each finding in a part is a finding in the whole
 pub first_same : {a b : NumberedNode} {c d : NumberedNode} → ◌≡◌ {A = NumberedPair} (a, c) (b, d) → a ≡ b
 first_same e = ap (λ (p : NumberedPair). p.0) e
 
@@ -268,7 +268,7 @@ all_found_in : (tags : List (Option (List ℕ))) (trees : List DocumentTree) (x 
 all_found_in tags trees x o (is_root c) h = roots_found tags trees 1 x o c h
 all_found_in tags trees y o (is_inner {x = x} s q) h = all_found_in tags trees x o s (held_found tags x y o q h)
 
--- a key of which an earlier one is the same is found
+-- a key that is equal to an earlier one is found
 known_found : (tags : List (Option (List ℕ))) (ps : Pairs) (i : ℕ) (ks : List KeyValue) (k v : NumberedNode) (w : KeyValue) → has_key w ks ≡ true → Contains (pairs_from i ps) (k, v)
     → key_at tags k ≡ Some w → Contains (found_in_pairs tags i ks ps) (key_place k.1)
 known_found tags no_pairs i ks k v w e c q = absurd (nothing_in (k, v) c)

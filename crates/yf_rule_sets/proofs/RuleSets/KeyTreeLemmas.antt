@@ -1,4 +1,4 @@
--- Laws of what the pass finds in trees.
+-- Laws of the findings of the pass in trees.
 use Rattle.std.proofs.Common.{◌≡◌, ℕ, ◌+◌, Bool, true, false, List, [], ◌∷◌, ◌++◌, Option, Some, None, length, refl, sym, ap, ◌∙◌, append_assoc, arith}
 use Rattle.std.specs.Prelude.{not, flat_map}
 use Rattle.std.proofs.lemmas.List.{append-nil, length-append}
@@ -7,14 +7,14 @@ use Rattle.yf_events.specs.Tree.{Node, scalar, alias, sequence, mapping, Items, 
 use Rattle.yf_rule_sets.specs.Passes.KeyPass.{KeyValue, OpenCollection, add_key, after, found_in, found_in_documents, found_in_items, found_in_pairs, is_known, is_known_in, key_of, run, offset_if}
 use Rattle.yf_rule_sets.specs.RuleSets.Nodes.{key_place}
 
--- a sequence that is open; a mapping that is, before a key, and before a value
+-- an open sequence; an open mapping, before a key and before a value
 abbrev Seq : Bool → List KeyValue → OpenCollection
 Seq b ks = record { is_map = false; at_value = b; keys = ks }
 
 abbrev Map : Bool → List KeyValue → OpenCollection
 Map b ks = record { is_map = true; at_value = b; keys = ks }
 
--- the turns of a sequence mean nothing
+-- `at_value` of a sequence has no meaning
 abbrev flips : Bool → Items → Bool
 flips b no_items = b
 flips b (item x xs) = flips (not b) xs

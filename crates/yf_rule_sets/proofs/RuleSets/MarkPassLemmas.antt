@@ -1,4 +1,4 @@
--- Laws of a pass over byte order marks and the parts of the text that scalars have.
+-- Laws of a pass over byte order marks and the spans of scalars.
 use Rattle.std.proofs.Common.{◌≡◌, ◌≢◌, ℕ, ◌+◌, ◌<◌, ◌≤◌, Bool, true, false, List, [], ◌∷◌, ◌++◌, drop, take, Option, Some, None, length, max, refl, sym, subst, ap, ◌∙◌, inl, inr, ⊎_elim, arith, eqb, MatchBool}
 use Rattle.std.specs.Borrow.{Bor}
 use Rattle.std.specs.Prelude.{slice_get}
@@ -31,12 +31,12 @@ use Rattle.yf_rule_sets.specs.RuleSets.Scalars.{ScalarSpan, IsWithin, LooseMark}
 use Rattle.yf_rule_sets.specs.RuleSets.Scalars.ScalarSpan.{of_scalar}
 use Rattle.yf_rule_sets.specs.RuleSets.Scalars.LooseMark.{in_no_scalar}
 
--- an index at which something is said is one of an event
+-- an index with a span is that of an event
 pub span_event : {r : Lists} {i : ℕ} {s : Span} → ScalarSpan r i s → i < length r.events
 span_event {r} {i} (of_scalar {props} {style} {text} h) =
     let n = slice_get_within (events_of r) i (scalar_node props style text) h.event in omega (arith, n, length-map r.events (λ e. e.event))
 
--- the part of a scalar is one
+-- the span of a scalar is unique
 pub span_sole : {r : Lists} {i : ℕ} {s x : Span} → slice_get (spans_of r) i ≡ Some (Some s) → ScalarSpan r i x → x ≡ s
 span_sole e (of_scalar h) = same_Some _ _ (same_Some _ _ (sym h.part ∙ e))
 
@@ -45,14 +45,14 @@ span_none {x = x} e (of_scalar h) = nothing (same_Some _ _ (sym h.part ∙ e)) w
   nothing : {x : Span} → Some x ≡ None → ⊥
   nothing e = cc
 
--- the same parts in another order
+-- a list of the spans in another order
 pub sorted_same : {Part : ℕ → Span → Type 0} (xs ys : List Span) → IsPermutation xs ys → Exactly Part xs → Exactly Part ys
 sorted_same xs ys p s = record {
   only = λ x c. s.only x (Contains-permutation ys xs x (IsPermutation-sym xs ys p) c);
   all = λ k x h. Contains-permutation xs ys x p (s.all k x h);
 }
 
--- no parts before the first, and one more
+-- no spans before the first, and one more
 pub covers_none : (spans : List Span) → Covers spans 0 0
 covers_none spans = record { bound = λ k s e l. absurd (omega arith); reached = inl refl }
 
@@ -83,7 +83,7 @@ begin_more spans count offset s e b c = record {
       (cases_lt k count);
 }
 
--- the parts from that one on begin after the offset, since they ascend
+-- the spans from that one on begin after the offset, because they ascend
 pub none_from : (spans : List Span) (count offset : ℕ) (s : Span) → slice_get spans count ≡ Some s → offset < s.start → IsNonDecreasingBy (λ (x : Span). x.start) spans
     → NoneBegins spans count offset
 none_from spans count offset s e b up = record {
@@ -101,7 +101,7 @@ none_left spans count offset h = record { none = λ k x f l. absurd (let n = sli
 pub begin_later : (spans : List Span) (count i j : ℕ) → i ≤ j → AllBegin spans count i → AllBegin spans count j
 begin_later spans count i j l b = record { all = λ k s e h. let w = b.all k s e h in omega (arith, w, l) }
 
--- what nothing reaches is in no part, and what is in no part is not reached
+-- an offset that no span reaches is in no span, and an offset in no span is not reached
 module _ {Part : ℕ → Span → Type 0} {spans : List Span} {count reach k : ℕ} (s : Exactly Part spans) (c : Covers spans count reach)
     (b : AllBegin spans count k) (n : NoneBegins spans count k) where
   pub in_cover : (i : ℕ) (x : Span) → Part i x → IsWithin x k → k < reach
@@ -127,7 +127,7 @@ sole_kind {Kind} t reach k e l = record { holds = is_beyond e l; only = λ o h. 
   there : {o : ℕ} → IsBeyond Kind t reach k o → o ≡ k
   there (is_beyond e l) = refl
 
--- a mark that nothing reaches is in no scalar
+-- a mark that no span reaches is in no scalar
 module _ (t : List ℕ) (r : Lists) (spans : List Span) (count reach k : ℕ) (s : Exactly (ScalarSpan r) spans) (c : Covers spans count reach)
     (b : AllBegin spans count k) (n : NoneBegins spans count k) where
   loose : (o : ℕ) → IsBeyond IsMark t reach k o → LooseMark t r k o
@@ -142,7 +142,7 @@ module _ (t : List ℕ) (r : Lists) (spans : List Span) (count reach k : ℕ) (s
 pub mark_text : {t : List ℕ} {r : Lists} {k o : ℕ} → LooseMark t r k o → k < length t
 mark_text {t} {k = k} (in_no_scalar e f) = within_from_code t k (omega (arith, e))
 
--- the scalar that an event is, as the code has it
+-- the scalar at an event, in the code
 pub scalar_event : (r : Lists) (i : ℕ) (e : Event) (props : Props) (style : ScalarStyle) (text : Bor (List ℕ)) → slice_get (events_of r) i ≡ Some (event_value e)
     → e ≡ Scalar props style text → slice_get (events_of r) i ≡ Some (scalar_node (props_value props) style text.now)
 scalar_event r i e props style text h q = h ∙ ap (λ v. Some (event_value v)) q
@@ -177,7 +177,7 @@ pub no_mark_found : (t : List ℕ) (b : Bool) → IsUtf8 t → (b ≡ true) ↔ 
 no_mark_found t true u e = tt
 no_mark_found t false u e = λ k h. false≢true (e.1 (mark_within t k u h))
 
--- and so no mark outside of scalars
+-- so it has no mark outside of scalars
 pub no_loose_mark : (t : List ℕ) (r : Lists) (xs : List ℕ) → xs ≡ [] → ((k : ℕ) → code t k ≢ 0xFEFF) → Exactly (LooseMark t r) xs
 no_loose_mark t r xs e none =
     let empty = none_yet (LooseMark t r) xs e in

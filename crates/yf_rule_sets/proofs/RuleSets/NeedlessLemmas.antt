@@ -1,4 +1,4 @@
--- Laws of keys that are written with a `?` and wanted without.
+-- Laws of keys with a `?` that the house style writes without.
 use Rattle.std.proofs.Common.{◌≡◌, ℕ, ◌<◌, ◌≤◌, Bool, true, false, ◌&&◌, List, [], ◌∷◌, Option, Some, None, length, get_or, refl, sym, ap, subst, ◌∙◌, ⊎_elim, arith, true≢false}
 use Rattle.std.specs.List.{Contains}
 use Rattle.std.specs.Prelude.{◌==◌, if◌then◌else◌, slice_get}
@@ -36,7 +36,7 @@ use Rattle.yf_rule_sets.proofs.Texts.ExactLemmas.{same_answer}
 use Rattle.yf_rule_sets.proofs.RuleSets.KeySetLemmas.{head_or_later, is_head, is_later}
 use Rattle.yf_chars.proofs.Tests.{some_none}
 
--- a list of keys, and the test whether one begins at an index
+-- a list of keys, and the test if one begins at an index
 
 its_number : (i : ℕ) → ((i == i) && true) ≡ true
 its_number i = grind (arith, nat_tests)
@@ -82,7 +82,7 @@ module _ (t : List ℕ) (r : Lists) (i : ℕ) where
   pub no_entry : slice_get (entries_of r) i ≡ Some None → (o : ℕ) → IsMarked t r i o → ⊥
   no_entry e o (marked f m) = some_none (same_Some _ _ (sym f ∙ e))
 
--- what is answered of one event
+-- the result for one event
 
 module _ (src : Table) (r : Lists) (house : Style) (trees : List DocumentTree) (i done : ℕ) (d : FlowsDone r.events i done) where
   pub not_outside : i ≤ done → (o : ℕ) → NeedlessMark src r house trees i o → ⊥

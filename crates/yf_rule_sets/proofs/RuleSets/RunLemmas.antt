@@ -1,4 +1,4 @@
--- Laws of runs of characters, and of the first character after the longest line that is allowed.
+-- Laws of runs of characters, and of the first character past the longest line that is allowed.
 use Rattle.std.proofs.Common.{◌≡◌, ℕ, ◌+◌, ◌-◌, ◌<◌, ◌≤◌, Bool, List, Option, Some, None, length, sym, subst, ap, ◌∙◌, arith, length-append}
 use Rattle.std.specs.Prelude.{slice_get}
 use Rattle.std.proofs.lemmas.Option.{same_Some, slice_get_within}
@@ -15,12 +15,12 @@ use Rattle.yf_rule_sets.specs.RuleSets.ByLine.{IsAfterChars, BeyondLimit}
 use Rattle.yf_rule_sets.specs.RuleSets.ByLine.BeyondLimit.{beyond}
 use Rattle.yf_rule_sets.specs.RuleSets.Exact.{Sole, IsTheOne}
 
--- a run without a character goes nowhere
+-- an empty run ends at its start
 no_length : {t : List ℕ} {p : ℕ → Bool} {i j : ℕ} {z : List ℕ} → Many t p i j z → length z ≡ 0 → j ≤ i
 no_length done h = omega arith
 no_length (step (one a) c) h = absurd (omega arith)
 
--- of two runs from one place the longer one ends no earlier
+-- of two runs from one offset, the longer one ends no earlier
 by_meeting : (t : List ℕ) (j k : ℕ) (x y : List ℕ) → Meets (One t is_char) j k x y → length x ≤ length y → j ≤ k
 by_meeting t j k x y (goes_on z e q) l = chain_forward (one_functional t is_char) e
 by_meeting t j k x y (falls_short z e q) l = no_length e (let n : length x ≡ length y + length z = ap length q ∙ length-append y z in omega (arith, n, l))
@@ -28,19 +28,19 @@ by_meeting t j k x y (falls_short z e q) l = no_length e (let n : length x ≡ l
 pub ends_later : (t : List ℕ) (i j k : ℕ) (x y : List ℕ) → Many t is_char i j x → Many t is_char i k y → length x ≤ length y → j ≤ k
 ends_later t i j k x y c d l = by_meeting t j k x y (chain_meet (one_functional t is_char) c d) l
 
--- after so many characters is the end already
+-- at the end after at most `count` characters, no character follows
 pub too_short : (t : List ℕ) (start end count at passed : ℕ) (x : List ℕ) → Many t is_char start at x → length x ≡ passed → passed ≤ count → end ≤ at
     → (o : ℕ) → IsAfterChars t start end count o → ⊥
 too_short t start end count at passed x m l w e o b =
     let k = ends_later t start at o x b.characters m b.run (omega (arith, l, w, b.many)) in omega (arith, k, e, b.before)
 
--- a run has as many bytes as characters at least
+-- a run has at least as many bytes as characters
 run_bytes : {t : List ℕ} {p : ℕ → Bool} {i j : ℕ} {x : List ℕ} → Many t p i j x → i + length x ≤ j
 run_bytes done = omega arith
 run_bytes {t} {i = i} (step {y = y} (one a) c) =
     let l = next_later t i in let r = run_bytes c in omega (arith, l, r)
 
--- so many bytes have no more characters
+-- a run of n bytes has at most n characters
 pub too_few_bytes : (t : List ℕ) (start end count : ℕ) → end - start ≤ count → (o : ℕ) → IsAfterChars t start end count o → ⊥
 too_few_bytes t start end count h o b = let r = run_bytes b.run in omega (arith, r, h, b.many, b.before)
 
@@ -54,7 +54,7 @@ after_all t start end count at passed x m l w e = record {
       omega (arith, h, k);
 }
 
--- of the line of an index
+-- the line of an index
 in_line : {src : Table} {max k o : ℕ} → BeyondLimit src max k o → (l : Line) (start : ℕ) → slice_get src.lines k ≡ Some l → Marks src.text l.start start
     → IsAfterChars src.text start l.end max o
 in_line {src} {max} {k} {o} (beyond {l = n} {start = s} e m b) l start f q =
@@ -68,7 +68,7 @@ pub line_answers : (src : Table) (max k : ℕ) (l : Line) (start : ℕ) (answer 
 line_answers src max k l start None e m a = λ o b. a o (in_line b l start e m)
 line_answers src max k l start (Some o) e m a = record { holds = beyond e m a.holds; only = λ p b. a.only p (in_line b l start e m) }
 
--- a line that has no more bytes with its break
+-- a line with at most that number of bytes, counting its break
 pub short_line : (src : Table) (max k : ℕ) (l : Line) → slice_get src.lines k ≡ Some l → l.end ≤ l.next → l.next - l.start ≤ max → (o : ℕ) → BeyondLimit src max k o → ⊥
 short_line src max k l e w h o (beyond {l = n} {start = s} f m b) =
     let same : n ≡ l = same_Some _ _ (sym f ∙ e) in

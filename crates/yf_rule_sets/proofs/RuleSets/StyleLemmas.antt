@@ -1,4 +1,4 @@
--- Laws of scalars in another style than the one wanted.
+-- Laws of scalars in another style than wanted.
 use Rattle.std.proofs.Common.{◌≡◌, ◌≢◌, ℕ, ◌<◌, List, Option, Some, None, length, sym, subst, ap, ◌∙◌, arith}
 use Rattle.std.specs.Prelude.{slice_get}
 use Rattle.std.proofs.lemmas.List.{length-map}
@@ -48,7 +48,7 @@ pub misquoted_event : {t : List ℕ} {r : Lists} {house : Style} {i o : ℕ} →
 misquoted_event {r = r} {i = i} (other_style {props} {style} {text} h n) =
     let m = slice_get_within (events_of r) i (scalar_node props style text) h.event in omega (arith, m, length-map r.events (λ e. e.event))
 
--- where the content begins, as the code has it
+-- the start of the content in the code
 pub start_told : (t u : List ℕ) (r : Lists) (i : ℕ) (props : PropsValue) (style : ScalarStyle) (text : List ℕ) (s : Span) (start : ℕ) → IsScalar r i props style text s → u ≡ t
     → start ≡ content_start u s props → StartOf t r i (Some start)
 start_told t u r i props style text s start is e q = subst (λ o. StartOf t r i (Some o)) (sym (q ∙ ap (λ v. content_start v s props) e)) (of_part is)

@@ -75,7 +75,7 @@ blank_line {src} {k} (at_line_end {l} e w h) = slice_get_within src.lines k l e
 no_end : {src : Table} {r : Lists} {k o : ℕ} → ((j x : ℕ) → BlankEnd src j false x → ⊥) → TrailingBlank src r k o → ⊥
 no_end {k = k} {o = o} f (trailing h n) = f k o h
 
--- where white space ends no line, nothing is found
+-- if white space ends no line, the rule finds nothing
 pub no_trailing : (src : Table) (r : Lists) (xs : List ℕ) → xs ≡ [] → ((k o : ℕ) → BlankEnd src k false o → ⊥) → Exactly (TrailingBlank src r) xs
 no_trailing src r xs e f =
     let empty = none_yet (TrailingBlank src r) xs e in

@@ -15,7 +15,7 @@ starts_order t ls i j a b h e f l =
     let q = ap (λ (w : Line). w.start) (get_or_from_slice_get ls j b a f) in
     omega (arith, u, p, q)
 
--- the last of the lines before k begins there or before, and so do all others
+-- the last of the lines before k begins at the offset or before it, and so do all others
 all_before : (t : List ℕ) (ls : List Line) (offset k m : ℕ) (l : Line) → AreLines t ls → BegunTo ls offset k → slice_get ls m ≡ Some l → m < k → l.start ≤ offset
 all_before t ls offset k m l a b e h =
     let n : k - 1 < length ls = let w = b.within in omega (arith, w, h) in
@@ -36,7 +36,7 @@ begun_all t ls offset k a b h = record {
   follows = λ m l f w. absurd (let n = slice_get_within ls m l f in omega (arith, n, w, h));
 }
 
--- two such numbers are one, or both lie past the last line
+-- two such numbers are equal, or both are past the last line
 pub begun_same : (ls : List Line) (offset j k : ℕ) (l : Line) (m : ℕ) → LinesBegunAt ls offset j → LinesBegunAt ls offset k → slice_get ls m ≡ Some l → j ≤ m → j < k → ⊥
 begun_same ls offset j k l m a b e w h =
     let n = slice_get_within ls m l e in

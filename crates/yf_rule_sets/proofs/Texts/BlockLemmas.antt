@@ -15,21 +15,21 @@ use Rattle.yf_rule_sets.specs.RuleSets.Scalars.{IsScalar, BlockContent, InBlock,
 use Rattle.yf_rule_sets.specs.RuleSets.Scalars.ContentLine.{of_block}
 use Rattle.yf_rule_sets.proofs.Texts.BegunLemmas.{begun_same}
 
--- the content of a block scalar is told by its text and the line after its header
+-- the text of a block scalar and the line after its header determine its content
 pub content_same : (ls : List Line) (text : List ℕ) (follows f n g m : ℕ) → BlockContent ls text follows f n → BlockContent ls text follows g m → (f ≡ g) × (n ≡ m)
 content_same ls text follows f n g m a b =
     let same : f ≡ g = a.empty ∙ sym b.empty in
     let line : a.line ≡ b.line = same_Some _ _ (sym (subst (λ k. slice_get ls k ≡ Some a.line) same a.at) ∙ b.at) in
     (same, a.spaces ∙ ap (λ (l : Line). l.indent - head_count 32 (drop (head_count 10 text) text)) line ∙ sym b.spaces)
 
--- two numbers of lines begun at one offset are one, if there is a line after the second
+-- two numbers of lines begun at one offset are equal, if a line follows the second
 pub same_after : (ls : List Line) (offset j k m : ℕ) (l : Line) → LinesBegunAt ls offset j → LinesBegunAt ls offset k → slice_get ls m ≡ Some l → k ≤ m → j ≡ k
 same_after ls offset j k m l a b e h =
     ⊎_elim (λ (x : j < k). absurd (begun_same ls offset j k l m a b e (omega (arith, x, h)) x))
     (λ (x : k ≤ j). ⊎_elim (λ (y : k < j). absurd (begun_same ls offset k j l m b a e h y)) (λ (y : j ≤ k). omega (arith, x, y)) (cases_lt k j))
     (cases_lt j k)
 
--- what an event is
+-- the event at an index is unique
 pub record Same (p q : PropsValue) (v w : ScalarStyle) (x y : List ℕ) (s z : Span) : Type 0 where
   pub props : p ≡ q
   pub style : v ≡ w
@@ -55,7 +55,7 @@ module _ (src : Table) (r : Lists) (i : ℕ) (props : PropsValue) (style : Scala
   no_block_line e k (of_block b f n h y g c l) = true≢false (sym y ∙ ap is_block_style (scalar_same h is).style ∙ e)
 
   module _ (follows : ℕ) (begun : LinesBegunAt src.lines (content_start src.text s props) follows) where
-    -- a content line that something else tells is in the content told from here
+    -- a content line from any other derivation is in the content found here
     told : {k : ℕ} → ContentLine src r k i → (first : ℕ) × (indent : ℕ) × BlockContent src.lines text follows first indent × InBlock src.lines first indent s.end k
     told {k} (of_block {props = p} {style = v} {text = x} {s = z} b f n h y g c l) =
         let q = scalar_same h is in
@@ -77,7 +77,7 @@ module _ (src : Table) (r : Lists) (i : ℕ) (props : PropsValue) (style : Scala
       λ l. of_block follows first indent is y begun c l,
     )
 
--- where no line is left after the empty ones, and where the text has line feeds alone
+-- no line is left after the empty ones, or the text has only line feeds
 pub past_lines : (ls : List Line) (text bs : List ℕ) (follows feeds n : ℕ) → bs ≡ text → feeds ≡ head_count 10 bs → n ≡ length ls → n - follows ≤ feeds → follows ≤ length ls
     → (f m : ℕ) → BlockContent ls text follows f m → ⊥
 past_lines ls text bs follows feeds n e q z h w f m c =

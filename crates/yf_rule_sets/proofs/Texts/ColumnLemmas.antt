@@ -1,4 +1,4 @@
--- An offset at which no character begins has column 1, if it has any.
+-- An offset within a character has column 1, if it has any.
 use Rattle.std.proofs.Common.{◌≡◌, ℕ, ◌+◌, ◌-◌, ◌≤◌, ◌⊎◌, List, [], length, refl, subst, inl, inr, ⊎_elim, ap, arith}
 use Rattle.std.specs.Str.{IsCharBoundary, IsUtf8}
 use Rattle.yf_chars.specs.Chain.{Many, one}

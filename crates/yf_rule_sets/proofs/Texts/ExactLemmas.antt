@@ -1,4 +1,4 @@
--- Laws of lists that hold exactly what is meant, as a pass finds it.
+-- Laws of lists with exactly the wanted items, as a pass finds them.
 use Rattle.std.proofs.Common.{◌≡◌, ℕ, ◌+◌, ◌<◌, ◌≤◌, List, [], ◌∷◌, ◌++◌, Option, Some, None, sym, subst, ◌∙◌, ⊎_elim, arith}
 use Rattle.std.specs.List.{Contains}
 use Rattle.std.specs.Option.{option_to_list}
@@ -16,7 +16,7 @@ none_yet P xs e = record {
   nothing : {A : Type 0} (x : A) → Contains {X = A} [] x → ⊥
   nothing x c = omega (arith, c.1)
 
--- a step with an answer, and one without
+-- a step with a result, and one without
 pub one_found : {A : Type 0} (P : ℕ → A → Type 0) (n : ℕ) (xs ys : List A) (x : A) → UpTo P n xs → Sole (P n) x → ys ≡ xs ++ x ∷ [] → UpTo P (n + 1) ys
 one_found P n xs ys x u s e = subst (UpTo P (n + 1)) (sym e) (record {
   only = λ y c. ⊎_elim (λ (h : Contains xs y). let w = u.only y h in (w.0, omega (arith, w.1), w.2)) (λ (h : x ≡ y). (n, omega arith, subst (P n) h s.holds))
@@ -35,18 +35,18 @@ none_found P n xs ys u s e = subst (UpTo P (n + 1)) (sym e) (record {
       (cases_lt k n);
 })
 
--- a step, with its answer or without one
+-- a step, with a result or without one
 pub answer_found : {A : Type 0} (P : ℕ → A → Type 0) (n : ℕ) (xs ys : List A) (answer : Option A) → UpTo P n xs → IsTheOne (P n) answer
     → ys ≡ xs ++ option_to_list answer → UpTo P (n + 1) ys
 answer_found P n xs ys None u s e = none_found P n xs ys u s (e ∙ append-nil xs)
 answer_found P n xs ys (Some x) u s e = one_found P n xs ys x u s e
 
--- the one answer where the same is meant in other words
+-- the unique result under an equivalent relation
 pub same_answer : {A : Type 0} {P Q : A → Type 0} → ((x : A) → P x → Q x) → ((x : A) → Q x → P x) → (answer : Option A) → IsTheOne P answer → IsTheOne Q answer
 same_answer to back None f = λ x q. f x (back x q)
 same_answer to back (Some x) a = record { holds = to x a.holds; only = λ y q. a.only y (back y q) }
 
--- a pass over all indices at which something can be meant
+-- a pass over all indices with wanted items
 pub all_found_upto : {A : Type 0} (P Q : ℕ → A → Type 0) (n : ℕ) (xs : List A) → UpTo P n xs → ((k : ℕ) (x : A) → k < n → P k x → Q k x)
     → ((k : ℕ) (x : A) → Q k x → (k < n) × P k x) → Exactly Q xs
 all_found_upto P Q n xs u f g = record {

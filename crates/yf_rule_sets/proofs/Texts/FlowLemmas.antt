@@ -1,4 +1,4 @@
--- Laws of the pass that tells which events are in flow collections.
+-- Laws of the pass that finds the events in flow collections.
 use Rattle.std.proofs.Common.{◌≡◌, ℕ, ◌+◌, ◌<◌, ◌≤◌, ◌⊎◌, Bool, true, false, List, Option, Some, None, length, get_or, map, refl, sym, ap, subst, ◌∙◌, inl, inr, ⊎_elim, arith, true≢false}
 use Rattle.std.specs.Prelude.{option_map, slice_get}
 use Rattle.std.proofs.lemmas.Bool.{cases_lt}
@@ -58,14 +58,14 @@ flow_begins mapping_ends h = absurd (true≢false (sym h))
 flow_begins (scalar_node props style text) h = absurd (true≢false (sym h))
 flow_begins (alias_node name) h = absurd (true≢false (sym h))
 
--- an event of a list with places
+-- an event of a list of events in a text
 pub placed_at : (es : List EventInText) (i : ℕ) (v : EventValue) → slice_get (map (λ e. e.event) es) i ≡ Some v → (e : EventInText) × (slice_get es i ≡ Some e) × (e.event ≡ v)
 placed_at es i v q = by (slice_get es i) (sym (slice_get-map (λ (e : EventInText). e.event) es i) ∙ q) refl where
   by : (o : Option EventInText) → option_map (λ (e : EventInText). e.event) o ≡ Some v → slice_get es i ≡ o → (e : EventInText) × (slice_get es i ≡ Some e) × (e.event ≡ v)
   by None h s = absurd cc
   by (Some e) h s = (e, s, same_Some _ _ h)
 
--- an event that begins a flow collection, and a node whose event does
+-- an event that begins a flow collection, and a node that begins with such an event
 pub flow_begun : (r : Lists) (trees : List DocumentTree) (i : ℕ) (e : EventValue) → TreesOf r trees → slice_get (events_of r) i ≡ Some e → starts_flow e ≡ true
     → (x : Node) × NodeAt r.events i x × (is_flow x ≡ true)
 flow_begun r trees i e t q h =
@@ -77,7 +77,7 @@ pub no_flow_begun : (es : List EventInText) (i : ℕ) (e : EventValue) → slice
     → is_flow x ≡ true → ⊥
 no_flow_begun es i e q h x n f = true≢false (sym f ∙ sym (flow_event x) ∙ ap starts_flow (same_Some _ _ (sym (event_there n) ∙ q)) ∙ h)
 
--- one event more
+-- one more event
 
 pub is_outside : {es : List EventInText} {i done : ℕ} → FlowsDone es i done → done < i → IsOutsideFlow es i
 is_outside d l = record { outside = λ j y n f h. ⊎_elim (λ p. p) (λ p. omega (arith, p, l)) (d.bound j y n f h) }
@@ -143,7 +143,7 @@ last_there {i = i} {x = x} m d n e =
     let q = ap (λ w. w.last) (measure_there m d n e) in
     omega (arith, s, q)
 
--- with measures of flow collections alone
+-- with measures only of flow collections
 
 pub same_flow : (x : Node) → is_flow x ≡ true → FlowsAlone.is_flow x ≡ true
 same_flow (scalar at props style text lines) f = f
@@ -155,7 +155,7 @@ pub last_alone : {t : List ℕ} {c : LayoutSetting} {es : List EventInText} {ms 
     → NodeAt es i x → is_flow x ≡ true → m ≡ get_or ms i no_measure → m.last + 1 ≡ i + length (flat x)
 last_alone {x = x} m d n f e = last_there m d (flow_at n (same_flow x f)) e
 
--- as the code passes an event
+-- the step of the code
 
 pub item_at : {X : Type 0} (xs : List X) (i : ℕ) → i < length xs → (x : X) × (slice_get xs i ≡ Some x)
 item_at {X} xs i l = ⊎_elim

@@ -1,4 +1,4 @@
--- What the last bytes of a line tell of the end of its text.
+-- The last bytes of a line decide whether its text ends with white space.
 use Rattle.std.proofs.Common.{◌≡◌, ℕ, ◌+◌, ◌-◌, ◌<◌, ◌≤◌, Bool, true, false, List, Some, length, get_or, sym, subst, ◌∙◌, ⊎_elim, arith, true≢false}
 use Rattle.std.specs.Prelude.{slice_get}
 use Rattle.std.specs.Str.{IsUtf8}
@@ -18,7 +18,7 @@ use Rattle.yf_rule_sets.specs.RuleSets.ByLine.BlankEnd.{at_line_end}
 use Rattle.yf_rule_sets.specs.RuleSets.Whites.{WhitesEnd}
 use Rattle.yf_rule_sets.proofs.Texts.WhitesLemmas.{white_within}
 
--- before a line feed, and after a byte above the space, a line's text ends
+-- a line's text ends before a line feed and after a byte above the space
 text_before_feed : {t : List ℕ} {e n : ℕ} (s : ℕ) → IsUtf8 t → LineEnd t e n → NoBreakIn t s e → s + 2 ≤ n → code t (n - 1) ≡ 10 → 32 < get_or t (n - 2) 0 → e + 1 ≡ n
 text_before_feed {t} s u (at_break (cr_lf {i} a b)) w l c d =
     let x = byte_from_code t i u (omega (arith, a)) in
@@ -32,7 +32,7 @@ text_before_feed {t} s u (at_break (lone_cr {i} a b)) w l c d =
 text_before_feed s u (at_break (lone_lf a b)) w l c d = omega arith
 text_before_feed {t} s u (at_end {i} e) w l c d = absurd (true≢false (sym (lf_breaks t (i - 1) c) ∙ w.none (i - 1) (omega (arith, l)) (omega (arith, l))))
 
--- a byte above the space is no white space
+-- a byte above the space is not white space
 not_white : (t : List ℕ) (i : ℕ) → IsUtf8 t → 32 < get_or t i 0 → is_white (code t i) ≡ false
 not_white t i u d =
     ⊎_elim (λ (e : is_white (code t i) ≡ true).
@@ -49,12 +49,12 @@ line_in_text t l u is w n a b =
     let same : l.next - 2 ≡ l.end - 1 = omega (arith, e) in
     (omega (arith, e, w), subst (λ k. is_white (code t k) ≡ false) same (not_white t (l.next - 2) u b))
 
--- the line of an index is one
+-- the line of an index is unique
 pub same_line : (src : Table) (k : ℕ) (a b : Line) → slice_get src.lines k ≡ Some a → slice_get src.lines k ≡ Some b
     → (a.start < a.end) × (is_white (code src.text (a.end - 1)) ≡ false) → (b.start < b.end) × (is_white (code src.text (b.end - 1)) ≡ false)
 same_line src k a b e f h = subst (λ (l : Line). (l.start < l.end) × (is_white (code src.text (l.end - 1)) ≡ false)) (same_Some _ _ (sym e ∙ f)) h
 
--- white space ends no such line
+-- no such line ends with white space
 pub no_white_end : (t : List ℕ) (start end o : ℕ) → is_white (code t (end - 1)) ≡ false → WhitesEnd t start end o → o < end → ⊥
 no_white_end t start end o f w l = true≢false (sym (white_within (end - 1) w.run (omega (arith, l)) (omega (arith, l))) ∙ f)
 
@@ -64,7 +64,7 @@ EndsInText src k = (l : Line) → slice_get src.lines k ≡ Some l → (l.start 
 pub text_no_blank_end : (src : Table) (k : ℕ) (b : Bool) → EndsInText src k → (o : ℕ) → BlankEnd src k b o → ⊥
 text_no_blank_end src k b f o (at_line_end {l} e w h) = no_white_end src.text l.start l.end o (f l e).1 w h
 
--- the line of that index has no text, or a last character that is no white space
+-- the line of that index has no text, or a last character that is not white space
 pub empty_no_blank_end : (src : Table) (k : ℕ) (l : Line) → slice_get src.lines k ≡ Some l → l.end ≤ l.start → (o : ℕ) → BlankEnd src k false o → ⊥
 empty_no_blank_end src k l e n o (at_line_end {l = m} f w h) =
     let same : l ≡ m = same_Some _ _ (sym e ∙ f) in

@@ -1,4 +1,5 @@
--- How nodes are among the events of trees: each event that begins a node begins one, and two nodes are apart or one in the other.
+-- Nodes among the events of trees: each event that begins a node begins one, and two nodes are apart or one is in the
+-- other.
 use Rattle.std.proofs.Common.{◌≡◌, ℕ, zero, suc, ◌+◌, ◌-◌, ◌<◌, ◌≤◌, true, false, List, [], ◌∷◌, ◌++◌, length, drop, take, flat_map, refl, sym, ap, subst, ◌∙◌, append_assoc, append-nil, add-one, get_or, Some, ⊎_elim, arith, true≢false}
 use Rattle.std.proofs.lemmas.Bool.{cases_lt}
 use Rattle.std.proofs.lemmas.List.{drop_at, length-append, length-take-le, take-append-drop}
@@ -13,12 +14,12 @@ use Rattle.yf_events.specs.declared.lists.Lists.{Lists}
 use Rattle.yf_events.proofs.TreeLemmas.{node_unique}
 use Rattle.yf_forms.specs.Nodes.SingleAnswers.{NodeAt}
 
--- What is at an index: a node that ends within the first n events, or an event that begins none.
+-- At an index: a node that ends within the first n events, or an event that begins none.
 pub data IsAt (es : List EventInText) (i n : ℕ) : Type 0 where
   a_node : (y : Node) (after : List EventInText) → drop i es ≡ flat y ++ after → i + length (flat y) ≤ n → IsAt es i n
   no_node : (e : EventInText) (more : List EventInText) → drop i es ≡ e ∷ more → begins_node e.event ≡ false → IsAt es i n
 
--- the same in a longer list: after k other events, and before others
+-- the node in a longer list: after k other events, and before others
 moved : {es fs : List EventInText} {i j n m : ℕ} (k : ℕ) → drop j fs ≡ drop i es → j ≡ k + i → k + n ≤ m → IsAt es i n → IsAt fs j m
 moved k e s l (a_node y after d b) = a_node y after (e ∙ d) (omega (arith, s, l, b))
 moved k e s l (no_node f more d b) = no_node f more (e ∙ d) b
@@ -93,7 +94,7 @@ stream_is_at ds i l =
     (in_parts (start ∷ []) (flat_map flat_document ds ++ (end ∷ [])) [] i l (λ m q. at_end start ((flat_map flat_document ds ++ (end ∷ [])) ++ []) refl m q)
     (λ m q. in_parts (flat_map flat_document ds) (end ∷ []) [] m q (λ n w. documents_stand ds (end ∷ []) n w) (λ n w. at_end end [] refl n w)))
 
--- what is first of a node
+-- the first event of a node
 
 pub first_begins : (x : Node) (after more : List EventInText) (e : EventInText) → flat x ++ after ≡ e ∷ more → begins_node e.event ≡ true
 first_begins (scalar at props style text lines) after more e q = ap (λ d. begins_node d.event) (sym (same_head {A = EventInText} q))
@@ -106,7 +107,7 @@ first_begins (mapping at flow props pairs) after more e q = ap (λ d. begins_nod
 pub events_after : {es : List EventInText} {i : ℕ} {x : Node} (n : NodeAt es i x) → drop i es ≡ flat x ++ n.after
 events_after {i = i} {x = x} n = ap (drop i) n.is ∙ drop_at n.before (flat x ++ n.after) i n.index
 
--- at one index one node begins
+-- only one node begins at an index
 pub same_node : {es : List EventInText} {i : ℕ} {x y : Node} → NodeAt es i x → NodeAt es i y → x ≡ y
 same_node {x = x} {y = y} n m = (node_unique x y n.after m.after (sym (events_after n) ∙ events_after m)).0
 
@@ -125,7 +126,7 @@ ends_within {es = es} {i = i} {j = j} {x = x} {y = y} n m l h =
         omega (arith, s, b, same)
     by k s d (no_node e more q b) = absurd (true≢false (sym (first_begins y m.after more e (sym d ∙ q)) ∙ b))
 
--- the event at an index, where it begins a node
+-- the event at an index, if it begins a node
 pub begins_at : (r : Lists) (ds : List DocumentTree) (i : ℕ) (e : EventInText) → TreesOf r ds → slice_get r.events i ≡ Some e → begins_node e.event ≡ true → (x : Node) × NodeAt r.events i x
 begins_at r ds i e t g b = by (subst (λ es. IsAt es i (length r.events)) (sym t.events)
     (subst (λ n. IsAt (flat_stream ds) i n) (ap length (sym t.events)) (stream_is_at ds i (subst (λ es. i < length es) t.events (slice_get_within r.events i e g)))))

@@ -1,10 +1,10 @@
--- Laws of notes on lines.
+-- Laws of flags of lines.
 use Rattle.std.proofs.Common.{◌≡◌, ◌≢◌, ℕ, ◌+◌, ◌<◌, ◌≤◌, Bool, true, false, List, length, get_or, set, replicate, refl, sym, subst, ap, ◌∙◌, inl, inr, ⊎_elim, arith, true≢false}
 use Rattle.std.proofs.lemmas.Bool.{cases_lt, cases_eq}
 use Rattle.std.proofs.lemmas.List.{get_or-set_same, get_or-set_other, get_or-replicate, get_or_past, length-replicate, length-set}
 use Rattle.yf_rule_sets.specs.Passes.LineFlags.{FlagsAdded, FlagsOf, ListTells}
 
--- what a pass over the lines has noted before the line `at`
+-- P holds for k, and k is before the line `at`
 pub record Until (P : ℕ → Type 0) (at k : ℕ) : Type 0 where
   pub holds : P k
   pub before : k < at
@@ -49,7 +49,7 @@ lines_noted old new P at f n = record {
   all = λ k m q. n.all k m (record { holds = q; before = f k m q });
 }
 
--- of the events: none yet, one that says something, one that says nothing
+-- the events: none yet, one that flags a line, one that flags none
 none_true : (n k : ℕ) → get_or (replicate n false) k false ≡ true → ⊥
 none_true n k e = ⊎_elim (λ (h : k < n). true≢false (sym e ∙ get_or-replicate n k false false h))
     (λ (h : n ≤ k). true≢false (sym e ∙ get_or_past (replicate n false) k false (omega (arith, h, length-replicate n false)))) (cases_lt k n)
@@ -69,7 +69,7 @@ one_noted_by old new i P Q f n b = record {
       (cases_lt j i);
 }
 
--- one line is noted, or none
+-- one line is flagged, or none
 pub sole_noted : (old : List Bool) (P : ℕ → Type 0) (at : ℕ) → at < length old → P at → ((k : ℕ) → P k → k ≡ at) → FlagsAdded old (set old at true) P
 sole_noted old P at l p f = record {
   len = length-set old at true;
@@ -82,7 +82,7 @@ sole_noted old P at l p f = record {
 pub none_noted : (old : List Bool) (P : ℕ → Type 0) → ((k : ℕ) → P k → ⊥) → FlagsAdded old old P
 none_noted old P f = record { len = refl; only = λ k q. inl q; kept = λ k q. q; all = λ k m q. absurd (f k q) }
 
--- the same under another name
+-- the flags for an equivalent relation
 pub noted_as : (old new : List Bool) (P Q : ℕ → Type 0) → ((k : ℕ) → P k → Q k) → ((k : ℕ) → Q k → P k) → FlagsAdded old new P → FlagsAdded old new Q
 noted_as old new P Q f g n = record {
   len = n.len;
@@ -91,7 +91,7 @@ noted_as old new P Q f g n = record {
   all = λ k m q. n.all k m (g k q);
 }
 
--- what the indices below n say, step by step
+-- the flags of the indices below n, step by step
 abbrev pub Below : (ℕ → ℕ → Type 0) → ℕ → ℕ → Type 0
 Below P n k = (i : ℕ) × (i < n) × P i k
 
@@ -114,7 +114,7 @@ one_below old mid new P n a b = record {
 pub all_below : (old new : List Bool) (P : ℕ → ℕ → Type 0) (n : ℕ) → ((i k : ℕ) → P i k → i < n) → FlagsAdded old new (Below P n) → FlagsAdded old new (λ k. (i : ℕ) × P i k)
 all_below old new P n f a = noted_as old new (Below P n) (λ k. (i : ℕ) × P i k) (λ k w. (w.0, w.2)) (λ k w. (w.0, f w.0 k w.1, w.1)) a
 
--- of lines of which nothing is noted at first, the notes tell it
+-- if no line is flagged at first, the flags are exact
 pub noted_tells : (n : ℕ) (xs ys : List Bool) (P : ℕ → Type 0) → xs ≡ replicate n false → ((k : ℕ) → P k → k < n) → FlagsAdded xs ys P → ListTells ys P
 noted_tells n xs ys P e f a = record {
   only = λ k q. ⊎_elim (λ (o : get_or xs k false ≡ true). absurd (none_true n k (sym (ap (λ zs. get_or zs k false) e) ∙ o))) (λ (o : P k). o) (a.only k q);

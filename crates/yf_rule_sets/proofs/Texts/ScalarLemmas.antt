@@ -1,4 +1,4 @@
--- Laws of the lines of a scalar as the code has them.
+-- Laws of the lines of a scalar in the code.
 use Rattle.std.proofs.Common.{◌≡◌, ℕ, ◌<◌, ◌≤◌, true, List, Option, Some, None, MatchOption, refl, sym, subst, ◌∙◌, ⊎_elim, arith}
 use Rattle.std.specs.Borrow.{Bor}
 use Rattle.std.specs.Prelude.{slice_get}
@@ -35,7 +35,7 @@ use Rattle.yf_rule_sets.proofs.RuleSets.BlankLemmas.{part_lines}
 use Rattle.yf_rule_sets.proofs.Texts.BlockLemmas.{block_content, no_block_line, no_content}
 use Rattle.yf_rule_sets.proofs.Indentation.FaultLemmas.{content_answers}
 
--- what the code answers of one scalar
+-- the result of the code for one scalar
 pub block_content_is : (ls : List Line) (style : ScalarStyle) (text : List ℕ) (after : ℕ) (answer : Option ContentStart) → is_block_style style ≡ true
     → MatchOption answer ((first indent : ℕ) → BlockContent ls text after first indent → ⊥) (λ c. BlockContent ls text after c.first c.indent)
     → IsContent ls style text after answer
@@ -49,7 +49,7 @@ pub lines_told : (src : Table) (r : Lists) (i : ℕ) (props : PropsValue) (style
 lines_told src r i props style text s is first b start content e c =
     subst (λ o. LinesOfScalar src r i (Some (record { start = o; first = first; end = s.end; content = content }))) (sym e) (has_lines is b c)
 
--- what it answers where there is none
+-- its result if there is none
 no_node : (e : Event) → ((props : Props) (style : ScalarStyle) (text : Bor (List ℕ)) → e ≡ Scalar props style text → ⊥) → {p : PropsValue} {v : ScalarStyle} {x : List ℕ}
     → event_value e ≡ scalar_node p v x → ⊥
 no_node StreamStart n h = cc
@@ -72,7 +72,7 @@ no_text_lines src r i e = has_none (λ props style text s is. nothing (same_Some
   nothing : {s : Span} → Some s ≡ None → ⊥
   nothing e = cc
 
--- of it, where the content of a block scalar begins
+-- the start of the content of a block scalar in the result
 none_answered : {src : Table} {r : Lists} {i : ℕ} {x : ℕ × ℕ} → ((props : PropsValue) (style : ScalarStyle) (text : List ℕ) (s : Span) → IsScalar r i props style text s → ⊥)
     → ContentAt src r i x → ⊥
 none_answered f (content_at {props} {style} {text} {s} b g m h y w c) = f props style text s h
@@ -82,7 +82,7 @@ content_told src r i None (has_none f) = λ x h. none_answered f h
 content_told src r i (Some lines) (has_lines {props} {style} {text} {s} {first} {content} is b c) =
     content_answers src r i props style text s is first b (content_start src.text s props) content refl c
 
--- of it, the lines that are wanted
+-- the wanted lines in the result
 no_scalar_line : {src : Table} {r : Lists} {i k : ℕ} → ((props : PropsValue) (style : ScalarStyle) (text : List ℕ) (s : Span) → IsScalar r i props style text s → ⊥)
     → ScalarLine src r k i → ⊥
 no_scalar_line f (of_scalar {props} {style} {text} {s} h e m n) = f props style text s h

@@ -1,4 +1,4 @@
--- Laws of scalars that are passed by, for their style or since they are on one line.
+-- Laws of scalars that need no search, because of their style or because they are on one line.
 use Rattle.std.proofs.Common.{◌≡◌, ℕ, ◌<◌, ◌≤◌, true, false, List, Option, Some, None, length, sym, ap, ◌∙◌, ⊎_elim, arith, true≢false}
 use Rattle.std.specs.Prelude.{slice_get}
 use Rattle.std.proofs.lemmas.Bool.{cases_lt}

@@ -1,4 +1,4 @@
--- Laws of the white space at the end of a part of a text, and of comments close after other text.
+-- Laws of the white space at the end of a span, and of comments close after other text.
 use Rattle.std.proofs.Common.{◌≡◌, ◌≢◌, ℕ, ◌+◌, ◌-◌, ◌<◌, ◌≤◌, true, false, List, ◌∷◌, Some, length, map, get_or, sym, subst, ap, ◌∙◌, ⊎_elim, arith, true≢false}
 use Rattle.std.specs.Prelude.{slice_get, option_map, ◌==◌, MatchBool}
 use Rattle.std.proofs.lemmas.Bool.{cases_lt, cases_eq, eq-eqb, ne_eqb}
@@ -29,7 +29,7 @@ white_within {t} {i} {j} h (step (one e) c) a b =
     (λ (n : h ≢ i). let m : next t i ≡ i + 1 = next_ascii t i (white_below (code t i) e) in white_within h c (omega (arith, m, n, a)) b)
     (cases_eq h i)
 
--- the white space begin in one place
+-- the start of the white space is unique
 no_later : (t : List ℕ) (start end i j : ℕ) → WhitesEnd t start end i → WhitesEnd t start end j → j ≤ end → i < j → ⊥
 no_later t start end i j a b w l =
     ⊎_elim (λ (e : j ≡ start). absurd (let f = a.from in omega (arith, e, f, l)))
@@ -42,14 +42,14 @@ whites_unique t start end i j a b =
     (λ (l : j ≤ i). ⊎_elim (λ (m : j < i). absurd (no_later t start end j i b a (chain_forward (one_functional t is_white) a.run) m)) (λ (m : i ≤ j). omega (arith, l, m)) (cases_lt j i))
     (cases_lt i j)
 
--- one white more before those found so far
+-- one more character of white space before those found so far
 pub one_before : (t : List ℕ) (at end : ℕ) (x : List ℕ) → 0 < at → Many t is_white at end x → CharAt t (at - 1) (code t (at - 1)) (at - 1 + 1) → is_white (code t (at - 1)) ≡ true
     → Many t is_white (at - 1) end (code t (at - 1) ∷ x)
 one_before t at end x p m r e =
     let q : next t (at - 1) ≡ at = r.end ∙ (let z : at - 1 + 1 ≡ at = omega arith in z) in
     step (one e) (subst (λ k. Many t is_white k end x) (sym q) m)
 
--- past the end of the text is no white
+-- no white space is past the end of the text
 pub no_white_past : (t : List ℕ) (i : ℕ) → length t ≤ i → is_white (code t i) ≡ false
 unfolding is_white
 no_white_past t i h = ap is_white (code-past t i h)
@@ -71,7 +71,7 @@ not_close t r k c e n o (of_comment {c = d} f g) = n (subst (λ v. IsClose t v.o
 pub comment_within : {t : List ℕ} {r : Lists} {k o : ℕ} → CloseComment t r k o → k < length r.comments
 comment_within {t} {r} {k} (of_comment {c} e h) = slice_get_within r.comments k c e
 
--- the comments as the code has them
+-- the comments in the code
 pub comment_at : (r : Lists) (cs : List Comment) (k : ℕ) (d : Comment) → map comment_value cs ≡ r.comments → k < length r.comments
     → slice_get r.comments k ≡ Some (comment_value (get_or cs k d))
 comment_at r cs k d e l =
@@ -91,7 +91,7 @@ open_read t u r cs k d q e l n o h =
 pub comment_count : (r : Lists) (cs : List Comment) → map comment_value cs ≡ r.comments → length cs ≡ length r.comments
 comment_count r cs e = sym (length-map cs comment_value) ∙ ap length e
 
--- whether white space alone is in a part of the text
+-- whether a span holds only white space
 pub white_line : (t : List ℕ) (start end at : ℕ) → WhitesEnd t start end at → MatchBool (at == start) (WhitesEnd t start end start) (WhitesEnd t start end start → ⊥)
 white_line t start end at w = ⊎_elim
     (λ (e : at ≡ start). rw (eq-eqb at start e) (subst (λ k. WhitesEnd t start end k) e w))

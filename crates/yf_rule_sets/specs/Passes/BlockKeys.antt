@@ -1,5 +1,5 @@
--- Which events begin keys of block mappings that are in no flow collection: a pass over the events, which keeps of each open
--- collection the role of its next node.
+-- Which events begin keys of block mappings outside of flow collections: a pass over the events, which keeps for each
+-- open collection the role of its next node.
 use Rattle.std.specs.Prelude.{◌≡◌, ℕ, Bool, true, false, ◌||◌, if◌then◌else◌, List, [], ◌∷◌, drop, Option}
 use Rattle.yf_events.specs.Event.{EventValue, EventInText, stream_starts, stream_ends, document_starts, document_ends, sequence_starts, sequence_ends, mapping_starts, mapping_ends, scalar_node, alias_node}
 use Rattle.yf_events.specs.WellPlaced.{begins_node}
@@ -23,28 +23,28 @@ is_key Item = false
 is_key Key = true
 is_key Value = false
 
--- the role of the node that comes next in the same collection
+-- the role of the next node in the same collection
 abbrev pub following : Role → Role
 following InFlow = InFlow
 following Item = Item
 following Key = Value
 following Value = Key
 
--- the role of the next node, where these are the roles of what comes next in each open collection, the innermost first
+-- the role of the next node; the list has the role of the next node of each open collection, the innermost first
 abbrev pub next_role : List Role → Role
 next_role [] = Item
 next_role (m ∷ st) = m
 
--- the same after that node
+-- the list after that node
 abbrev pub after : List Role → List Role
 after [] = []
 after (m ∷ st) = following m ∷ st
 
--- the role of the first node of a collection that has a role itself: `first` where it is a block collection in no flow collection
+-- the role of the first node of a collection with the role m: `first` in a block collection outside of flow collections
 abbrev pub first_role : Role → Bool → Role → Role
 first_role m flow first = if flow || in_flow m then InFlow else first
 
--- one event
+-- the list after one event
 abbrev pub next : EventValue → List Role → List Role
 next stream_starts st = st
 next stream_ends st = st
@@ -57,23 +57,23 @@ next mapping_ends st = drop 1 st
 next (scalar_node props style text) st = after st
 next (alias_node name) st = after st
 
--- the role of the next node at each event
+-- the role of the next node, at each event
 abbrev pub roles : List Role → List EventInText → List Role
 roles st [] = []
 roles st (e ∷ es) = next_role st ∷ roles (next e.event st) es
 
--- the role of the node that an event begins; of another event it says no more than that it begins no key
+-- the role of the node that an event begins; for another event, a role other than that of a key
 abbrev pub role_at : EventValue → List Role → Role
 role_at v st = if begins_node v then next_role st else Item
 
--- the event v of the index i begins a node of that role, which is a key after the `?` at the offset; it is an atom, and the house style
--- writes it without `?` as a key
+-- the event v of the index i begins a node with that role, which is a key after the `?` at the offset, and the house
+-- style writes the atom v without `?` as a key
 pub record MarkedAtom (t : List ℕ) (r : Lists) (house : Style) (i : ℕ) (role : Role) (v : EventValue) (offset : ℕ) : Type 0 where
   pub key : is_key role ≡ true
   pub implicit : is_implicit_atom house v ≡ true
   pub marked : IsMarked t r i offset
 
--- the `?` before such an atom is the answer, and where v is a key after a `?`, it is an atom
+-- `answer` is the `?` before such an atom, and v is an atom if it is a key after a `?`
 pub record AnswersAtom (t : List ℕ) (r : Lists) (house : Style) (i : ℕ) (role : Role) (v : EventValue) (answer : Option ℕ) : Type 0 where
   pub exact : IsTheOne (MarkedAtom t r house i role v) answer
   pub atom : is_key role ≡ true → (offset : ℕ) → IsMarked t r i offset → is_atom v ≡ true

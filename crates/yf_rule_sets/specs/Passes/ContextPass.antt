@@ -1,4 +1,4 @@
--- What a pass keeps that tells where nodes are, and what it does with one event. An index counts events from 0.
+-- The state of a pass that finds the contexts of nodes, and its step for one event. An index counts events from 0.
 use Rattle.std.specs.Prelude.{◌≡◌, ℕ, ◌+◌, Bool, false, List, ◌∷◌, drop, length, reverse, Option, None}
 use Rattle.std.specs.Option.{unwrap_or}
 use Rattle.yf_events.specs.Event.{EventValue, EventInText, sequence_starts, mapping_starts, scalar_node, alias_node}
@@ -15,7 +15,7 @@ pub record IsPass (t : List ℕ) (es : List EventInText) (columns : List ℕ) (b
   pub columns_are : ColumnsTo t (all_entries t es) columns (length (all_entries t es))
   pub begun_are : begun + length (all_entries t (drop i es)) ≡ length (all_entries t es)
 
--- what is told of an event with these open collections before it
+-- the context of an event, with these open collections before it
 abbrev pub stand_of : EventValue → List ContextFrame → Option ℕ → ℕ → NodeContext
 stand_of (sequence_starts flow props) st column first = stand_in st column first
 stand_of (mapping_starts flow props) st column first = stand_in st column first
@@ -23,14 +23,14 @@ stand_of (scalar_node props style text) st column first = stand_in st None 0
 stand_of (alias_node name) st column first = stand_in st None 0
 stand_of _ st column first = record { outer = Unknown; is_implicit_value = false; column = None; first = 0 }
 
--- the event of index i is passed: afterwards these collections are open, and this is told
+-- the event of index i is passed: afterwards these collections are open, and the context is `told`
 pub record EventPass (t : List ℕ) (es : List EventInText) (i : ℕ) (st : List ContextFrame) (told : NodeContext) (old new : Pass) (stand : NodeContext) : Type 0 where
   pub stack : reverse new.stack.items ≡ st
   pub tells : stand ≡ told
   pub kept : new.columns.items ≡ old.columns.items
   pub later : IsPass t es new.columns.items new.begun (i + 1)
 
--- the same of the start of a collection, and of any event
+-- the step for the start of a collection, and for any event
 abbrev pub OpeningPass : List ℕ → List EventInText → ℕ → Bool → Pass → Pass → NodeContext → Type 0
 OpeningPass t es i is_map old new stand = IsPass t es old.columns.items old.begun i
     → EventPass t es i (opened is_map (column_at t es old.columns.items i) ∷ after (unmarked_at t es i) (reverse old.stack.items))

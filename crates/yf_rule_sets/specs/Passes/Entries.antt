@@ -1,21 +1,21 @@
--- What the events of a reading tell of entries, as functions: where those of a block collection begin and at which column, and which are
--- written without `?`. An index counts events from 0, a column from 0.
+-- Entries in the events of a reading, as functions: the offsets and columns of the first entries of block collections,
+-- and which entries have no `?`. An index counts events from 0, a column from 0.
 use Rattle.std.specs.Prelude.{ℕ, ◌+◌, ◌-◌, ◌==◌, ◌&&◌, ◌||◌, nat_le, nat_lt, slice_index, if◌then◌else◌, Bool, false, not, List, [], ◌∷◌, drop, get_or, length, Option, Some, None}
 use Rattle.yf_chars.specs.Class.{is_white_or_end}
 use Rattle.yf_chars.specs.Text.{code}
 use Rattle.yf_events.specs.Event.{EventValue, EventInText, sequence_starts, mapping_starts}
 use Rattle.yf_events.specs.declared.event.Entry.{Entry}
 
--- a character begins at the offset, or the text ends there
+-- the offset is a boundary
 abbrev pub is_boundary : List ℕ → ℕ → Bool
 is_boundary t i = nat_le i (length t) && (nat_le (length t) i || (nat_lt (slice_index t i) 128 || nat_le 192 (slice_index t i)))
 
--- the offset of an entry that begins so
+-- the offset of the entry, if it is a boundary
 abbrev pub start_at : List ℕ → Option Entry → Option ℕ
 start_at t None = None
 start_at t (Some entry) = if is_boundary t entry.start then Some entry.start else None
 
--- the entry that the first of these events begins
+-- the entry of the first of these events
 abbrev pub first_entry : List EventInText → Option Entry
 first_entry [] = None
 first_entry (e ∷ es) = e.entry
@@ -25,12 +25,12 @@ starts_block (sequence_starts flow props) = not flow
 starts_block (mapping_starts flow props) = not flow
 starts_block _ = false
 
--- where the entries begin of the block collection that begins with the first of these events
+-- the offset of the first entry of the block collection that the first of these events begins
 abbrev pub entries_from : List ℕ → List EventInText → Option ℕ
 entries_from t [] = None
 entries_from t (e ∷ es) = if starts_block e.event then start_at t (first_entry es) else None
 
--- the same of all block collections among them
+-- the offsets of the first entries of all block collections among them
 abbrev pub and_those : Option ℕ → List ℕ → List ℕ
 and_those None os = os
 and_those (Some o) os = o ∷ os
@@ -39,7 +39,7 @@ abbrev pub all_entries : List ℕ → List EventInText → List ℕ
 all_entries t [] = []
 all_entries t (e ∷ es) = and_those (entries_from t (e ∷ es)) (all_entries t es)
 
--- the column of the entries of the block collection that begins at an index, by the columns of those of all block collections
+-- the column of the entries of the block collection that begins at an index, from the columns for all block collections
 abbrev pub if_any : Option ℕ → ℕ → Option ℕ
 if_any None column = None
 if_any (Some o) column = Some column

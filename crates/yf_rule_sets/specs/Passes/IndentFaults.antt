@@ -1,4 +1,4 @@
--- What the rule indentation finds event by event. An index counts events from 0.
+-- The findings of the rule indentation, event by event. An index counts events from 0.
 use Rattle.std.specs.Prelude.{◌≡◌, ℕ, ◌++◌, ◌&&◌, if◌then◌else◌, true, false, List, [], drop, slice_get, Option, Some, None}
 use Rattle.std.specs.List.{Contains}
 use Rattle.std.specs.Option.{unwrap_or}
@@ -22,13 +22,14 @@ use Rattle.yf_rule_sets.specs.declared.facts.scalars.ScalarLines.{ScalarLines}
 use Rattle.yf_rule_sets.specs.declared.facts.node_context.ContextFrame.{ContextFrame}
 use Rattle.yf_rule_sets.specs.declared.facts.node_context.NodeContext.{NodeContext}
 
--- the event of index i is a block scalar with a content line: where its header begins, and by how many spaces its content is indented
+-- the event of index i is a block scalar with a content line: the offset of its header, and the indentation of its
+-- content
 pub data ContentAt (src : Table) (r : Lists) (i : ℕ) : ℕ × ℕ → Type 0 where
   content_at : {props : PropsValue} {style : ScalarStyle} {text : List ℕ} {s : Span} (follows first indent : ℕ) → IsScalar r i props style text s → is_block_style style ≡ true
       → LinesBegunAt src.lines (content_start src.text s props) follows → BlockContent src.lines text follows first indent
       → ContentAt src r i (content_start src.text s props, indent)
 
--- the same as the code has it
+-- these two numbers in the code
 abbrev pub if_content : ℕ → Option ContentStart → Option (ℕ × ℕ)
 if_content start None = None
 if_content start (Some content) = Some (start, content.indent)
@@ -37,7 +38,8 @@ abbrev pub content_in : Option ScalarLines → Option (ℕ × ℕ)
 content_in None = None
 content_in (Some lines) = if_content lines.start lines.content
 
--- where entries are that are at another column, and the header of content that is indented otherwise
+-- the first entry, if it is at another column than wanted; the header, if the content has another indentation than
+-- wanted
 abbrev pub entry_fault : ℕ → Option ℕ → Option ℕ → Option ℕ
 entry_fault offset None wanted = None
 entry_fault offset (Some column) wanted = if is_other column wanted then Some offset else None
@@ -46,14 +48,14 @@ abbrev pub content_fault : Option (ℕ × ℕ) → Option ℕ → Option ℕ
 content_fault None wanted = None
 content_fault (Some content) wanted = if is_other content.1 wanted then Some content.0 else None
 
--- what is found of one event
+-- the fault of one event
 abbrev pub fault_of : Style → EventValue → NodeContext → Option (ℕ × ℕ) → Option ℕ
 fault_of house (sequence_starts flow props) s content = entry_fault s.first s.column (wanted_column house (true && s.is_implicit_value) s.outer)
 fault_of house (mapping_starts flow props) s content = entry_fault s.first s.column (wanted_column house (false && s.is_implicit_value) s.outer)
 fault_of house (scalar_node props style text) s content = content_fault content (wanted_indent house s.outer)
 fault_of house _ s content = None
 
--- the same of a node of which it is told what holds it
+-- the context of a node, and its fault
 abbrev pub standing_at : List ℕ → Lists → List ℕ → Stood → NodeContext
 standing_at t r columns s =
     record { outer = s.around; is_implicit_value = s.beside; column = column_at t r.events columns s.at; first = unwrap_or (entries_from t (drop s.at r.events)) 0 }
@@ -67,7 +69,7 @@ pub record FoundBy (P : Stood → ℕ → Type 0) (nodes : List Stood) (offsets 
   pub only : (o : ℕ) → Contains offsets o → (s : Stood) × Contains nodes s × P s o
   pub all : (s : Stood) (o : ℕ) → Contains nodes s → P s o → Contains offsets o
 
--- a pass over the events has come to the index i, with these open collections, and has found these offsets
+-- a pass over the events is before the index i, with these open collections, and has found these offsets
 pub record IndentPassAt (src : Table) (r : Lists) (house : Style) (columns : List ℕ) (begun i : ℕ) (st : List ContextFrame) (offsets : List ℕ) : Type 0 where
   pub nodes : List Stood
   pub pass : IsPass src.text r.events columns begun i

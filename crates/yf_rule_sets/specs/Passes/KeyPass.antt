@@ -1,4 +1,4 @@
--- One pass over the events of a reading that finds repeated keys, step by step, and what it finds in each node.
+-- A pass over the events of a reading that finds repeated keys: its steps, and its findings in each node.
 use Rattle.std.specs.Prelude.{◌≡◌, ℕ, ◌+◌, Bool, true, false, not, ◌&&◌, if◌then◌else◌, List, [], ◌∷◌, ◌++◌, length, slice_get, Option, Some, None}
 use Rattle.std.specs.BTreeSet.{contains}
 use Rattle.std.specs.Cmp.Lexicographic.{slice_cmp}
@@ -12,7 +12,7 @@ use Rattle.yf_rule_sets.specs.RuleSets.Nodes.{entry_place, key_place, place_or}
 use Rattle.yf_rule_sets.specs.declared.rules.repeated_keys.ScalarKey.{ScalarKey}
 use Rattle.yf_rule_sets.specs.declared.rules.repeated_keys.KeyedCollection.{KeyedCollection}
 
--- the text of a scalar key and its resolved tag, as the list of tags has it
+-- the text of a scalar key, and its resolved tag from the list of tags
 abbrev pub KeyValue : Type 0
 KeyValue = List ℕ × Option (Option (List ℕ))
 
@@ -23,13 +23,13 @@ abbrev pub has_key : KeyValue → List KeyValue → Bool
 has_key w [] = false
 has_key w (u ∷ us) = if eq_by_cmp value_cmp u w then true else has_key w us
 
--- a collection that is open: whether it is a mapping, whether a value comes next, and its scalar keys so far
+-- an open collection: whether it is a mapping, whether a value comes next, and its scalar keys so far
 pub record OpenCollection : Type 0 where
   pub is_map : Bool
   pub at_value : Bool
   pub keys : List KeyValue
 
--- the next node in it is a key
+-- the next node in the collection is a key
 abbrev pub takes_key : OpenCollection → Bool
 takes_key l = l.is_map && not l.at_value
 
@@ -60,7 +60,7 @@ abbrev pub repeats_in : KeyValue → List OpenCollection → Bool
 repeats_in w [] = false
 repeats_in w (l ∷ st) = takes_key l && has_key w l.keys
 
--- one event, whose node has that tag
+-- the open collections after one event; `tag` is the tag of its node
 abbrev pub next : EventValue → Option (Option (List ℕ)) → List OpenCollection → List OpenCollection
 next stream_starts tag st = st
 next stream_ends tag st = st
@@ -77,7 +77,7 @@ abbrev pub is_repeat : EventValue → Option (Option (List ℕ)) → List OpenCo
 is_repeat (scalar_node props style text) tag st = repeats_in (text, tag) st
 is_repeat _ tag st = false
 
--- where a node with characters is, and an empty one as a key
+-- the offset of a key: its start, or, if it is empty, that of its entry's `:` or `?`
 abbrev pub event_place : EventInText → ℕ
 event_place e = place_or e.span (entry_place e.entry)
 
@@ -85,12 +85,12 @@ abbrev pub offset_if : Bool → ℕ → List ℕ
 offset_if true o = o ∷ []
 offset_if false o = []
 
--- what is found from the event of index i on
+-- the findings from the event of index i on
 abbrev pub run : List (Option (List ℕ)) → ℕ → List OpenCollection → List EventInText → List ℕ
 run tags i st [] = []
 run tags i st (e ∷ es) = offset_if (is_repeat e.event (slice_get tags i) st) (event_place e) ++ run tags (i + 1) (next e.event (slice_get tags i) st) es
 
--- The same in trees. A node begins at the event of index i.
+-- The findings in trees. A node begins at the event of index i.
 
 abbrev pub key_of : List (Option (List ℕ)) → ℕ → Node → Option KeyValue
 key_of tags i (scalar at props style text lines) = Some (text, slice_get tags i)
@@ -126,7 +126,7 @@ abbrev pub found_in_documents : List (Option (List ℕ)) → ℕ → List Docume
 found_in_documents tags i [] = []
 found_in_documents tags i (d ∷ ds) = found_in tags (i + 1) d.root ++ found_in_documents tags (i + length (flat_document d)) ds
 
--- What the code keeps.
+-- The state in the code.
 
 abbrev pub key_value : ScalarKey → KeyValue
 key_value k = (k.text.now, Some (name_value k.tag))
@@ -134,26 +134,26 @@ key_value k = (k.text.now, Some (name_value k.tag))
 abbrev pub key_cmp : ScalarKey → ScalarKey → Ordering
 key_cmp a b = ordering_then (slice_cmp nat_cmp a.text.now b.text.now) (option_cmp (λ x y. slice_cmp nat_cmp x.now y.now) a.tag b.tag)
 
--- whether two keys are the same
+-- whether two keys are equal
 abbrev pub same_value : KeyValue → KeyValue → Bool
 same_value a b = eq_by_cmp value_cmp a b
 
--- whether a key is among those of a list
+-- whether a key is in a list
 abbrev pub holds_key : KeyValue → List ScalarKey → Bool
 holds_key w [] = false
 holds_key w (k ∷ ks) = if same_value (key_value k) w then true else holds_key w ks
 
--- with one key more
+-- the collection with one more key
 abbrev pub with_key : KeyValue → OpenCollection → OpenCollection
 with_key w l = record { is_map = l.is_map; at_value = l.at_value; keys = w ∷ l.keys }
 
--- of a collection that is open: its first few keys, which are in a list with those of the others, and what else is kept of it
+-- the state of an open collection in the code; `own` are its first few keys
 pub record IsCollection (own : List ScalarKey) (collection : KeyedCollection) (l : OpenCollection) : Type 0 where
   pub same_kind : collection.is_map ≡ l.is_map
   pub same_turn : collection.at_value ≡ l.at_value
   pub same_keys : (k : ScalarKey) → (if holds_key (key_value k) own then true else contains key_cmp collection.more k) ≡ has_key (key_value k) l.keys
 
--- the innermost one, after the keys of the others
+-- the innermost collection, with its keys at the end of the list
 pub record IsLast (outer ks : List ScalarKey) (collection : KeyedCollection) (l : OpenCollection) : Type 0 where
   pub own : List ScalarKey
   pub keys : ks ≡ outer ++ own

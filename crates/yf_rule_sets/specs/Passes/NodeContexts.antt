@@ -1,6 +1,6 @@
--- What holds each node of a reading, told in one pass over its events, step by step, and the same in trees. An index counts events from 0.
--- The column of the entries of the block collection that begins at an index, and whether an entry that begins there has no `?`, are
--- functions of the index here.
+-- What holds each node of a reading: a pass over its events, step by step, and the result in trees. An index counts
+-- events from 0. Here two functions of an index give the column of the entries of the block collection that begins
+-- there, and whether an entry that begins there has no `?`.
 use Rattle.std.specs.Prelude.{ℕ, ◌+◌, Bool, true, false, ◌&&◌, if◌then◌else◌, List, [], ◌∷◌, ◌++◌, drop, length, Option, Some, None}
 use Rattle.std.specs.List.{Contains}
 use Rattle.yf_events.specs.Event.{EventValue, EventInText, stream_starts, stream_ends, document_starts, document_ends, sequence_starts, sequence_ends, mapping_starts, mapping_ends, scalar_node, alias_node}
@@ -11,12 +11,12 @@ use Rattle.yf_rule_sets.specs.declared.facts.node_context.Around.TheVariants.{No
 use Rattle.yf_rule_sets.specs.declared.facts.node_context.ContextFrame.{ContextFrame}
 use Rattle.yf_rule_sets.specs.declared.facts.node_context.NodeContext.{NodeContext}
 
--- what holds the nodes in a collection whose entries are at that column
+-- what holds the nodes of a collection with entries at that column
 abbrev pub held : Option ℕ → Around
 held None = Unknown
 held (Some column) = Entries column
 
--- a mapping after a key or a value; the flag says whether the entry of a key has no `?`
+-- the state `key` of a mapping after a key or a value; the flag says whether the entry of the key has no `?`
 abbrev pub turned : Bool → Option Bool → Option Bool
 turned m None = Some m
 turned m (Some n) = None
@@ -25,7 +25,7 @@ turned m (Some n) = None
 abbrev pub past : Bool → ContextFrame → ContextFrame
 past m l = record { column = l.column; is_map = l.is_map; key = if l.is_map then turned m l.key else l.key }
 
--- a value comes next, of a key without `?`
+-- whether the next node is the value of a key without `?`
 abbrev pub is_beside : Option Bool → Bool
 is_beside None = false
 is_beside (Some m) = m
@@ -38,7 +38,7 @@ abbrev pub after : Bool → List ContextFrame → List ContextFrame
 after m [] = []
 after m (l ∷ st) = past m l ∷ st
 
--- what holds the next node, and whether that is the value of a key without `?`
+-- what holds the next node, and whether the node is the value of a key without `?`
 abbrev pub outer : List ContextFrame → Around
 outer [] = Nothing
 outer (l ∷ st) = held l.column
@@ -47,7 +47,7 @@ abbrev pub beside : List ContextFrame → Bool
 beside [] = false
 beside (l ∷ st) = l.is_map && is_beside l.key
 
--- one event
+-- the open collections after one event
 abbrev pub next : EventValue → Option ℕ → Bool → List ContextFrame → List ContextFrame
 next stream_starts c m st = st
 next stream_ends c m st = st
@@ -60,11 +60,11 @@ next mapping_ends c m st = drop 1 st
 next (scalar_node props style text) c m st = after m st
 next (alias_node name) c m st = after m st
 
--- what the code tells of the next node, which is a block collection with those entries, or none
+-- the context of the next node, from the column and offset of its own entries
 abbrev pub stand_in : List ContextFrame → Option ℕ → ℕ → NodeContext
 stand_in st column first = record { outer = outer st; is_implicit_value = beside st; column = column; first = first }
 
--- a node with the index of the event that begins it: what holds it, and whether it is the value of a key without `?`
+-- a node, by the index of the event that begins it: what holds it, and whether it is the value of a key without `?`
 pub record Stood : Type 0 where
   pub at : ℕ
   pub around : Around
@@ -90,7 +90,7 @@ abbrev pub run : (ℕ → Option ℕ) → (ℕ → Bool) → ℕ → List Contex
 run c m i st [] = []
 run c m i st (e ∷ es) = begun e.event i st ++ run c m (i + 1) (next e.event (c i) (m i) st) es
 
--- The same in trees. A node begins at the event of index i.
+-- The nodes of trees. A node begins at the event of index i.
 
 abbrev mutual
   pub stood_in : (ℕ → Option ℕ) → (ℕ → Bool) → ℕ → Around → Bool → Node → List Stood
@@ -112,7 +112,7 @@ abbrev pub stood_in_documents : (ℕ → Option ℕ) → (ℕ → Bool) → ℕ 
 stood_in_documents c m i [] = []
 stood_in_documents c m i (d ∷ ds) = stood_in c m (i + 1) Nothing false d.root ++ stood_in_documents c m (i + length (flat_document d)) ds
 
--- The same by what holds the node.
+-- What holds a node, as a relation on the nodes of trees.
 
 pub data IsHeld (c : ℕ → Option ℕ) (m : ℕ → Bool) (trees : List DocumentTree) (y : NumberedNode) : Around → Bool → Type 0 where
   by_nothing : Contains (roots_from 1 trees) y → IsHeld c m trees y Nothing false

@@ -1,4 +1,4 @@
--- Flow collections among the events of a reading: which events are in one, and what a pass over the events keeps of that.
+-- Flow collections among the events of a reading: which events are in one, and the state of a pass over the events.
 use Rattle.std.specs.Prelude.{◌≡◌, ℕ, ◌+◌, ◌<◌, ◌≤◌, ◌⊎◌, Bool, true, false, List, codes, length, Option, Some, None}
 use Rattle.yf_forms.specs.Nodes.ContentStart.{content_start}
 use Rattle.yf_forms.specs.Nodes.SingleAnswers.{NodeAt}
@@ -22,22 +22,23 @@ starts_flow _ = false
 pub record IsOutsideFlow (es : List EventInText) (i : ℕ) : Type 0 where
   pub outside : (j : ℕ) (y : Node) → NodeAt es j y → is_flow y ≡ true → j < i → j + length (flat y) ≤ i
 
--- of the flow collections that begin before the index i the last one ends with the event of the index `done`, or all end before i
+-- the last of the flow collections that begin before the index i ends with the event of the index `done`, or all end
+-- before i
 pub record FlowsDone (es : List EventInText) (i done : ℕ) : Type 0 where
   pub bound : (j : ℕ) (y : Node) → NodeAt es j y → is_flow y ≡ true → j < i → (j + length (flat y) ≤ i) ⊎ (j + length (flat y) ≤ done + 1)
   pub reached : (done ≡ 0) ⊎ ((j : ℕ) × (y : Node) × NodeAt es j y × (is_flow y ≡ true) × (j < i) × (done + 1 ≡ j + length (flat y)))
 
--- the part of the text from bracket to bracket of a flow collection, after its properties
+-- the span of a flow collection from bracket to bracket, without its properties
 abbrev pub bracketed : List ℕ → PropsValue → Span → Span
 bracketed t props span = record { start = content_start t span props; end = span.end }
 
--- the same of an event that begins a flow collection with a place in the text
+-- that span for an event, if it begins a flow collection with a span
 abbrev pub brackets : List ℕ → EventValue → Option Span → Option Span
 brackets t (sequence_starts true props) (Some span) = Some (bracketed t props span)
 brackets t (mapping_starts true props) (Some span) = Some (bracketed t props span)
 brackets t _ _ = None
 
--- an empty collection that begins with that event, from bracket to bracket
+-- the text of an empty collection that begins with that event, from bracket to bracket
 abbrev pub empty_text : EventValue → List ℕ
 empty_text (mapping_starts flow props) = codes "{}"
 empty_text _ = codes "[]"

@@ -1,4 +1,4 @@
--- The lines of a scalar after the one on which it begins, as the code has them, and those of them that a pass notes.
+-- The lines of a scalar after the one on which it begins, in the code, and which of them a pass flags.
 use Rattle.std.specs.Prelude.{◌≡◌, ℕ, ◌+◌, ◌<◌, ◌≤◌, true, false, List, slice_get, Option, Some, None}
 use Rattle.yf_forms.specs.Nodes.ContentStart.{content_start}
 use Rattle.yf_events.specs.declared.event.ScalarStyle.{ScalarStyle}
@@ -15,13 +15,13 @@ use Rattle.yf_rule_sets.specs.declared.facts.flagged_lines.WantedLines.TheVarian
 use Rattle.yf_rule_sets.specs.declared.facts.scalars.ContentStart.{ContentStart}
 use Rattle.yf_rule_sets.specs.declared.facts.scalars.ScalarLines.{ScalarLines}
 
--- where the content begins of a scalar with this style and text, if it is a block scalar that has any
+-- the start of the content of a scalar with this style and text, if it is a block scalar with a content line
 pub data IsContent (ls : List Line) (style : ScalarStyle) (text : List ℕ) (after : ℕ) : Option ContentStart → Type 0 where
   no_block : is_block_style style ≡ false → IsContent ls style text after None
   no_line : ((first indent : ℕ) → BlockContent ls text after first indent → ⊥) → IsContent ls style text after None
   of_line : {c : ContentStart} → is_block_style style ≡ true → BlockContent ls text after c.first c.indent → IsContent ls style text after (Some c)
 
--- what is answered of the event of index i: the lines of the scalar that it is, if it is one with a part of the text
+-- the lines of the scalar at the event of index i, or `None` if the event is not a scalar with a span
 pub data LinesOfScalar (src : Table) (r : Lists) (i : ℕ) : Option ScalarLines → Type 0 where
   has_none : ((props : PropsValue) (style : ScalarStyle) (text : List ℕ) (s : Span) → IsScalar r i props style text s → ⊥) → LinesOfScalar src r i None
   has_lines : {props : PropsValue} {style : ScalarStyle} {text : List ℕ} {s : Span} {first : ℕ} {content : Option ContentStart} → IsScalar r i props style text s
@@ -45,7 +45,7 @@ abbrev pub InSome : List Line → Option LineRange → ℕ → Type 0
 InSome ls None k = ⊥
 InSome ls (Some range) k = InRange ls range k
 
--- the range of what is wanted of a scalar, and the lines that it is to hold
+-- the range of the wanted lines of a scalar, and the lines that it must hold
 abbrev pub content_range : ScalarLines → Option ContentStart → Option LineRange
 content_range lines None = None
 content_range lines (Some content) = Some (record { first = content.first; end = lines.end; indent = Some content.indent })

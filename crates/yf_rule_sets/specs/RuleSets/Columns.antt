@@ -3,12 +3,13 @@ use Rattle.std.specs.Prelude.{◌≡◌, ℕ, ◌+◌, ◌<◌, ◌≤◌, List,
 use Rattle.std.specs.Str.{IsCharBoundary}
 use Rattle.yf_lines.specs.Lines.{PlaceOf}
 
--- the offset has this column in its place
+-- the offset has this column, from 0, in its line
 pub record IsColumn (t : List ℕ) (offset column : ℕ) : Type 0 where
   pub line : ℕ
   pub place : PlaceOf t offset line (column + 1)
 
--- the list holds the columns of the first k of these offsets; an offset within a character may have any. The others are there still
+-- the first k items are the columns of these offsets, or any number for an offset within a character; the others are
+-- still the offsets
 pub record ColumnsTo (t : List ℕ) (offsets now : List ℕ) (k : ℕ) : Type 0 where
   pub count : length now ≡ length offsets
   pub columns : (j : ℕ) → j < k → IsCharBoundary t (get_or offsets j 0) → IsColumn t (get_or offsets j 0) (get_or now j 0)

@@ -1,5 +1,5 @@
--- Where the entries of block collections and the content of block scalars are to be, in the trees of a reading. An index counts events
--- from 0.
+-- The wanted columns of the entries of block collections and of the content of block scalars, in the trees of a
+-- reading. An index counts events from 0.
 use Rattle.std.specs.Prelude.{◌≡◌, ◌≢◌, ℕ, ◌+◌, true, false, List, Option, Some, None}
 use Rattle.std.specs.List.{Contains}
 use Rattle.std.specs.Str.{IsCharBoundary}
@@ -30,13 +30,13 @@ first_in (alias at name) = None
 first_in (sequence at flow props items) = first_item items
 first_in (mapping at flow props pairs) = first_key pairs
 
--- the column, from 0, of the entries of a block collection, and where its first entry begins: at a character, or at the text's end
+-- the column, from 0, of the entries of a block collection, and the offset of its first entry, which is a boundary
 pub data EntriesAt (src : Table) (x : Node) : ℕ → ℕ → Type 0 where
   at_first : {first : Node} {entry : Entry} {line column : ℕ} → is_block_collection x ≡ true → first_in x ≡ Some first
       → (standing first).entry ≡ Some entry → IsCharBoundary src.text entry.start → PlaceOf src.text entry.start line (column + 1)
       → EntriesAt src x column entry.start
 
--- a key with an entry that is written without `?`
+-- a key with an entry without `?`
 pub data WithoutMark (src : Table) (k : Node) : Type 0 where
   no_mark : {entry : Entry} → (standing k).entry ≡ Some entry → (HasQuestionMark src.text entry.start → ⊥) → WithoutMark src k
 
@@ -49,8 +49,8 @@ pub record ImplicitValue (src : Table) (x y : NumberedNode) : Type 0 where
   pub is_sequence : is_sequence y.1 ≡ true
   pub without_mark : WithoutMark src key.1
 
--- the column, from 0, at which the entries of a block collection are to be: a root's at 0, others `indent` right of the
--- entries around them, but where `seq_indent` is off, a sequence after a key without `?` at the key's column
+-- the wanted column, from 0, of the entries of a block collection: 0 for a root; otherwise `indent` right of the
+-- entries around it; but if `seq_indent` is off, the key's column for a sequence after a key without `?`
 pub data WantedColumn (src : Table) (house : Style) (trees : List DocumentTree) (y : NumberedNode) : ℕ → Type 0 where
   of_root : Contains (roots_from 1 trees) y → WantedColumn src house trees y 0
   further : {x : NumberedNode} {column start : ℕ} → IsNodeOf trees x → IsChildOf x y → EntriesAt src x.1 column start
@@ -58,14 +58,14 @@ pub data WantedColumn (src : Table) (house : Style) (trees : List DocumentTree) 
   at_key : {x : NumberedNode} {column start : ℕ} → IsNodeOf trees x → house.seq_indent ≡ false → ImplicitValue src x y → EntriesAt src x.1 column start
       → WantedColumn src house trees y column
 
--- by how many spaces the content of a block scalar is to be indented
+-- the wanted indentation of the content of a block scalar
 pub data WantedIndent (src : Table) (house : Style) (trees : List DocumentTree) (y : NumberedNode) : ℕ → Type 0 where
   at_root : Contains (roots_from 1 trees) y → WantedIndent src house trees y house.indent
   in_entry : {x : NumberedNode} {column start : ℕ} → IsNodeOf trees x → IsChildOf x y → EntriesAt src x.1 column start
       → WantedIndent src house trees y (column + house.indent)
 
--- indentation: the first entry of a block collection at another column, and the header of a block scalar with other
--- indentation
+-- indentation: the first entry of a block collection at another column than wanted, and the header of a block scalar
+-- with another indentation than wanted
 pub data IndentFault (src : Table) (house : Style) (trees : List DocumentTree) (i : ℕ) : ℕ → Type 0 where
   entries : {y : NumberedNode} {column wanted start : ℕ} → IsNodeOf trees y → y.0 ≡ i
       → EntriesAt src y.1 column start → WantedColumn src house trees y wanted → column ≢ wanted → IndentFault src house trees i start

@@ -1,4 +1,4 @@
--- How nodes are in one another in the trees of a reading, and keys that are repeated. An index counts events from 0.
+-- Nodes within nodes in the trees of a reading, and repeated keys. An index counts events from 0.
 use Rattle.std.specs.Prelude.{◌≡◌, ℕ, ◌+◌, ◌<◌, List, [], ◌∷◌, length, slice_get, Option, Some, None}
 use Rattle.std.specs.List.{Contains}
 use Rattle.yf_events.specs.Tree.{Node, scalar, sequence, mapping, Items, no_items, item, Pairs, no_pairs, pair, DocumentTree, flat, flat_document, standing}
@@ -15,7 +15,7 @@ NumberedNode = ℕ × Node
 abbrev pub NumberedPair : Type 0
 NumberedPair = NumberedNode × NumberedNode
 
--- those of entries whose first one begins at index i
+-- the nodes of entries, if the first one begins at index i
 abbrev pub items_from : ℕ → Items → List NumberedNode
 items_from i no_items = []
 items_from i (item x xs) = (i, x) ∷ items_from (i + length (flat x)) xs
@@ -24,7 +24,7 @@ abbrev pub pairs_from : ℕ → Pairs → List NumberedPair
 pairs_from i no_pairs = []
 pairs_from i (pair k v ps) = ((i, k), (i + length (flat k), v)) ∷ pairs_from (i + length (flat k) + length (flat v)) ps
 
--- those directly in a node that begins at index i: its items, and its pairs
+-- the nodes directly in a node that begins at index i: its items, and its pairs
 abbrev pub items_of : ℕ → Node → List NumberedNode
 items_of i (sequence at flow props items) = items_from (i + 1) items
 items_of i _ = []
@@ -33,7 +33,7 @@ abbrev pub pairs_of : ℕ → Node → List NumberedPair
 pairs_of i (mapping at flow props pairs) = pairs_from (i + 1) pairs
 pairs_of i _ = []
 
--- the roots of documents whose first one begins at index i
+-- the roots of documents, if the first document begins at index i
 abbrev pub roots_from : ℕ → List DocumentTree → List NumberedNode
 roots_from i [] = []
 roots_from i (d ∷ ds) = (i + 1, d.root) ∷ roots_from (i + length (flat_document d)) ds
@@ -51,8 +51,7 @@ pub data IsNodeOf (trees : List DocumentTree) : NumberedNode → Type 0 where
 
 -- Repeated keys.
 
--- where a key is: a node with characters at its properties or content, an empty one at its `:`, or at its `?` where its entry has
--- no `:`
+-- the offset of a key: the start of its span, or, if it is empty, its `:`, or its `?` if the entry has no `:`
 abbrev pub colon_or : ℕ → Option ℕ → ℕ
 colon_or start None = start
 colon_or start (Some colon) = colon
@@ -73,7 +72,7 @@ abbrev pub scalar_text : Node → Option (List ℕ)
 scalar_text (scalar at props style text lines) = Some text
 scalar_text _ = None
 
--- repeated-keys: a scalar key whose text and resolved tag are those of an earlier scalar key of its mapping
+-- repeated-keys: a scalar key with the text and the resolved tag of an earlier scalar key of its mapping
 pub data RepeatedKey (r : Lists) (trees : List DocumentTree) (i : ℕ) : ℕ → Type 0 where
   repeats : {x k v l w : NumberedNode} {text : List ℕ} → IsNodeOf trees x → Contains (pairs_of x.0 x.1) (k, v) → Contains (pairs_of x.0 x.1) (l, w) → l.0 < k.0 → k.0 ≡ i
       → scalar_text k.1 ≡ Some text → scalar_text l.1 ≡ Some text → slice_get r.resolved k.0 ≡ slice_get r.resolved l.0

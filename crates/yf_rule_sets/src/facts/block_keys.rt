@@ -1,4 +1,4 @@
-//! Which events begin keys of block mappings that are in no flow collection, told in one pass over the events.
+//! Finds in one pass over the events which of them begin keys of block mappings outside of flow collections.
 ghost use Rattle.std.specs.Prelude.{◌≡◌, ◌<◌, ◌∷◌, length, reverse, slice_get, IfOk, Some};
 ghost use Rattle.yf_events.specs.Event.{EventValue};
 ghost use Rattle.yf_events.specs.Reading.{events_of};
@@ -9,12 +9,12 @@ use std::alloc::AllocError;
 use yf_events::event::Event;
 use yf_events::reading::Reading;
 
-/// What a node is to the collection that holds it.
+/// The role of a node in the collection that holds it.
 #[derive(Clone, Copy)]
 pub enum Role {
     /// A node in a flow collection, or in a block collection that is in one.
     InFlow,
-    /// An item of a block sequence, or the root of a document. An event that begins no node is given this role too.
+    /// An item of a block sequence, or the root of a document. Events that begin no node have this role too.
     Item,
     /// A key of a block mapping.
     Key,
@@ -22,7 +22,7 @@ pub enum Role {
     Value,
 }
 
-/// The role of the node that comes next in the same collection.
+/// Returns the role of the next node in the same collection.
 #[inline(always)]
 fn following(role: Role) -> Role
     ensures { result ≡ BlockKeys.following role }
@@ -35,7 +35,8 @@ fn following(role: Role) -> Role
     }
 }
 
-/// The role of the first node of a collection that has a role itself: `first` in a block collection that is in no flow collection.
+/// Returns the role of the first node of a collection with that role: `first` in a block collection outside of flow
+/// collections.
 #[inline(always)]
 fn first_role(role: Role, flow: bool, first: Role) -> Role
     ensures { result ≡ BlockKeys.first_role role flow first }
@@ -49,7 +50,7 @@ fn first_role(role: Role, flow: bool, first: Role) -> Role
     }
 }
 
-/// Goes past a node, and tells its role.
+/// Passes a node and returns its role.
 #[inline(always)]
 fn pass_node(stack: &mut Vec<Role>) -> Role
     ensures stack { reverse stack.new.items ≡ after (reverse stack.old.items) }
@@ -65,7 +66,7 @@ fn pass_node(stack: &mut Vec<Role>) -> Role
     }
 }
 
-/// Goes past the start of a collection, and tells the collection's role.
+/// Passes the start of a collection and returns the collection's role.
 #[inline(always)]
 fn open(stack: &mut Vec<Role>, flow: bool, first: Role) -> Result<Role, AllocError>
     ensures stack { IfOk result (λ _. reverse stack.new.items ≡ BlockKeys.first_role (next_role (reverse stack.old.items)) flow first
@@ -77,8 +78,8 @@ fn open(stack: &mut Vec<Role>, flow: bool, first: Role) -> Result<Role, AllocErr
     Ok(role)
 }
 
-/// Goes past the event at an index, the next one, and tells the role of the node that it begins; the stack has the role of what comes
-/// next in each open collection, the innermost last. It fails where a growth of memory was refused.
+/// Passes the event at an index, which is the next one, and returns the role of the node that it begins. The stack
+/// holds the role of the next node in each open collection, the innermost last. Fails if memory is refused.
 #[inline(always)]
 pub fn pass(stack: &mut Vec<Role>, reading: &Reading, i: usize) -> Result<Role, AllocError>
     requires { i < length reading.now.events }

@@ -1,9 +1,8 @@
-//! How far a pass over the text has come.
+//! The cursor of a pass over the text.
 
 use yf_lines::place::Position;
 
-/// How far a pass over the text has come: in the line of that index, from 0, at a byte offset after the line's byte order
-/// marks, whose column is known.
+/// A cursor: the index of a line, from 0, and a byte offset after the line's byte order marks, with its column.
 #[derive(Clone, Copy)]
 pub struct Cursor {
     pub line: usize,
@@ -11,7 +10,7 @@ pub struct Cursor {
     pub column: usize,
 }
 
-/// A place, and how far the pass has come with it.
+/// A position, and the cursor after it was found.
 #[derive(Clone, Copy)]
 pub struct Located {
     pub place: Position,

@@ -1,4 +1,4 @@
-//! Notes on lines: which are those of scalars, and which the content lines of block scalars.
+//! Flags the lines of scalars, and the content lines of block scalars.
 ghost use Rattle.std.specs.Prelude.{◌≡◌, ◌<◌, ◌≤◌, ℕ, Some, true, length, slice_get, IfOk, MatchBool};
 ghost use Rattle.yf_lines.specs.declared.line.Line.{Line};
 ghost use Rattle.yf_rule_sets.specs.RuleSets.BlankLines.{ScalarLine};
@@ -14,7 +14,7 @@ use yf_events::reading::Reading;
 use yf_lines::line::Line;
 use yf_lines::source_text::Src;
 
-/// Which lines of a scalar are wanted, of those after the one on which it begins.
+/// Which lines of a scalar to flag, of the lines after the one on which it begins.
 #[derive(Clone, Copy)]
 enum WantedLines {
     All,
@@ -22,7 +22,8 @@ enum WantedLines {
     Content,
 }
 
-/// Lines from an index on that begin before a byte offset; where an indentation is given, those with more characters.
+/// The lines from an index on that begin before a byte offset; with an indentation, only lines with more characters
+/// than it.
 #[derive(Clone, Copy)]
 struct LineRange {
     first: usize,
@@ -30,7 +31,7 @@ struct LineRange {
     indent: Option<usize>,
 }
 
-/// Where the lines are that are wanted of a scalar.
+/// Returns the range of the wanted lines of a scalar.
 #[inline(always)]
 fn range_of(scalar: Option<ScalarLines>, wanted: WantedLines) -> Option<LineRange>
     ensures { result ≡ wanted_range wanted scalar }
@@ -55,7 +56,7 @@ fn range_of(scalar: Option<ScalarLines>, wanted: WantedLines) -> Option<LineRang
     }
 }
 
-/// Whether a line has more characters than the indentation, if there is one.
+/// Returns whether a line has more characters than the indentation, if there is one.
 #[inline(always)]
 fn is_longer(line: Line, indent: Option<usize>) -> bool
     requires { line.start ≤ line.end }
@@ -72,7 +73,7 @@ fn is_longer(line: Line, indent: Option<usize>) -> bool
     }
 }
 
-/// Notes lines.
+/// Flags the lines of a range.
 #[inline(always)]
 fn note_range(list: &mut Vec<bool>, src: &Src, range: LineRange)
     requires { length list.old.items ≡ length src.now.lines }
@@ -92,7 +93,7 @@ fn note_range(list: &mut Vec<bool>, src: &Src, range: LineRange)
     }
 }
 
-/// Notes lines, if there are any.
+/// Flags the lines of a range, if there is one.
 #[inline(always)]
 fn note(list: &mut Vec<bool>, src: &Src, range: Option<LineRange>)
     requires { length list.old.items ≡ length src.now.lines }
@@ -104,7 +105,8 @@ fn note(list: &mut Vec<bool>, src: &Src, range: Option<LineRange>)
     }
 }
 
-/// Notes the content lines of the block scalar that the event is. The line from which on the next one is looked for.
+/// Flags the content lines if the event is a block scalar. Returns the line from which the search for the next scalar
+/// starts.
 #[inline(always)]
 fn note_content(list: &mut Vec<bool>, src: &Src, reading: &Reading, i: usize, line: usize) -> usize
     requires event { i < length reading.now.events }
@@ -119,7 +121,7 @@ fn note_content(list: &mut Vec<bool>, src: &Src, reading: &Reading, i: usize, li
     }
 }
 
-/// Whether the lines from that index on begin at the byte offset or after it.
+/// Returns whether the lines from that index on begin at the byte offset or after it.
 #[inline(always)]
 fn begin_from(src: &Src, line: usize, end: usize) -> bool
     ensures { result ≡ true → (m : ℕ) (l : Line) → slice_get src.now.lines m ≡ Some l → line ≤ m → end ≤ l.start }
@@ -134,8 +136,8 @@ fn begin_from(src: &Src, line: usize, end: usize) -> bool
     false
 }
 
-/// Notes the lines of the scalar that the event is, after the one on which it begins. The line from which on the next one is
-/// looked for. Most scalars are on one line.
+/// Flags the lines of a scalar after the one on which it begins, if the event is a scalar. Returns the line from which
+/// the search for the next scalar starts. Most scalars are on one line.
 #[inline(always)]
 fn note_scalar(list: &mut Vec<bool>, src: &Src, reading: &Reading, i: usize, line: usize) -> usize
     requires event { i < length reading.now.events }
@@ -156,7 +158,8 @@ fn note_scalar(list: &mut Vec<bool>, src: &Src, reading: &Reading, i: usize, lin
     }
 }
 
-/// Notes the lines that are wanted of the scalar that the event is. The line from which on the next one is looked for.
+/// Flags the wanted lines of a scalar, if the event is one. Returns the line from which the search for the next scalar
+/// starts.
 #[inline(always)]
 fn note_wanted(
     list: &mut Vec<bool>,
@@ -176,7 +179,7 @@ fn note_wanted(
     }
 }
 
-/// Of each line, whether it is one of those that are wanted of a scalar.
+/// Returns for each line whether it is a wanted line of a scalar.
 #[inline(always)]
 fn wanted_lines(
     alloc: Global,
@@ -195,7 +198,7 @@ fn wanted_lines(
     Ok(list)
 }
 
-/// Whether each line is one of a scalar, after the one on which that begins.
+/// Returns for each line whether it belongs to a scalar that begins on an earlier line.
 pub fn scalar_lines(alloc: Global, src: &Src, reading: &Reading) -> Result<Vec<bool>, AllocError>
     ensures { IfOk result (λ list. (length list.items ≡ length src.now.lines)
         × FlagsOf list.items (length reading.now.events) (λ i k. ScalarLine src.now reading.now k i)) }
@@ -203,7 +206,7 @@ pub fn scalar_lines(alloc: Global, src: &Src, reading: &Reading) -> Result<Vec<b
     wanted_lines(alloc, src, reading, WantedLines::All)
 }
 
-/// Whether each line is a content line of a block scalar.
+/// Returns for each line whether it is a content line of a block scalar.
 pub fn content_lines(alloc: Global, src: &Src, reading: &Reading) -> Result<Vec<bool>, AllocError>
     ensures { IfOk result (λ list. (length list.items ≡ length src.now.lines)
         × FlagsOf list.items (length reading.now.events) (λ i k. ContentLine src.now reading.now k i)) }

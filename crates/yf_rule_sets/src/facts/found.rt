@@ -1,4 +1,4 @@
-//! Lists of what is found, and what each rule is given.
+//! Lists of offsets at fault, and the arguments of each rule.
 ghost use Rattle.std.specs.Option.{option_to_list};
 ghost use Rattle.std.specs.Prelude.{◌≡◌, ◌++◌, IfOk};
 
@@ -7,10 +7,10 @@ pub use yf_events::reading::Reading;
 pub use yf_forms::style::Style;
 pub use yf_lines::source_text::Src;
 
-/// The byte offsets at fault, in any order, unless memory was refused.
+/// The byte offsets at fault, in any order, or an error if memory is refused.
 pub type FoundOffsets = Result<Vec<usize>, AllocError>;
 
-/// Appends what is found, if anything is.
+/// Appends an offset, if there is one.
 #[inline(always)]
 pub fn push_found<T: Drop>(list: &mut Vec<T>, found: Option<T>) -> Result<(), AllocError>
     ensures { IfOk result (λ _. list.new.items ≡ list.old.items ++ option_to_list found) }
@@ -21,7 +21,7 @@ pub fn push_found<T: Drop>(list: &mut Vec<T>, found: Option<T>) -> Result<(), Al
     Ok(())
 }
 
-/// The list of what is found: of one item, or of none.
+/// Returns a list of one offset, or an empty one.
 pub fn listed(alloc: Global, found: Option<usize>) -> Result<Vec<usize>, AllocError>
     ensures { IfOk result (λ list. list.items ≡ option_to_list found) }
 {

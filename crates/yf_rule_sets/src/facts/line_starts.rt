@@ -1,11 +1,12 @@
-//! Which lines begin before a byte offset and which after it.
+//! Which lines begin before a byte offset, and which after it.
 ghost use Rattle.std.specs.Prelude.{◌≤◌, length};
 ghost use Rattle.yf_lines.specs.Lines.{LinesBegunAt};
 ghost use Rattle.yf_rule_sets.specs.RuleSets.Scalars.{BegunTo};
 
 use yf_lines::source_text::Src;
 
-/// The largest number of lines, not above the hint, of which the last begins at the byte offset or before it.
+/// Returns the largest `n`, at most the hint, for which the line of index `n - 1` begins at the byte offset or before
+/// it, or 0.
 #[inline(always)]
 fn begun_back(src: &Src, hint: usize, offset: usize) -> usize
     ensures { BegunTo src.now.lines offset result }
@@ -21,8 +22,8 @@ fn begun_back(src: &Src, hint: usize, offset: usize) -> usize
     at
 }
 
-/// How many lines begin at the byte offset or before it. It is looked for from a hint on, so that a pass over ascending
-/// offsets goes over the lines once.
+/// Returns how many lines begin at the byte offset or before it. The search starts from a hint, so a pass over
+/// ascending offsets visits each line once.
 #[inline(always)]
 pub fn lines_begun(src: &Src, hint: usize, offset: usize) -> usize
     ensures begun { LinesBegunAt src.now.lines offset result }

@@ -10,7 +10,7 @@ use std::alloc::{AllocError, Global};
 use yf_events::event::Event;
 use yf_events::reading::Reading;
 
-/// Of each document, whether its `---` is written.
+/// Returns for each document whether it has a `---`.
 pub fn markers(alloc: Global, reading: &Reading) -> Result<Vec<bool>, AllocError>
     ensures { IfOk result (λ markers. markers.items ≡ markers_in (events_of reading.now)) }
 {
@@ -21,7 +21,7 @@ pub fn markers(alloc: Global, reading: &Reading) -> Result<Vec<bool>, AllocError
     Ok(markers)
 }
 
-/// Whether the `---` is written of the document that the event of that index begins.
+/// Returns whether the document that the event begins has a `---`, or `None` if the event begins no document.
 fn marker_at(reading: &Reading, i: usize) -> Option<bool>
     requires { i < length reading.now.events }
     ensures { (es : List EventValue) → IfSome (slice_get (events_of reading.now) i)

@@ -1,5 +1,5 @@
-//! In which block collection each node is, and at which column its entries are. Columns count from 0 here. It is told in
-//! one pass over the events, and kept of the open collections alone.
+//! Finds the block collection around each node and the column of its entries, in one pass over the events that keeps
+//! only the open collections. Columns count from 0.
 ghost use Rattle.std.specs.Prelude.{◌≡◌, ◌<◌, ◌+◌, ◌&&◌, ℕ, List, Some, None, [], drop, get_or, length, reverse, slice_get, IfOk};
 ghost use Rattle.yf_events.specs.Event.{EventValue, scalar_node};
 ghost use Rattle.yf_events.specs.Reading.{events_of};
@@ -21,23 +21,23 @@ use yf_lines::source_text::Src;
 /// What holds a node.
 #[derive(Clone, Copy)]
 pub enum Around {
-    /// Nothing: it is the root of a document.
+    /// Nothing: the node is the root of a document.
     Nothing,
-    /// A block collection whose entries are at that column.
+    /// A block collection with entries at that column.
     Entries(usize),
-    /// A flow collection, or a block collection whose first entry has no place.
+    /// A flow collection, or a block collection whose first entry has no position.
     Unknown,
 }
 
-/// Where the node is that an event begins.
+/// The context of the node that an event begins.
 #[derive(Clone, Copy)]
 pub struct NodeContext {
     pub outer: Around,
-    /// Whether it is the value of a key that is written without `?`.
+    /// Whether the node is the value of a key without `?`.
     pub is_implicit_value: bool,
-    /// Of a block collection the column of its first entry.
+    /// The column of the first entry, of a block collection.
     pub column: Option<usize>,
-    /// Of a block collection the byte offset of its first entry.
+    /// The byte offset of the first entry, of a block collection.
     pub first: usize,
 }
 
@@ -50,16 +50,16 @@ impl NodeContext {
     };
 }
 
-/// A collection whose end has not come yet.
+/// An open collection.
 #[derive(Clone, Copy)]
 struct ContextFrame {
     column: Option<usize>,
     is_map: bool,
-    /// In a mapping, whether a value comes next, and whether its key is written without `?`.
+    /// In a mapping, if a value comes next, whether its key has no `?`.
     key: Option<bool>,
 }
 
-/// The byte offset at which the entry begins that the event begins, where a character begins there or the text ends.
+/// Returns the byte offset of the entry that the event begins, if it is a boundary.
 #[inline(always)]
 fn entry_start(src: &Src, reading: &Reading, i: usize) -> Option<usize>
     requires { i < length reading.now.events }
@@ -76,7 +76,7 @@ fn entry_start(src: &Src, reading: &Reading, i: usize) -> Option<usize>
     }
 }
 
-/// Whether the event begins a block collection.
+/// Returns whether the event begins a block collection.
 #[inline(always)]
 fn starts_block(reading: &Reading, i: usize) -> bool
     requires { i < length reading.now.events }
@@ -89,7 +89,7 @@ fn starts_block(reading: &Reading, i: usize) -> bool
     }
 }
 
-/// The byte offset of the first entry of the block collection that the event begins.
+/// Returns the byte offset of the first entry of the block collection that the event begins.
 #[inline(always)]
 fn first_entry(src: &Src, reading: &Reading, i: usize) -> Option<usize>
     requires { i < length reading.now.events }
@@ -104,7 +104,7 @@ fn first_entry(src: &Src, reading: &Reading, i: usize) -> Option<usize>
     None
 }
 
-/// The byte offsets of the first entries of all block collections, in order.
+/// Returns the byte offsets of the first entries of all block collections, in order.
 fn first_entries(alloc: Global, src: &Src, reading: &Reading) -> Result<Vec<usize>, AllocError>
     ensures { IfOk result (λ offsets. offsets.items ≡ all_entries src.now.text reading.now.events) }
 {
@@ -115,7 +115,7 @@ fn first_entries(alloc: Global, src: &Src, reading: &Reading) -> Result<Vec<usiz
     Ok(offsets)
 }
 
-/// Whether the next node is the value of a key without `?`; the collection then waits for what comes after the node.
+/// Passes a node in the collection and returns whether it is the value of a key without `?`.
 #[inline(always)]
 fn begins_next_entry(collection: &mut ContextFrame, src: &Src, reading: &Reading, i: usize) -> bool
     requires { i < length reading.now.events }
@@ -140,7 +140,7 @@ fn begins_next_entry(collection: &mut ContextFrame, src: &Src, reading: &Reading
     }
 }
 
-/// What holds the next node, in the innermost open collection.
+/// Returns what holds the next node, from the innermost open collection.
 #[inline(always)]
 fn held_by(collection: &ContextFrame) -> Around
     ensures { result ≡ held collection.now.column }
@@ -151,7 +151,7 @@ fn held_by(collection: &ContextFrame) -> Around
     }
 }
 
-/// Where the next node is, a block collection's own entries left out.
+/// Returns the context of the next node, without its own entries.
 #[inline(always)]
 fn next_context(
     stack: &mut Vec<ContextFrame>,
@@ -182,18 +182,18 @@ fn next_context(
     }
 }
 
-/// A pass over the events of a reading, which tells where the node is that each begins.
+/// A pass over the events of a reading that finds the context of each node.
 #[derive(Drop)]
 pub struct Pass {
     /// The columns of the first entries of all block collections, in order.
     columns: Vec<usize>,
-    /// How many of them have begun.
+    /// How many of these collections have begun.
     begun: usize,
     stack: Vec<ContextFrame>,
 }
 
 impl Pass {
-    /// A pass before the first event of a reading of the text.
+    /// Returns a pass before the first event of a reading.
     pub fn new(alloc: Global, src: &Src, reading: &Reading) -> Result<Pass, AllocError>
         ensures pass { IfOk result (λ pass. IsPass src.now.text reading.now.events pass.columns.items pass.begun 0) }
         ensures stack { IfOk result (λ pass. reverse pass.stack.items ≡ []) }
@@ -206,7 +206,7 @@ impl Pass {
         })
     }
 
-    /// Goes past the event at an index, which is the next one: where the node is that it begins.
+    /// Passes the event at an index, which is the next one, and returns the context of the node that it begins.
     #[inline(always)]
     pub fn next(
         &mut self,
@@ -233,7 +233,7 @@ impl Pass {
         }
     }
 
-    /// Goes past a scalar, the event at an index, which is the next one, where it isn't asked where the scalar is.
+    /// Passes a scalar, the next event, without computing its context.
     #[inline(always)]
     pub fn go_by(&mut self, src: &Src, reading: &Reading, i: usize)
         requires { i < length reading.now.events }
@@ -243,7 +243,7 @@ impl Pass {
         let _ = next_context(&mut self.stack, src, reading, i);
     }
 
-    /// Goes past the start of a collection.
+    /// Passes the start of a collection.
     #[inline(always)]
     fn open(
         &mut self,
@@ -274,7 +274,7 @@ impl Pass {
         })
     }
 
-    /// The column of the first entry of the block collection that begins next.
+    /// Returns the column of the first entry of the block collection that begins next.
     fn next_column(&mut self) -> usize
         ensures column { result ≡ get_or self.old.columns.items self.old.begun 0 }
         ensures begun { self.old.begun < length self.old.columns.items → self.new.begun ≡ self.old.begun + 1 }

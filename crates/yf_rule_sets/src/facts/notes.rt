@@ -1,4 +1,4 @@
-//! What is known of each line.
+//! Notes on each line.
 ghost use Rattle.std.specs.Prelude.{◌≡◌, ◌<◌, ℕ, false, get_or, length, IfOk, MatchBool};
 ghost use Rattle.yf_rule_sets.specs.RuleSets.BlankLines.{DirectiveIn, DirectiveOf, HasOffset, IsBlank, MarkerOf};
 ghost use Rattle.yf_rule_sets.specs.Passes.BlankNotes.{AreNotes, BlankUnless, MarkerThere};
@@ -16,18 +16,18 @@ use yf_events::reading::Reading;
 use yf_lines::basic::skip_whites;
 use yf_lines::source_text::Src;
 
-/// What is known of each line, by its index.
+/// Notes on each line, by its index.
 #[derive(Drop)]
 pub struct Notes {
-    /// Whether it is a line of white space alone that is part of no scalar.
+    /// Whether it holds only white space and is part of no scalar.
     pub blank: Vec<bool>,
-    /// Whether it holds a document's `---` with nothing but white space after it.
+    /// Whether it holds a document's `---` with only white space after it.
     pub markers: Vec<bool>,
     /// Whether it holds a directive.
     pub directives: Vec<bool>,
 }
 
-/// Whether nothing but white space is after the `---` that begins there.
+/// Returns whether only white space follows the `---` at that offset, on its line.
 pub fn is_alone(text: &str, marker: usize) -> bool
     ensures { MatchBool result (IsAlone text.now marker) (IsAlone text.now marker → ⊥) }
 {
@@ -51,7 +51,7 @@ pub fn is_alone(text: &str, marker: usize) -> bool
     false
 }
 
-/// Notes the line that holds the byte offset. How many lines begin up to it.
+/// Flags the line that holds the byte offset. Returns how many lines begin up to the offset.
 fn note_line(list: &mut Vec<bool>, src: &Src, hint: usize, offset: usize) -> usize
     requires { length list.old.items ≡ length src.now.lines }
     ensures { FlagsAdded list.old.items list.new.items (HasOffset src.now offset) }
@@ -65,7 +65,7 @@ fn note_line(list: &mut Vec<bool>, src: &Src, hint: usize, offset: usize) -> usi
     begun
 }
 
-/// Notes the lines of directives. How many lines begin up to the last one.
+/// Flags the lines of directives. Returns how many lines begin up to the last directive.
 fn note_directives(list: &mut Vec<bool>, src: &Src, hint: usize, directives: &[Directive]) -> usize
     requires { length list.old.items ≡ length src.now.lines }
     ensures { FlagsAdded list.old.items list.new.items (λ k. (j : ℕ) × DirectiveIn src.now directives.now j k) }
@@ -77,7 +77,7 @@ fn note_directives(list: &mut Vec<bool>, src: &Src, hint: usize, directives: &[D
     hint
 }
 
-/// Whether each line holds a directive.
+/// Returns for each line whether it holds a directive.
 fn directive_lines(alloc: Global, src: &Src, reading: &Reading) -> Result<Vec<bool>, AllocError>
     ensures { IfOk result (λ list. ListTells list.items (λ k. (m : ℕ) × DirectiveOf src.now reading.now m k)) }
 {
@@ -90,7 +90,8 @@ fn directive_lines(alloc: Global, src: &Src, reading: &Reading) -> Result<Vec<bo
     Ok(list)
 }
 
-/// Notes the line of a `---` that is written and has nothing but white space after it. How many lines begin up to it.
+/// Flags the line of a `---` that is written and has only white space after it. Returns how many lines begin up to it,
+/// or the hint if it flags none.
 fn note_marker(list: &mut Vec<bool>, src: &Src, hint: usize, marked: bool, start: usize) -> usize
     requires { length list.old.items ≡ length src.now.lines }
     ensures { FlagsAdded list.old.items list.new.items (MarkerThere src.now marked start) }
@@ -104,7 +105,7 @@ fn note_marker(list: &mut Vec<bool>, src: &Src, hint: usize, marked: bool, start
     note_line(list, src, hint, start)
 }
 
-/// Whether each line holds a `---` with nothing but white space after it.
+/// Returns for each line whether it holds a `---` with only white space after it.
 fn marker_lines(alloc: Global, src: &Src, reading: &Reading) -> Result<Vec<bool>, AllocError>
     ensures { IfOk result (λ list. ListTells list.items (λ k. (m : ℕ) × MarkerOf src.now reading.now m k)) }
 {
@@ -118,7 +119,7 @@ fn marker_lines(alloc: Global, src: &Src, reading: &Reading) -> Result<Vec<bool>
     Ok(list)
 }
 
-/// Whether a line is one of white space alone, unless it is one of a scalar.
+/// Returns whether a line holds only white space and is not inside a scalar.
 fn is_blank(src: &Src, k: usize, is_inside: bool) -> bool
     requires { k < length src.now.lines }
     ensures { MatchBool result (BlankUnless src.now k is_inside) (BlankUnless src.now k is_inside → ⊥) }
@@ -132,7 +133,7 @@ fn is_blank(src: &Src, k: usize, is_inside: bool) -> bool
     is_white_line(src.text(), src.lines().line(k))
 }
 
-/// Whether each line is one of white space alone that is part of no scalar.
+/// Returns for each line whether it holds only white space and is part of no scalar.
 fn blank_lines(alloc: Global, src: &Src, reading: &Reading) -> Result<Vec<bool>, AllocError>
     ensures count { IfOk result (λ list. length list.items ≡ length src.now.lines) }
     ensures blank { IfOk result (λ list. ListTells list.items (IsBlank src.now reading.now)) }
@@ -144,7 +145,7 @@ fn blank_lines(alloc: Global, src: &Src, reading: &Reading) -> Result<Vec<bool>,
     Ok(list)
 }
 
-/// What is known of the lines of a text and its reading.
+/// Returns the notes on the lines of a text with that reading.
 pub fn find_notes(alloc: Global, src: &Src, reading: &Reading) -> Result<Notes, AllocError>
     ensures { IfOk result (λ notes. AreNotes src.now reading.now notes.blank.items notes.markers.items notes.directives.items) }
 {
@@ -158,7 +159,7 @@ pub fn find_notes(alloc: Global, src: &Src, reading: &Reading) -> Result<Notes, 
     })
 }
 
-/// What is noted of the line of that index; nothing of a line past the end.
+/// Returns the flag of the line of that index, or `false` past the end.
 pub fn flag(list: &[bool], k: usize) -> bool
     ensures { result ≡ get_or list.now k false }
 {

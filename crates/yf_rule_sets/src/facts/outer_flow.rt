@@ -1,4 +1,4 @@
-//! Which events are in a flow collection, told in one pass over the events of a reading that was measured.
+//! Finds the events in flow collections, in one pass over the events of a measured reading.
 ghost use Rattle.std.specs.Prelude.{◌≡◌, ◌<◌, ◌+◌, ℕ, List, Some, length, slice_get};
 ghost use Rattle.yf_forms.specs.Nodes.FlowsAlone.{flows_alone};
 ghost use Rattle.yf_forms.specs.NormalForms.Measures.{AreMeasures};
@@ -13,7 +13,7 @@ use yf_events::event::Event;
 use yf_events::reading::Reading;
 use yf_forms::form::measures::Measures;
 
-/// Whether the event begins a flow collection.
+/// Returns whether the event begins a flow collection.
 #[inline(always)]
 pub fn starts_flow(reading: &Reading, i: usize) -> bool
     requires { i < length reading.now.events }
@@ -26,8 +26,9 @@ pub fn starts_flow(reading: &Reading, i: usize) -> bool
     }
 }
 
-/// Goes past the event at an index: `done` is the index of the last event of the flow collections before it, and so is what is
-/// answered of those up to it. It is 0 where there is none. The measures are those of the reading, or of flow collections alone.
+/// Passes the event at an index. `done`, and the result, is the index of the last event of the flow collections that
+/// begin before the cursor, or 0 if there is none. The measures are those of the reading, or only of its flow
+/// collections.
 #[inline(always)]
 pub fn past_flow(reading: &Reading, measures: &Measures, i: usize, done: usize) -> usize
     requires { i < length reading.now.events }

@@ -1,4 +1,4 @@
-//! The places of byte offsets, in one pass over the text.
+//! Finds the positions of byte offsets in one pass over the text.
 ghost use Rattle.std.specs.Prelude.{◌≡◌, ◌<◌, ◌≤◌, ◌+◌, true, length, IfOk, IfSome, slice_get};
 ghost use Rattle.std.specs.Str.{IsCharBoundary};
 ghost use Rattle.yf_lines.specs.Lines.{LineHolds, PlaceOf};
@@ -13,7 +13,7 @@ use yf_lines::place::Position;
 use yf_lines::source_text::Src;
 use yf_lines::table::{column_from, skip_marks};
 
-/// The cursor after the marks of the line of that index.
+/// Returns the cursor after the byte order marks of the line of that index.
 fn line_cursor(src: &Src, line: usize) -> Cursor
     ensures { IsCursor src.now.text src.now.lines result }
 {
@@ -31,8 +31,8 @@ fn line_cursor(src: &Src, line: usize) -> Cursor
     }
 }
 
-/// The cursor in the line of that index, for a byte offset in it: after the spaces with which the line begins, unless the
-/// offset is among them, or is the end of the text.
+/// Returns a cursor in the line of that index, for a byte offset in it: after the spaces at the start of the line,
+/// unless the offset is one of them or the end of the text.
 #[inline(always)]
 fn indent_cursor(src: &Src, line: usize, offset: usize) -> Cursor
     ensures { IsCursor src.now.text src.now.lines result }
@@ -53,7 +53,7 @@ fn indent_cursor(src: &Src, line: usize, offset: usize) -> Cursor
     line_cursor(src, line)
 }
 
-/// The cursor in the line that holds the byte offset. The line is looked for from that of the first cursor on.
+/// Returns a cursor in the line that holds the byte offset. The search starts at the line of the first cursor.
 fn forward(src: &Src, cursor: Cursor, offset: usize) -> Cursor
     requires { IsCursor src.now.text src.now.lines cursor }
     ensures { IsCursor src.now.text src.now.lines result }
@@ -65,7 +65,7 @@ fn forward(src: &Src, cursor: Cursor, offset: usize) -> Cursor
     indent_cursor(src, line, offset)
 }
 
-/// Whether the line holds the byte offset. A last line without a break holds the end of the text too.
+/// Returns whether the line holds the byte offset. A last line without a break also holds the end of the text.
 #[inline(always)]
 fn holds(line: Line, offset: usize) -> bool
     ensures { result ≡ true → LineHolds line offset }
@@ -82,9 +82,9 @@ fn holds(line: Line, offset: usize) -> bool
     false
 }
 
-/// The place of a byte offset, from the first cursor on. An offset that its line holds before that cursor, and one at the
-/// end of the text, is found from the second one, which stays at the last of these: so it takes one pass over a line where
-/// they descend.
+/// Returns the position of a byte offset, searched from the first cursor on. An offset before that cursor in its line,
+/// and the end of the text, is searched from the second cursor, which stays at the last of these offsets. So descending
+/// offsets in a line take one pass.
 fn place_from(src: &Src, from: Cursor, back: &mut Cursor, offset: usize) -> Located
     requires boundary { IsCharBoundary src.now.text offset }
     requires cursor { IsCursor src.now.text src.now.lines from }
@@ -114,8 +114,8 @@ fn place_from(src: &Src, from: Cursor, back: &mut Cursor, offset: usize) -> Loca
     }
 }
 
-/// The place of a byte offset in the line of the first cursor, which has that number: from the second cursor, if it is
-/// in that line, and else from the first.
+/// Returns the position of a byte offset in the line of the first cursor, which has that number. The search starts from
+/// the second cursor if it is in that line, otherwise from the first.
 fn place_back(src: &Src, cursor: Cursor, back: Cursor, number: usize, offset: usize) -> Located
     requires boundary { IsCharBoundary src.now.text offset }
     requires cursor { IsCursor src.now.text src.now.lines cursor }
@@ -132,7 +132,7 @@ fn place_back(src: &Src, cursor: Cursor, back: Cursor, number: usize, offset: us
     place_near(src, cursor, number, offset)
 }
 
-/// The place of a byte offset before or after a cursor in its line, which has that number.
+/// Returns the position of a byte offset before or after a cursor in its line, which has that number.
 fn place_near(src: &Src, cursor: Cursor, number: usize, offset: usize) -> Located
     requires boundary { IsCharBoundary src.now.text offset }
     requires cursor { IsCursor src.now.text src.now.lines cursor }
@@ -151,7 +151,7 @@ fn place_near(src: &Src, cursor: Cursor, number: usize, offset: usize) -> Locate
     place_before(src, cursor, number, offset)
 }
 
-/// The place of a byte offset after a cursor in its line, which has that number.
+/// Returns the position of a byte offset after a cursor in its line, which has that number.
 fn place_in_line(src: &Src, cursor: Cursor, number: usize, offset: usize) -> Located
     requires boundary { IsCharBoundary src.now.text offset }
     requires cursor { IsCursor src.now.text src.now.lines cursor }
@@ -177,7 +177,7 @@ fn place_in_line(src: &Src, cursor: Cursor, number: usize, offset: usize) -> Loc
     }
 }
 
-/// The place of a byte offset among the marks of a line with that number, whose cursor is the one after them.
+/// Returns the position of a byte offset among the marks of a line with that number. The cursor is after them.
 fn place_at_mark(src: &Src, cursor: Cursor, number: usize, offset: usize) -> Located
     requires cursor { IsCursor src.now.text src.now.lines cursor }
     requires line { cursor.line < length src.now.lines }
@@ -198,8 +198,9 @@ fn place_at_mark(src: &Src, cursor: Cursor, number: usize, offset: usize) -> Loc
     }
 }
 
-/// The place of a byte offset before a cursor in its line, which has that number. The characters between them are counted:
-/// where they are fewer than its column, the offset is after the marks of the line, and else among them.
+/// Returns the position of a byte offset before a cursor in its line, which has that number. It counts the characters
+/// between them: if they are fewer than the cursor's column, the offset is after the marks of the line, otherwise among
+/// them.
 fn place_before(src: &Src, cursor: Cursor, number: usize, offset: usize) -> Located
     requires boundary { IsCharBoundary src.now.text offset }
     requires cursor { IsCursor src.now.text src.now.lines cursor }
@@ -235,8 +236,8 @@ fn place_before(src: &Src, cursor: Cursor, number: usize, offset: usize) -> Loca
     }
 }
 
-/// The column, from 0, of a byte offset, from these cursors on, and the first cursor for the next pass. An offset within a
-/// character has 0.
+/// Returns the column, from 0, of a byte offset, and the first cursor for the next call. The search starts from these
+/// cursors. An offset within a character has column 0.
 fn column_after(src: &Src, from: Cursor, back: &mut Cursor, offset: usize) -> (usize, Cursor)
     requires cursor { IsCursor src.now.text src.now.lines from }
     requires back { IsCursor src.now.text src.now.lines back.old }
@@ -251,8 +252,8 @@ fn column_after(src: &Src, from: Cursor, back: &mut Cursor, offset: usize) -> (u
     (0, from)
 }
 
-/// The column, from 0, of each byte offset, in its place. It takes one pass where the offsets ascend or descend. An offset
-/// within a character has 0.
+/// Returns the column, from 0, of each byte offset, in the order given. It takes one pass if the offsets ascend or
+/// descend. An offset within a character has column 0.
 pub fn columns_of(src: &Src, mut offsets: Vec<usize>) -> Vec<usize>
     ensures { ColumnsTo src.now.text offsets.items result.items (length offsets.items) }
 {
@@ -266,7 +267,8 @@ pub fn columns_of(src: &Src, mut offsets: Vec<usize>) -> Vec<usize>
     offsets
 }
 
-/// The places of the byte offsets that have one, in their order and in one pass where the offsets ascend or descend.
+/// Returns the positions of the byte offsets that have one, in the order given. It takes one pass if the offsets ascend
+/// or descend.
 pub fn known_positions(
     alloc: Global,
     src: &Src,

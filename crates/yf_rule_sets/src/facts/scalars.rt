@@ -1,4 +1,4 @@
-//! The lines of each scalar after the one on which it begins, and the content lines of block scalars (YAML 1.2.2, section 8.1).
+//! The lines of scalars after their first line, and the content lines of block scalars (YAML 1.2.2, section 8.1).
 ghost use Rattle.std.specs.Prelude.{◌≡◌, ◌<◌, ◌≤◌, ℕ, drop, length, MatchOption};
 ghost use Rattle.yf_rule_sets.specs.Passes.BlockLines.{LinesOfBlock};
 ghost use Rattle.yf_rule_sets.specs.Passes.ScalarLines.{IsContent, LinesOfScalar};
@@ -11,7 +11,7 @@ use yf_events::reading::Reading;
 use yf_forms::text::content_start::content_start;
 use yf_lines::source_text::Src;
 
-/// Where the content of a block scalar begins.
+/// The start of the content of a block scalar.
 #[derive(Clone, Copy)]
 pub struct ContentStart {
     /// The index of its first content line.
@@ -20,19 +20,19 @@ pub struct ContentStart {
     pub indent: usize,
 }
 
-/// The lines of a scalar after the one on which its content, of a block scalar its header, begins.
+/// The lines of a scalar after the one on which its content begins; for a block scalar, after its header.
 #[derive(Clone, Copy)]
 pub struct ScalarLines {
-    /// The byte offset at which the scalar begins after its properties: of a block scalar its header.
+    /// The byte offset of the content, after the properties; for a block scalar, of the header.
     pub start: usize,
     /// The index of the first of the lines, and the byte offset before which all of them begin.
     pub first: usize,
     pub end: usize,
-    /// Of a block scalar with a content line, where its content begins.
+    /// The start of the content, of a block scalar with a content line.
     pub content: Option<ContentStart>,
 }
 
-/// How many times the byte is from that index on.
+/// Returns how many times the byte occurs in a row from that index on.
 fn count_from(bytes: &[u8], from: usize, byte: u8) -> usize
     ensures { result ≡ Scalars.head_count byte (drop from bytes.now) }
 {
@@ -46,8 +46,8 @@ fn count_from(bytes: &[u8], from: usize, byte: u8) -> usize
     at - from
 }
 
-/// Where the content begins of a block scalar with this text, whose header is on the line before that of the index
-/// `after`; `None` where it has no content line.
+/// Returns the start of the content of a block scalar with this text, or `None` if it has no content line. `after` is
+/// the index of the line after the header.
 #[inline(always)]
 fn content_of(src: &Src, text: &str, after: usize) -> Option<ContentStart>
     requires { after ≤ length src.now.lines }
@@ -70,7 +70,7 @@ fn content_of(src: &Src, text: &str, after: usize) -> Option<ContentStart>
     })
 }
 
-/// Whether a scalar of this style is a block scalar.
+/// Returns whether a scalar of this style is a block scalar.
 #[inline(always)]
 pub fn is_block_style(style: ScalarStyle) -> bool
     ensures { result ≡ Scalars.is_block_style style }
@@ -81,7 +81,8 @@ pub fn is_block_style(style: ScalarStyle) -> bool
     }
 }
 
-/// Where the content begins of a scalar of this style with this text, if it is a block scalar that has a content line.
+/// Returns the start of the content of a scalar of this style with this text, if it is a block scalar with a content
+/// line.
 #[inline(always)]
 fn block_content(src: &Src, style: ScalarStyle, text: &str, after: usize) -> Option<ContentStart>
     requires { after ≤ length src.now.lines }
@@ -93,9 +94,8 @@ fn block_content(src: &Src, style: ScalarStyle, text: &str, after: usize) -> Opt
     content_of(src, text, after)
 }
 
-/// The lines of the scalar that the event at an index is; `None` of any other event and of an empty scalar. They are looked for
-/// from the line of that index on, so that a pass over the events goes over the lines once: `first` of one scalar is the line
-/// for the next one.
+/// Returns the lines of the scalar at an event, or `None` for another event or an empty scalar. The search starts at
+/// `line`. If `first` of one scalar is the `line` for the next one, a pass over the events visits each line once.
 #[inline(never)]
 pub fn scalar_lines_at(src: &Src, reading: &Reading, i: usize, line: usize) -> Option<ScalarLines>
     requires { i < length reading.now.events }
@@ -119,7 +119,7 @@ pub fn scalar_lines_at(src: &Src, reading: &Reading, i: usize, line: usize) -> O
     }
 }
 
-/// The same of a block scalar; `None` also of a scalar of another style, which is passed by at once.
+/// Like `scalar_lines_at`, but returns `None` at once for a scalar that is not a block scalar.
 #[inline(always)]
 pub fn block_lines_at(src: &Src, reading: &Reading, i: usize, line: usize) -> Option<ScalarLines>
     requires { i < length reading.now.events }

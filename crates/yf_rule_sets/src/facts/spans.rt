@@ -1,4 +1,4 @@
-//! The parts of a text that scalars have, and how far those reach that begin up to an offset.
+//! The spans of scalars, and the farthest end of those that begin up to an offset.
 ghost use Rattle.std.specs.Prelude.{◌<◌, length};
 ghost use Rattle.std.specs.List.Sorted.{IsNonDecreasingBy};
 ghost use Rattle.yf_rule_sets.specs.Passes.FarthestEnds.{AllBegin, Covers, NoneBegins};
@@ -8,7 +8,7 @@ ghost use Rattle.yf_rule_sets.specs.RuleSets.Scalars.{ScalarSpan};
 use yf_events::event::{Event, Span};
 use yf_events::reading::Reading;
 
-/// The part of the text that a scalar has, if the event of that index is one with characters.
+/// Returns the span of the scalar at the event, if the event is a scalar with characters.
 #[inline(always)]
 pub fn scalar_span(reading: &Reading, i: usize) -> Option<Span>
     requires { i < length reading.now.events }
@@ -20,14 +20,14 @@ pub fn scalar_span(reading: &Reading, i: usize) -> Option<Span>
     }
 }
 
-/// How many of the parts begin at an offset or before it, and the farthest end of these, or 0.
+/// How many spans begin at an offset or before it, and the farthest end of these, or 0.
 #[derive(Clone, Copy)]
 pub struct Cover {
     pub count: usize,
     pub reach: usize,
 }
 
-/// The cover up to the byte offset, from that up to an earlier one on.
+/// Returns the cover up to the byte offset, from the cover up to an earlier one.
 pub fn cover_to(spans: &[Span], from: Cover, offset: usize) -> Cover
     requires sorted { IsNonDecreasingBy (λ s. s.start) spans.now }
     requires cover { Covers spans.now from.count from.reach }

@@ -12,7 +12,7 @@ use yf_lines::basic::{is_white_at, is_white_or_end_at};
 use yf_lines::line::Line;
 use yf_lines::source_text::Src;
 
-/// The byte offset of the first of the white space that is directly before `end`, and not before `start`.
+/// Returns the byte offset of the first of the white space directly before `end`, but not before `start`.
 pub fn whites_before(text: &str, start: usize, end: usize) -> usize
     requires { start ≤ end }
     ensures whites { WhitesEnd text.now start end result }
@@ -31,7 +31,7 @@ pub fn whites_before(text: &str, start: usize, end: usize) -> usize
     at
 }
 
-/// Whether the line holds white space alone, or nothing.
+/// Returns whether the line holds only white space, or nothing.
 pub fn is_white_line(text: &str, line: Line) -> bool
     requires { line.start ≤ line.end }
     ensures { MatchBool result (WhitesEnd text.now line.start line.end line.start) (WhitesEnd text.now line.start line.end line.start → ⊥) }
@@ -39,8 +39,8 @@ pub fn is_white_line(text: &str, line: Line) -> bool
     whites_before(text, line.start, line.end) == line.start
 }
 
-/// Whether the line of that index has text and does not end with white space, as the byte before its line feed tells of most
-/// lines that do.
+/// Returns `true` only if the line has text and does not end with white space. It looks at the byte before the line
+/// feed, which suffices for most such lines.
 #[inline(always)]
 pub fn ends_in_text(src: &Src, k: usize) -> bool
     requires { k < length src.now.lines }
@@ -58,7 +58,7 @@ pub fn ends_in_text(src: &Src, k: usize) -> bool
     bytes[line.next - 2] > b' '
 }
 
-/// Whether an entry of a block mapping is written with a `?`.
+/// Returns whether an entry of a mapping is written with a `?`.
 #[inline(always)]
 pub fn has_question_mark(text: &str, entry: Entry) -> bool
     ensures { MatchBool result (HasQuestionMark text.now entry.start) (HasQuestionMark text.now entry.start → ⊥) }

@@ -10,7 +10,8 @@ use crate::facts::found::{FoundOffsets, Global, Reading, Src, push_found};
 use crate::facts::notes::{Notes, find_notes, flag};
 pub use crate::rules::StyleRule::BlankLines;
 
-/// A blank line that is the first line, follows another one or a `---` alone on its line, is directly before a document marker or a directive, or has only blank lines after it.
+/// Returns the start of each blank line that is the first line, follows another one or a `---` with only white space
+/// after it, is directly before a document marker or a directive, or has only blank lines after it.
 pub fn offsets(alloc: Global, src: &Src, reading: &Reading) -> FoundOffsets
     ensures { IfOk result (λ offsets. Exactly (MisplacedBlank src.now reading.now) offsets.items) }
 {
@@ -23,7 +24,7 @@ pub fn offsets(alloc: Global, src: &Src, reading: &Reading) -> FoundOffsets
     Ok(offsets)
 }
 
-/// How many lines there are up to the last one that is not blank.
+/// Returns the number of lines up to the last one that is not blank.
 fn last_line(blank: &[bool]) -> usize
     ensures { LastLine blank.now result }
 {
@@ -37,7 +38,7 @@ fn last_line(blank: &[bool]) -> usize
     at
 }
 
-/// Whether the line of that index follows one that no blank line may follow.
+/// Returns whether the line of that index follows one that no blank line may follow.
 fn follows(notes: &Notes, k: usize) -> bool
     requires { k < length notes.now.blank.items }
     ensures { (src : Table) (r : Lists) → AreNotes src r notes.now.blank.items notes.now.markers.items notes.now.directives.items
@@ -52,7 +53,7 @@ fn follows(notes: &Notes, k: usize) -> bool
     flag(notes.markers.as_slice(), k - 1)
 }
 
-/// Whether the line of that index precedes one that no blank line may precede.
+/// Returns whether the line of that index precedes one that no blank line may precede.
 fn precedes(src: &Src, notes: &Notes, k: usize) -> bool
     requires { k < length src.now.lines }
     ensures { (r : Lists) → AreNotes src.now r notes.now.blank.items notes.now.markers.items notes.now.directives.items
@@ -69,7 +70,7 @@ fn precedes(src: &Src, notes: &Notes, k: usize) -> bool
     flag(notes.directives.as_slice(), k + 1)
 }
 
-/// The start of the line of that index, if it is blank and at fault; from the line `last` on all are blank.
+/// Returns the start of the line of that index, if it is blank and at fault. All lines from `last` on are blank.
 fn misplaced(src: &Src, notes: &Notes, last: usize, k: usize) -> Option<usize>
     requires line { k < length src.now.lines }
     requires last { LastLine notes.now.blank.items last }

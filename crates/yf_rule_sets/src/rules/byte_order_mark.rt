@@ -12,7 +12,7 @@ pub use crate::rules::StyleRule::ByteOrderMark;
 use yf_events::event::Span;
 use yf_lines::basic::is_mark_at;
 
-/// Each byte order mark outside of scalars. Marks that are together at the start of a line have one place.
+/// Returns each byte order mark outside of scalars. Marks together at the start of a line have one position.
 pub fn offsets(alloc: Global, src: &Src, reading: &Reading) -> FoundOffsets
     ensures { IfOk result (λ offsets. Exactly (LooseMark src.now.text reading.now) offsets.items) }
 {
@@ -30,7 +30,7 @@ pub fn offsets(alloc: Global, src: &Src, reading: &Reading) -> FoundOffsets
     Ok(offsets)
 }
 
-/// The parts of the text that scalars have.
+/// Returns the spans of scalars.
 fn scalar_spans(alloc: Global, reading: &Reading) -> Result<Vec<Span>, AllocError>
     ensures { IfOk result (λ spans. Exactly (ScalarSpan reading.now) spans.items) }
 {
@@ -41,7 +41,7 @@ fn scalar_spans(alloc: Global, reading: &Reading) -> Result<Vec<Span>, AllocErro
     Ok(spans)
 }
 
-/// The same parts, by where they begin.
+/// Returns the spans of scalars, sorted by their starts.
 fn sorted_spans(alloc: Global, reading: &Reading) -> Result<Vec<Span>, AllocError>
     ensures { IfOk result (λ spans. Exactly (ScalarSpan reading.now) spans.items × IsNonDecreasingBy (λ s. s.start) spans.items) }
 {
@@ -50,7 +50,7 @@ fn sorted_spans(alloc: Global, reading: &Reading) -> Result<Vec<Span>, AllocErro
     Ok(spans)
 }
 
-/// The byte offset, if a mark begins there that the parts up to it don't reach.
+/// Returns the byte offset, if a mark begins there and no span up to it reaches beyond.
 fn loose_mark(text: &str, reach: usize, offset: usize) -> Option<usize>
     ensures { IsTheOne (IsBeyond IsMark text.now reach offset) result }
 {
@@ -62,7 +62,7 @@ fn loose_mark(text: &str, reach: usize, offset: usize) -> Option<usize>
     None
 }
 
-// Whether the text has a mark; few texts have one, or a byte with which one begins.
+// Returns whether the text has a mark. Few texts have one, or its first byte.
 fn has_mark(text: &str) -> bool
     ensures { MatchBool result (Unit {0}) ((k : ℕ) → code text.now k ≢ 0xFEFF) }
 {
@@ -72,7 +72,7 @@ fn has_mark(text: &str) -> bool
     text.contains("\u{FEFF}")
 }
 
-// Whether the text has a byte with which a mark begins.
+// Returns whether the text has the first byte of a mark.
 fn has_first_byte(text: &str) -> bool
     ensures { MatchBool result (Unit {0}) ((k : ℕ) → code text.now k ≢ 0xFEFF) }
 {

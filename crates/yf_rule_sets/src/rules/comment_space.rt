@@ -9,7 +9,7 @@ pub use crate::rules::StyleRule::CommentSpace;
 use yf_chars::text::is_char_at;
 use yf_lines::basic::is_line_start;
 
-/// The `#` of a comment that has a character other than white before it on its line and not exactly two spaces directly before it.
+/// Returns the `#` of each comment that follows other text on its line, unless exactly two spaces are between them.
 pub fn offsets(alloc: Global, src: &Src, reading: &Reading) -> FoundOffsets
     ensures { IfOk result (λ offsets. Exactly (CloseComment src.now.text reading.now) offsets.items) }
 {
@@ -20,7 +20,7 @@ pub fn offsets(alloc: Global, src: &Src, reading: &Reading) -> FoundOffsets
     Ok(offsets)
 }
 
-/// Whether two spaces, and nothing else, are between the two byte offsets.
+/// Returns whether exactly two spaces are between the byte offsets.
 fn are_two_spaces(text: &str, from: usize, to: usize) -> bool
     ensures { MatchBool result (TwoSpaces text.now from to) (TwoSpaces text.now from to → ⊥) }
 {
@@ -36,7 +36,7 @@ fn are_two_spaces(text: &str, from: usize, to: usize) -> bool
     false
 }
 
-/// Whether a comment is after other text on its line, and not two spaces after it.
+/// Returns whether a comment follows other text on its line without exactly two spaces between them.
 fn is_close(text: &str, offset: usize) -> bool
     ensures { MatchBool result (IsClose text.now offset) (IsClose text.now offset → ⊥) }
 {
@@ -50,7 +50,7 @@ fn is_close(text: &str, offset: usize) -> bool
     true
 }
 
-/// The `#` of the comment of that index, if it is at fault.
+/// Returns the `#` of the comment of that index, if it is at fault.
 fn close(src: &Src, reading: &Reading, k: usize) -> Option<usize>
     requires { k < length reading.now.comments }
     ensures { IsTheOne (CloseComment src.now.text reading.now k) result }

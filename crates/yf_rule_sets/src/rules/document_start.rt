@@ -9,8 +9,8 @@ use crate::facts::notes::is_alone;
 pub use crate::rules::StyleRule::DocumentStart;
 use yf_forms::style::DocumentStart as Starts;
 
-/// The first character of content of a document without `---`, but of the first document where the style keeps it so; and a `---` with more
-/// than white space after it on its line.
+/// Returns the first character of content of each document without `---`, except the first document if the style keeps
+/// it so, and each `---` with more than white space after it on its line.
 pub fn offsets(alloc: Global, src: &Src, reading: &Reading, style: &Style) -> FoundOffsets
     ensures { IfOk result (λ offsets. Exactly (NoMarkerLine src.now.text reading.now style.now) offsets.items) }
 {
@@ -31,7 +31,7 @@ pub fn offsets(alloc: Global, src: &Src, reading: &Reading, style: &Style) -> Fo
     Ok(offsets)
 }
 
-/// Whether the document of that index may be without `---`.
+/// Returns whether the document of that index may be without `---`.
 fn may_be_bare(style: &Style, k: usize) -> bool
     ensures { result ≡ may_be_bare style.now k }
 {
@@ -41,7 +41,7 @@ fn may_be_bare(style: &Style, k: usize) -> bool
     }
 }
 
-/// The start of a document, if it is at fault.
+/// Returns the start of a document, if it is at fault.
 fn unmarked(text: &str, marked: bool, may_be_bare: bool, start: usize) -> Option<usize>
     ensures { IsTheOne (IsUnmarked text.now marked may_be_bare start) result }
 {

@@ -7,14 +7,14 @@ use crate::facts::found::{FoundOffsets, Global, Src, listed};
 pub use crate::rules::StyleRule::FinalBreak;
 use yf_lines::basic::break_ends;
 
-/// The end of a text that is not empty and does not end with a line break.
+/// Returns the end of a text that is not empty and does not end with a line break.
 pub fn offsets(alloc: Global, src: &Src) -> FoundOffsets
     ensures { IfOk result (λ offsets. WithoutFinalBreak src.now.text offsets.items) }
 {
     listed(alloc, open_end(src.text()))
 }
 
-/// The end of the text, if it is not empty and no break ends there.
+/// Returns the end of the text, if the text is not empty and does not end with a break.
 fn open_end(text: &str) -> Option<usize>
     ensures { WithoutFinalBreak text.now (option_to_list result) }
 {

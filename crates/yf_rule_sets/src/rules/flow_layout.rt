@@ -24,7 +24,8 @@ use yf_forms::form::measure_flows::measure_flows;
 use yf_forms::form::measures::Measures;
 use yf_forms::text::content_start::content_start;
 
-/// The opening bracket of a flow collection, in no other one, that is not written as the house style writes it, or may not be kept there.
+/// Returns the opening bracket of each outermost flow collection that is not written as the house style writes it, or
+/// may not be kept there.
 pub fn offsets(alloc: Global, src: &Src, reading: &Reading, style: &Style) -> FoundOffsets
     ensures { IfOk result (λ offsets. flow_layout_at src.now reading.now style.now offsets.items) }
 {
@@ -44,7 +45,7 @@ pub fn offsets(alloc: Global, src: &Src, reading: &Reading, style: &Style) -> Fo
     Ok(offsets)
 }
 
-/// Whether that text is this part of the text, which ends with the text at the latest.
+/// Returns whether that text is in this span of the text, which does not end after the text.
 fn is_text(text: &str, part: Span, other: &str) -> bool
     ensures { MatchBool result (slice_range text.now part.start part.end ≡ other.now)
         (slice_range text.now part.start part.end ≢ other.now) }
@@ -61,7 +62,7 @@ fn is_text(text: &str, part: Span, other: &str) -> bool
     false
 }
 
-/// Whether the character that ends at the byte offset is after the longest line that the style allows.
+/// Returns whether the character that ends at the byte offset is past the longest line that the style allows.
 fn ends_past_limit(src: &Src, end: usize, style: &Style) -> bool
     ensures { MatchBool result (EndsPastLimit src.now style.now.max_line end) (EndsPastLimit src.now style.now.max_line end → ⊥) }
 {
@@ -74,7 +75,7 @@ fn ends_past_limit(src: &Src, end: usize, style: &Style) -> bool
     false
 }
 
-/// The empty collection that the event begins, from bracket to bracket.
+/// Returns the text of the empty collection that the event begins, from bracket to bracket.
 fn empty_text(reading: &Reading, i: usize) -> &'static str
     requires { i < length reading.now.events }
     ensures { (e : EventValue) → slice_get (events_of reading.now) i ≡ Some e → result.now ≡ OuterFlow.empty_text e }
@@ -85,7 +86,7 @@ fn empty_text(reading: &Reading, i: usize) -> &'static str
     }
 }
 
-/// Whether the collection that the event begins is empty: its end is the next event.
+/// Returns whether the collection that the event begins is empty: the next event ends it.
 fn is_empty(measures: &Measures, i: usize) -> bool
     ensures { (t : List ℕ) (c : LayoutSetting) (es : List EventInText) (x : Node) → AreMeasures t c (flows_alone 0 es) measures.now → NodeAt es i x
         → is_flow x ≡ true → MatchBool result (is_filled_flow x ≡ false) (is_filled_flow x ≡ true) }
@@ -96,7 +97,7 @@ fn is_empty(measures: &Measures, i: usize) -> bool
     false
 }
 
-/// Whether the flow collection, whose text from bracket to bracket is that part, is at fault.
+/// Returns whether the flow collection with that span, from bracket to bracket, is at fault.
 #[inline(never)]
 fn is_displaced(
     alloc: Global,
@@ -130,7 +131,7 @@ fn is_displaced(
     }
 }
 
-/// From bracket to bracket the flow collection that the event begins.
+/// Returns the span of the flow collection that the event begins, from bracket to bracket.
 #[inline(never)]
 fn brackets(src: &Src, reading: &Reading, i: usize) -> Option<Span>
     requires { i < length reading.now.events }
@@ -151,7 +152,7 @@ fn brackets(src: &Src, reading: &Reading, i: usize) -> Option<Span>
     }
 }
 
-/// The same. Events that begin none, which are most, are passed by at once.
+/// Like `brackets`, but returns at once for events that begin no flow collection, which are most.
 #[inline(always)]
 fn brackets_at(src: &Src, reading: &Reading, i: usize) -> Option<Span>
     requires { i < length reading.now.events }
@@ -164,7 +165,7 @@ fn brackets_at(src: &Src, reading: &Reading, i: usize) -> Option<Span>
     brackets(src, reading, i)
 }
 
-/// Whether the text has any flow collection.
+/// Returns whether the text has any flow collection.
 fn has_brackets(src: &Src, reading: &Reading) -> bool
     ensures { result ≡ false → (house : Style) (i o : ℕ) → LayoutFault src.now reading.now house i o → ⊥ }
 {
@@ -177,8 +178,8 @@ fn has_brackets(src: &Src, reading: &Reading) -> bool
     false
 }
 
-/// The opening bracket of the flow collection that the event begins, if it is at fault; those that begin up to the index `done` are in
-/// another one.
+/// Returns the opening bracket of the flow collection that the event begins, if it is at fault. Those that begin up to
+/// the index `done` are within another one.
 #[inline(always)]
 fn displaced(
     alloc: Global,

@@ -15,7 +15,8 @@ use yf_events::event::{Event, ScalarStyle, Span};
 use yf_forms::text::content_start::content_start;
 use yf_lines::invisible::Invisible;
 
-/// Each hidden character but a byte order mark that no quoted scalar holds, where the style escapes them between quotes.
+/// Returns each hidden character outside of quoted scalars, except byte order marks, if the style escapes hidden
+/// characters.
 pub fn offsets(alloc: Global, src: &Src, reading: &Reading, style: &Style) -> FoundOffsets
     ensures { IfOk result (λ offsets. Exactly (Hidden.HiddenCharacter src.now.text reading.now style.now) offsets.items) }
 {
@@ -25,7 +26,8 @@ pub fn offsets(alloc: Global, src: &Src, reading: &Reading, style: &Style) -> Fo
     }
 }
 
-/// The same where the style escapes them.
+/// Returns each hidden character outside of quoted scalars, except byte order marks. The style escapes hidden
+/// characters.
 fn escaped_offsets(alloc: Global, src: &Src, reading: &Reading, style: &Style) -> FoundOffsets
     requires { style.now.invisible ≡ Invisible.Escaped }
     ensures { IfOk result (λ offsets. Exactly (Hidden.HiddenCharacter src.now.text reading.now style.now) offsets.items) }
@@ -41,7 +43,7 @@ fn escaped_offsets(alloc: Global, src: &Src, reading: &Reading, style: &Style) -
     Ok(offsets)
 }
 
-/// The byte offset, if a hidden character begins there that the parts up to it don't reach.
+/// Returns the byte offset, if a hidden character begins there and no span up to it reaches beyond.
 fn hidden_at(text: &str, reach: usize, offset: usize) -> Option<usize>
     ensures { IsTheOne (IsBeyond IsHiddenSign text.now reach offset) result }
 {
@@ -62,7 +64,7 @@ fn hidden_at(text: &str, reach: usize, offset: usize) -> Option<usize>
     }
 }
 
-/// Whether it is a hidden character other than a byte order mark.
+/// Returns whether the character is hidden and not a byte order mark.
 fn is_hidden_sign(c: char) -> bool
     ensures { MatchBool result (IsHiddenSign c) (IsHiddenSign c → ⊥) }
 {
@@ -72,7 +74,7 @@ fn is_hidden_sign(c: char) -> bool
     is_hidden(c)
 }
 
-/// The part of the text that the event has from quote to quote, if it is a quoted scalar.
+/// Returns the span of the event from quote to quote, if it is a quoted scalar.
 fn quoted_part(src: &Src, reading: &Reading, i: usize) -> Option<Span>
     requires { i < length reading.now.events }
     ensures { IsTheOne (QuotedPart src.now.text reading.now i) result }
@@ -103,7 +105,7 @@ fn is_quoted(style: ScalarStyle) -> bool
     }
 }
 
-/// The parts of the text that quoted scalars have.
+/// Returns the spans of quoted scalars.
 fn quoted_parts(alloc: Global, src: &Src, reading: &Reading) -> Result<Vec<Span>, AllocError>
     ensures { IfOk result (λ parts. Exactly (QuotedPart src.now.text reading.now) parts.items) }
 {
@@ -114,7 +116,7 @@ fn quoted_parts(alloc: Global, src: &Src, reading: &Reading) -> Result<Vec<Span>
     Ok(parts)
 }
 
-/// The same parts, by where they begin.
+/// Returns the spans of quoted scalars, sorted by their starts.
 fn sorted_parts(alloc: Global, src: &Src, reading: &Reading) -> Result<Vec<Span>, AllocError>
     ensures { IfOk result (λ parts. Exactly (QuotedPart src.now.text reading.now) parts.items × IsNonDecreasingBy (λ s. s.start) parts.items) }
 {

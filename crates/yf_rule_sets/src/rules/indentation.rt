@@ -13,7 +13,8 @@ use crate::facts::scalars::{ScalarLines, block_lines_at, is_block_style};
 pub use crate::rules::StyleRule::Indentation;
 use yf_events::event::Event;
 
-/// The first entry of a block collection that is not at the column of the house style, and the header of a block scalar whose content is not.
+/// Returns the first entry of each block collection that is not at its column in the house style, and the header of
+/// each block scalar with content that is not.
 pub fn offsets(alloc: Global, src: &Src, reading: &Reading, style: &Style) -> FoundOffsets
     ensures { IfOk result (λ offsets. indentation_at src.now reading.now style.now offsets.items) }
 {
@@ -26,7 +27,7 @@ pub fn offsets(alloc: Global, src: &Src, reading: &Reading, style: &Style) -> Fo
     Ok(offsets)
 }
 
-/// Whether the event is a scalar that is no block scalar: it can't be at fault.
+/// Returns whether the event is a scalar that is not a block scalar. Such an event can't be at fault.
 #[inline(always)]
 fn is_quiet(reading: &Reading, i: usize) -> bool
     requires { i < length reading.now.events }
@@ -38,7 +39,8 @@ fn is_quiet(reading: &Reading, i: usize) -> bool
     }
 }
 
-/// Goes past the event at an index: adds what is found of it. The line from which on the next block scalar is looked for.
+/// Passes the event at an index and adds its fault. Returns the line from which the search for the next block scalar
+/// starts.
 #[inline(always)]
 fn step(
     pass: &mut Pass,
@@ -66,7 +68,7 @@ fn step(
     }
 }
 
-/// Whether the one column is not so many columns to the right of the other.
+/// Returns whether the one column is not that number of columns to the right of the other.
 fn is_off(column: usize, outer: usize, indent: usize) -> bool
     ensures { result ≡ is_other column (Some (outer + indent)) }
 {
@@ -79,8 +81,9 @@ fn is_off(column: usize, outer: usize, indent: usize) -> bool
     true
 }
 
-/// Whether entries of a block collection at that column, from 0, are out of place: those of a root are to be at column 0, others as far
-/// to the right of the entries around them as the style says, or at their column for a sequence after a key without `?`.
+/// Returns whether entries of a block collection at that column, from 0, are misplaced. Those of a root belong at
+/// column 0. Others belong as far to the right of the entries around them as the style says, or at their column for a
+/// sequence after a key without `?`.
 fn is_misplaced(stand: NodeContext, column: usize, is_sequence: bool, style: &Style) -> bool
     ensures { result ≡ is_other column (wanted_column style.now (is_sequence && stand.is_implicit_value) stand.outer) }
 {
@@ -96,7 +99,7 @@ fn is_misplaced(stand: NodeContext, column: usize, is_sequence: bool, style: &St
     }
 }
 
-/// The first entry of the block collection, if it is at another column than it is to.
+/// Returns the first entry of the block collection, if it is misplaced.
 fn misplaced_entry(stand: NodeContext, is_sequence: bool, style: &Style) -> Option<usize>
     ensures { result ≡ entry_fault stand.first stand.column (wanted_column style.now (is_sequence && stand.is_implicit_value) stand.outer) }
 {
@@ -111,7 +114,7 @@ fn misplaced_entry(stand: NodeContext, is_sequence: bool, style: &Style) -> Opti
     }
 }
 
-/// Whether the content of a block scalar with that indentation is out of place.
+/// Returns whether the content of a block scalar with that indentation is misplaced.
 fn is_misindented(stand: NodeContext, indent: usize, style: &Style) -> bool
     ensures { result ≡ is_other indent (wanted_indent style.now stand.outer) }
 {
@@ -122,7 +125,7 @@ fn is_misindented(stand: NodeContext, indent: usize, style: &Style) -> bool
     }
 }
 
-/// The header of the block scalar, if its content is not indented as it is to be.
+/// Returns the header of the block scalar, if its content is misplaced.
 fn misplaced_content(stand: NodeContext, lines: ScalarLines, style: &Style) -> Option<usize>
     ensures { result ≡ content_fault (content_in (Some lines)) (wanted_indent style.now stand.outer) }
 {
@@ -137,7 +140,7 @@ fn misplaced_content(stand: NodeContext, lines: ScalarLines, style: &Style) -> O
     }
 }
 
-/// What is found of the event at an index, if it begins a node at fault: a scalar has those lines.
+/// Returns the fault of the node that the event at an index begins, if it is at fault. `lines` are those of a scalar.
 fn misplaced(
     reading: &Reading,
     stand: NodeContext,

@@ -24,7 +24,7 @@ use yf_forms::form::forms::Forms;
 use yf_forms::form::keys::is_implicit_atom;
 use yf_forms::form::measure::measure_all;
 
-/// The `?` of an entry of a block mapping whose key the house style writes without it.
+/// Returns the `?` of each entry of a block mapping whose key the house style writes without it.
 pub fn offsets(alloc: Global, src: &Src, reading: &Reading, style: &Style) -> FoundOffsets
     ensures { IfOk result (λ offsets. key_mark_at src.now reading.now style.now offsets.items) }
 {
@@ -37,7 +37,8 @@ pub fn offsets(alloc: Global, src: &Src, reading: &Reading, style: &Style) -> Fo
     }
 }
 
-/// The same from the forms of all nodes: whether a collection is written without `?` may depend on the column of its entry.
+/// Finds the faults from the forms of all nodes, because the column of an entry may decide whether a collection is
+/// written without `?`.
 fn by_forms(alloc: Global, src: &Src, reading: &Reading, style: &Style) -> FoundOffsets
     ensures { IfOk result (λ offsets. key_mark_at src.now reading.now style.now offsets.items) }
 {
@@ -52,8 +53,8 @@ fn by_forms(alloc: Global, src: &Src, reading: &Reading, style: &Style) -> Found
     Ok(offsets)
 }
 
-/// The same where no key after a `?` is a collection, else `None`: whether a scalar or an alias is written without `?` depends on nothing
-/// around it.
+/// Finds the faults without forms, or returns `None` if a key after a `?` is a collection. Whether a scalar or an alias
+/// is written without `?` depends on nothing around it.
 fn without_forms(
     alloc: Global,
     src: &Src,
@@ -74,8 +75,9 @@ fn without_forms(
     Ok(Some(offsets))
 }
 
-/// The `?` before the event where that is a scalar or an alias, a key, and to be written without; `Some(None)` where there is none. `None`
-/// where a collection is the key after a `?`, of which nothing is told.
+/// Returns the `?` before the event, if the event is a scalar or an alias, a key, and written without `?` in the house
+/// style; otherwise `Some(None)`. Returns `None` if the key after a `?` is a collection, because this pass can't decide
+/// on it.
 fn needless_atom(
     src: &Src,
     reading: &Reading,
@@ -96,7 +98,7 @@ fn needless_atom(
     }
 }
 
-/// The same of a key after the `?` at an offset.
+/// Decides for a key after the `?` at an offset.
 fn mark_if_needless(key: &Event, mark: usize, style: &Style) -> Option<Option<usize>>
     ensures { IfSome result (λ answer. (is_atom (event_value key.now) ≡ true)
         × (answer ≡ if is_implicit_atom style.now (event_value key.now) then Some mark else None)) }
@@ -112,7 +114,7 @@ fn mark_if_needless(key: &Event, mark: usize, style: &Style) -> Option<Option<us
     }
 }
 
-/// The `?` with which the entry is written that the event begins, if it begins one that is.
+/// Returns the `?` of the entry that the event begins, if it has one.
 fn mark_of(src: &Src, reading: &Reading, i: usize) -> Option<usize>
     requires { i < length reading.now.events }
     ensures { IsTheOne (IsMarked src.now.text reading.now i) result }
@@ -128,7 +130,7 @@ fn mark_of(src: &Src, reading: &Reading, i: usize) -> Option<usize>
     }
 }
 
-/// Whether any entry is written with a `?`.
+/// Returns whether any entry is written with a `?`.
 fn has_marks(src: &Src, reading: &Reading) -> bool
     ensures { result ≡ false → (i o : ℕ) → IsMarked src.now.text reading.now i o → ⊥ }
 {
@@ -141,7 +143,8 @@ fn has_marks(src: &Src, reading: &Reading) -> bool
     false
 }
 
-/// The `?` before the key, if it is to be written without; keys that begin up to the event of the index `done` are in a flow collection.
+/// Returns the `?` before the key, if the house style writes the key without it. Keys that begin up to the event of the
+/// index `done` are in a flow collection.
 fn needless(src: &Src, reading: &Reading, forms: &Forms, i: usize, done: usize) -> Option<usize>
     requires { i < length reading.now.events }
     ensures { (house : Style) (trees : List DocumentTree) → TellsKeys src.now.text reading.now house trees forms.now

@@ -7,14 +7,14 @@ use crate::facts::found::{FoundOffsets, Global, Src, listed};
 pub use crate::rules::StyleRule::LineBreaks;
 use yf_chars::text::is_char_at;
 
-/// The break of the first line whose break is not a line feed.
+/// Returns the break of the first line whose break is not a line feed.
 pub fn offsets(alloc: Global, src: &Src) -> FoundOffsets
     ensures { IfOk result (λ offsets. offsets.items ≡ Sets.first_return src.now.text src.now.lines) }
 {
     listed(alloc, first_return(src))
 }
 
-/// The first offset at which a line ends with a break that begins with a carriage return.
+/// Returns the first offset at which a line ends with a break that begins with a carriage return.
 fn first_return(src: &Src) -> Option<usize>
     ensures { Sets.first_return src.now.text src.now.lines ≡ option_to_list result }
 {

@@ -9,7 +9,7 @@ pub use crate::rules::StyleRule::LineLength;
 use yf_chars::text::peek;
 use yf_lines::table::skip_marks;
 
-/// The column after the longest line that the style allows, of a line that is longer.
+/// Returns the first character past the longest line that the style allows, of each longer line.
 pub fn offsets(alloc: Global, src: &Src, style: &Style) -> FoundOffsets
     ensures { IfOk result (λ offsets. Exactly (BeyondLimit src.now style.now.max_line) offsets.items) }
 {
@@ -20,8 +20,8 @@ pub fn offsets(alloc: Global, src: &Src, style: &Style) -> FoundOffsets
     Ok(offsets)
 }
 
-/// The byte offset after so many characters of a line, where at least one more is before the line's end. A line of so
-/// many bytes has no more characters, so that these are counted of longer lines alone.
+/// Returns the byte offset after `count` characters of a line, if the line has more. A line with at most `count` bytes
+/// has no more characters, so only longer lines are counted.
 fn after_chars(text: &str, start: usize, end: usize, count: usize) -> Option<usize>
     requires start { IsCharBoundary text.now start }
     requires end { end ≤ length text.now }
@@ -48,8 +48,8 @@ fn after_chars(text: &str, start: usize, end: usize, count: usize) -> Option<usi
     None
 }
 
-/// The first character of the line of that index after the longest line that is allowed, if it is longer. Few lines are asked
-/// for it.
+/// Returns the first character past the longest line that is allowed, if the line of that index is longer. Few lines
+/// need this.
 #[inline(never)]
 fn beyond_far(src: &Src, k: usize, max_line: usize) -> Option<usize>
     requires { k < length src.now.lines }
@@ -60,7 +60,7 @@ fn beyond_far(src: &Src, k: usize, max_line: usize) -> Option<usize>
     after_chars(src.text(), start, line.end, max_line)
 }
 
-/// The same. Most lines have no more bytes than that with their break, so that where a line ends before it is not looked for.
+/// Like `beyond_far`, but returns at once for most lines: those with at most `max_line` bytes, their break included.
 #[inline(always)]
 fn beyond(src: &Src, k: usize, max_line: usize) -> Option<usize>
     requires { k < length src.now.lines }

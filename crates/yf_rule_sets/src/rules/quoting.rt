@@ -10,7 +10,7 @@ use yf_events::event::Event;
 use yf_forms::text::content_start::content_start;
 use yf_forms::text::wanted::wanted_of;
 
-/// The first character of content of a scalar whose style is not the one that the house style gives it.
+/// Returns the first character of the content of each scalar that is not in the style that the house style gives it.
 pub fn offsets(alloc: Global, src: &Src, reading: &Reading, style: &Style) -> FoundOffsets
     ensures { IfOk result (λ offsets. Exactly (QuotingFault src.now.text reading.now style.now) offsets.items) }
 {
@@ -21,7 +21,7 @@ pub fn offsets(alloc: Global, src: &Src, reading: &Reading, style: &Style) -> Fo
     Ok(offsets)
 }
 
-/// Where the content begins of the scalar that the event is, if it has characters. Few scalars are asked for it.
+/// Returns the offset of the content of the scalar at the event, if it has characters. Few scalars need this.
 #[inline(never)]
 fn start_of(src: &Src, reading: &Reading, i: usize) -> Option<usize>
     requires { i < length reading.now.events }
@@ -36,7 +36,7 @@ fn start_of(src: &Src, reading: &Reading, i: usize) -> Option<usize>
     }
 }
 
-/// The first character of the scalar, if its style is not the one wanted.
+/// Returns the first character of the scalar, if it is not in the wanted style.
 #[inline(always)]
 fn misquoted(src: &Src, reading: &Reading, i: usize, style: &Style) -> Option<usize>
     requires { i < length reading.now.events }

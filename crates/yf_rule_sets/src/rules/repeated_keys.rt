@@ -13,7 +13,7 @@ use std::collections::BTreeSet;
 use yf_events::event::Event;
 use yf_props::resolved::ResolvedTag;
 
-/// The first character of a scalar key whose text and resolved tag are those of an earlier scalar key of its mapping.
+/// Returns each scalar key with the text and the resolved tag of an earlier scalar key of its mapping.
 pub fn offsets(alloc: Global, reading: &Reading) -> FoundOffsets
     ensures { IfOk result (λ offsets. (trees : List DocumentTree) → TreesOf reading.now trees → Exactly (RepeatedKey reading.now trees) offsets.items) }
 {
@@ -36,22 +36,22 @@ struct ScalarKey<'r> {
     tag: Option<&'r ResolvedTag<'r>>,
 }
 
-/// So many scalar keys of a mapping are looked for one by one.
+/// The number of scalar keys of a mapping that are searched one by one.
 const FEW: usize = 8;
 
-/// A collection whose end has not come yet.
+/// An open collection.
 #[derive(Drop)]
 struct KeyedCollection<'r> {
     is_map: bool,
     /// Whether a value comes next.
     at_value: bool,
-    /// Where its keys begin in the list of the first few keys of all open mappings.
+    /// The index of its first key in the list of the first few keys of all open mappings.
     first: usize,
-    /// Of a mapping the further scalar keys so far.
+    /// The further scalar keys so far, of a mapping.
     more: BTreeSet<ScalarKey<'r>>,
 }
 
-/// Whether two keys are the same.
+/// Returns whether two keys are equal.
 #[inline(always)]
 fn is_same(a: ScalarKey, b: ScalarKey) -> bool
     ensures { result ≡ same_value (key_value a.entry) (key_value b.entry) }
@@ -59,7 +59,7 @@ fn is_same(a: ScalarKey, b: ScalarKey) -> bool
     a == b
 }
 
-/// Whether a key is among those of the list from an index on.
+/// Returns whether a key is in the list from an index on.
 #[inline(always)]
 fn is_among(keys: &[ScalarKey], first: usize, key: ScalarKey) -> bool
     ensures { result ≡ holds_key (key_value key.entry) (drop first keys.now) }
@@ -74,7 +74,7 @@ fn is_among(keys: &[ScalarKey], first: usize, key: ScalarKey) -> bool
     false
 }
 
-/// Adds a key to the further ones of a mapping: whether it was there already.
+/// Adds a key to the further ones of a mapping. Returns whether it was there already.
 #[inline(never)]
 fn add_more<'r>(
     collection: &mut KeyedCollection<'r>,
@@ -88,7 +88,7 @@ fn add_more<'r>(
     Ok(!is_new)
 }
 
-/// Adds a key to those of the innermost mapping: whether it was there already.
+/// Adds a key to those of the innermost mapping. Returns whether it was there already.
 #[inline(always)]
 fn add_key<'r>(
     collection: &mut KeyedCollection<'r>,
@@ -110,7 +110,7 @@ fn add_key<'r>(
     add_more(collection, key)
 }
 
-/// Goes past a node in a collection that is no scalar.
+/// Passes a node in a collection, but adds no key.
 #[inline(always)]
 fn turn(collection: &mut KeyedCollection)
     ensures first { collection.new.first ≡ collection.old.first }
@@ -119,7 +119,7 @@ fn turn(collection: &mut KeyedCollection)
     collection.at_value = !collection.at_value;
 }
 
-/// Whether the next node in a collection is a key.
+/// Returns whether the next node in a collection is a key.
 #[inline(always)]
 fn is_key_next(collection: &KeyedCollection) -> bool
     ensures { (own : List ScalarKey) (l : OpenCollection) → IsCollection own collection.now l → result ≡ takes_key l }
@@ -127,8 +127,8 @@ fn is_key_next(collection: &KeyedCollection) -> bool
     collection.is_map && !collection.at_value
 }
 
-/// Goes past a scalar in the innermost collection: whether it is a key that the collection has already. Where it is no key, its tag isn't
-/// looked up.
+/// Passes a scalar in the innermost collection. Returns whether it is a key that the collection has already. The tag of
+/// a scalar that is not a key isn't looked up.
 #[inline(always)]
 fn turn_scalar<'r>(
     collection: &mut KeyedCollection<'r>,
@@ -152,7 +152,7 @@ fn turn_scalar<'r>(
     Ok(false)
 }
 
-/// Goes past a node that is no scalar, in the innermost collection that is open.
+/// Passes a node that is not a scalar, in the innermost open collection.
 #[inline(always)]
 fn pass_node(stack: &mut Vec<KeyedCollection>)
     ensures { (ks : List ScalarKey) (st : List OpenCollection) → AreCollections ks (reverse stack.old.items) st → AreCollections ks (reverse stack.new.items) (after None st) }
@@ -163,7 +163,7 @@ fn pass_node(stack: &mut Vec<KeyedCollection>)
     }
 }
 
-/// Goes past a scalar: whether it is a key that its mapping has already.
+/// Passes a scalar. Returns whether it is a key that its mapping has already.
 #[inline(always)]
 fn pass_scalar<'r>(
     stack: &mut Vec<KeyedCollection<'r>>,
@@ -184,7 +184,7 @@ fn pass_scalar<'r>(
     }
 }
 
-/// Goes past the start of a collection, whose keys begin at that index.
+/// Passes the start of a collection, whose keys begin at that index.
 #[inline(always)]
 fn pass_start(
     alloc: Global,
@@ -205,7 +205,7 @@ fn pass_start(
     Ok(())
 }
 
-/// Goes past the end of a collection.
+/// Passes the end of a collection.
 #[inline(always)]
 fn pass_end<'r>(stack: &mut Vec<KeyedCollection<'r>>, keys: &mut Vec<ScalarKey<'r>>)
     ensures { (st : List OpenCollection) → AreCollections keys.old.items (reverse stack.old.items) st → AreCollections keys.new.items (reverse stack.new.items) (without_first st) }
@@ -220,7 +220,7 @@ fn pass_end<'r>(stack: &mut Vec<KeyedCollection<'r>>, keys: &mut Vec<ScalarKey<'
     }
 }
 
-/// Goes past one event: whether it is a scalar key that its mapping has already.
+/// Passes an event. Returns whether it is a scalar key that its mapping has already.
 #[inline(always)]
 fn pass<'r>(
     alloc: Global,
@@ -259,7 +259,7 @@ fn pass<'r>(
     }
 }
 
-/// Where a key is: at its first character, an empty one at its `:`, or at its `?` where its entry has none.
+/// Returns the offset of a key: its first character, or, if it is empty, its `:`, or its `?` if its entry has no `:`.
 fn key_offset(reading: &Reading, i: usize) -> usize
     requires { i < length reading.now.events }
     ensures { (e : EventInText) → slice_get reading.now.events i ≡ Some e → result ≡ event_place e }

@@ -9,7 +9,7 @@ use crate::facts::whites::{ends_in_text, whites_before};
 pub use crate::rules::StyleRule::TrailingBlanks;
 use yf_lines::basic::is_white_at;
 
-/// The first of the white space that ends a line, unless it is a content line of a block scalar.
+/// Returns the first character of the white space that ends a line, except on content lines of block scalars.
 pub fn offsets(alloc: Global, src: &Src, reading: &Reading) -> FoundOffsets
     ensures { IfOk result (λ offsets. Exactly (TrailingBlank src.now reading.now) offsets.items) }
 {
@@ -24,7 +24,7 @@ pub fn offsets(alloc: Global, src: &Src, reading: &Reading) -> FoundOffsets
     Ok(offsets)
 }
 
-/// Whether white space ends any line, of block scalars or not; it does in few texts.
+/// Returns whether white space ends any line, content lines of block scalars included. Few texts have such a line.
 fn has_blank_ends(src: &Src) -> bool
     ensures { result ≡ false → (k o : ℕ) → BlankEnd src.now k false o → ⊥ }
 {
@@ -36,7 +36,7 @@ fn has_blank_ends(src: &Src) -> bool
     false
 }
 
-/// Whether white space ends the line of that index, as its last byte tells.
+/// Returns whether white space ends the line of that index, which its last byte decides.
 #[inline(always)]
 fn ends_in_white(src: &Src, k: usize) -> bool
     requires { k < length src.now.lines }
@@ -52,7 +52,8 @@ fn ends_in_white(src: &Src, k: usize) -> bool
     is_white_at(src.text(), line.end - 1)
 }
 
-/// Where the white space begin that end the line of that index, unless it is a content line of a block scalar.
+/// Returns the start of the white space that ends the line of that index, unless it is a content line of a block
+/// scalar.
 #[inline(always)]
 fn blank_end(src: &Src, k: usize, is_content: bool) -> Option<usize>
     requires { k < length src.now.lines }

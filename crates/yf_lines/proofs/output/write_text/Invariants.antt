@@ -1,4 +1,4 @@
--- What is gone from `rest` was appended, and no write has failed.
+-- The bytes removed from `rest` were appended, and no write has failed.
 use Rattle.std.proofs.Common.{length}
 use Rattle.yf_lines.proofs.OutputLemmas.{Progress}
 use Rattle.yf_lines.proofs.output.write_text.Given as goal

@@ -1,4 +1,4 @@
--- What is left of the parts is what is still to be written.
+-- The remaining parts are still to be written.
 use Rattle.std.proofs.Common.{drop}
 use Rattle.yf_lines.specs.Output.{texts}
 use Rattle.yf_lines.proofs.OutputLemmas.{Progress}
