@@ -11,8 +11,8 @@ use Rattle.yf_laws.specs.Format.{IsFormatting}
 use Rattle.yf_laws.specs.NormalForms.OfText.{OfText}
 use Rattle.yf_laws.specs.Preservation.SameComments.{kept}
 
--- Each reading of a UTF-8 text has trees, its comments and its offsets are in the order of the text, and its scalars can
--- be spelled in their styles.
+-- Each reading of a UTF-8 text has trees, its comments and its offsets are in the order of the text, and its scalars
+-- can be spelled in their styles.
 abbrev pub ReadingsAreOfTexts : Type 0
 ReadingsAreOfTexts = (t : List ℕ) (r : Lists) → IsUtf8 t → ReadingOf t r → OfText t r
 

@@ -1,4 +1,5 @@
--- The name of a file as Git writes it in a diff: one with a control character, a quote or a backslash is in double quotes, with escapes.
+-- The name of a file as Git writes it in a diff: one with a control character, a quote or a backslash is in double
+-- quotes, with escapes.
 use Rattle.std.specs.Prelude.{ℕ, ◌+◌, ◌/◌, ◌%◌, nat_eq, nat_lt, Bool, true, false, List, [], ◌∷◌, ◌++◌, if◌then◌else◌}
 
 -- whether a byte after another one is a control character, a quote or a backslash; 194 comes before the control

@@ -1,4 +1,5 @@
--- The productions of chapters 5 and 6, read as forms, are the relations of `Basic` and `Comments`: from the standard's form to the relation.
+-- The productions of chapters 5 and 6, read as forms, are the relations of `Basic` and `Comments`: from the standard's
+-- form to the relation.
 use Rattle.std.proofs.Common.{◌≡◌, ◌≢◌, ℕ, suc, ◌+◌, ◌-◌, ◌<◌, ◌≤◌, ℤ, pos, ◌<ℤ◌, Bool, true, List, [], ◌∷◌, ◌++◌, length, refl, sym, ap, ◌∙◌, subst, ◌⊎◌, inl, inr, arith, slice_range}
 use Rattle.std.proofs.lemmas.Bool.{eqb-true}
 use Rattle.std.proofs.lemmas.Int.{ints}

@@ -41,7 +41,8 @@ star_then (by_collection q l d) e = no_operator_opens q
 star_then no_more e = e
 star_then (one_more c d) e = one_more c (star_then d e)
 
--- The parts that both kinds of quotes share: C makes characters of the form ns, one or two, and B a break of the form br.
+-- The parts that both kinds of quotes share: C makes characters of the form ns, one or two, and B a break of the form
+-- br.
 pub record QuoteKind (t : List ℕ) (room : ℕ) {A : Type 0} (C B : ℕ → ℕ → List A → Type 0) (nb ns br line next : Form) : Type 0 where
   pub char : (i j : ℕ) (w : List A) → C i j w → Read t room (nb ⋆) i j
   pub front : (i j : ℕ) (w : List A) → C i j w → is_white (code t i) ≡ false → (k : ℕ) × (Read t room ns i k × Read t room ((‹ s-white › ⋆ then ns) ⋆) k j)

@@ -13,7 +13,8 @@ use Rattle.yf_standard.specs.Notation.Form.{c-forbidden, l-yaml-stream}
 use Rattle.yf_standard.specs.Literal.{Derived}
 use Rattle.yf_standard.specs.Rules.{read, letter}
 
--- all of the text is an l-yaml-stream of the standard, with the reading rules and at most DEPTH collections open at once
+-- all of the text is an l-yaml-stream of the standard, with the reading rules and at most DEPTH collections open at
+-- once
 abbrev pub IsStandardStream : List ℕ → Type 0
 IsStandardStream t = Derived (read t) t DEPTH l-yaml-stream 0 (length t)
 

@@ -32,7 +32,8 @@ pub data Condition : Type 0 where
   tag-ends : Condition
   -- reserved names: the name that begins here is neither YAML nor TAG
   reserved-name : Condition
-  -- longest scalars: no further line with that indentation, no comment line with fewer spaces, no further comment line can be taken
+  -- longest scalars: no further line with that indentation, no comment line with fewer spaces, no further comment line
+  -- can be taken
   no-line : ℤ → Condition
   no-trail : ℤ → Condition
   no-comment-line : Condition

@@ -15,7 +15,8 @@ use Rattle.yf_laws.specs.Layouts.FitDocuments.{FitDocuments, FitsBare, Documents
 use Rattle.yf_laws.specs.Layouts.Layout.{layout, source_of}
 use Rattle.yf_print.specs.Layouts.KeptColumns.{columns_of}
 
--- The text is a stream of documents that mean these trees, with these directives and markers, and its comments have these texts, in order.
+-- The text is a stream of documents that mean these trees, with these directives and markers, and its comments have
+-- these texts, in order.
 pub record StreamMade (t : List ℕ) (bare : Bool) (ds : List Doc) (xs : List DocumentTree) (comments : List (List ℕ)) : Type 0 where
   pub height : ℕ
   pub documents : Documents

@@ -44,7 +44,8 @@ comment_text cs k v = by (is_text v || is_filled_flow v) (leaves v) where
   by true (s ∷ ss) = found_text (λ c. nat_lt (Normal.key_start k) c.offset && nat_lt c.offset s.start) cs
   by false ss = refl
 
--- b says whether the key x is implicit; o is the comment that trails it, and xs and ys are the rows of the key and of its value y
+-- b says whether the key x is implicit; o is the comment that trails it, and xs and ys are the rows of the key and of
+-- its value y
 pub pair_fed : (k : Known) (inline b : Bool) (column place : ℕ) (x y : Node) (f : Form) (entry : Option Entry) (o : Option ℕ) (xs ys : List Row) (d : Draft)
     → (b ≡ true → xs ≡ one_line_row place x (written k.work.style x)) → (b ≡ true → is_empty_text (written k.work.style x) ≡ true → (items_in x ≡ []) × (leaves x ≡ []))
     → (b ≡ true → trailing_if k.work.reading.comments o ≡ key_text (key_comment k.work.reading.comments x y))

@@ -1,5 +1,5 @@
--- Rows that fit the comments: the leaves of each are among its items, no comment is between its first leaf and its last item, and the comment
--- that trails its key is the first after an item on it and before the leaves of the next row.
+-- Rows that fit the comments: the leaves of each are among its items, no comment is between its first leaf and its last
+-- item, and the comment that trails its key is the first after an item on it and before the leaves of the next row.
 use Rattle.std.proofs.Common.{◌≡◌, ◌≢◌, ℕ, max, ◌<◌, ◌≤◌, Bool, true, false, true≢false, List, [], ◌∷◌, ◌++◌, Some, None, refl, sym, ap, ◌∙◌, subst, arith, ◌⊎◌, inl, inr, ⊎_elim}
 use Rattle.std.specs.Prelude.{find, replicate, if◌then◌else◌}
 use Rattle.std.proofs.lemmas.Bool.{and_from, cases_lt}

@@ -1,4 +1,5 @@
--- Each comment on a line of its own that was laid out at its column is found there, and is laid out at that column again.
+-- Each comment on a line of its own that was laid out at its column is found there, and is laid out at that column
+-- again.
 use Rattle.std.proofs.Common.{◌≡◌, ℕ, ◌+◌, ◌<◌, ◌≤◌, Bool, true, false, true≢false, List, [], ◌∷◌, ◌++◌, length, map, Option, Some, None, refl, sym, ap, ◌∙◌, subst, arith}
 use Rattle.std.specs.Prelude.{◌-◌, ◌==◌, ◌&&◌, not, nat_lt, if◌then◌else◌}
 use Rattle.std.proofs.lemmas.Bool.{or_parts}

@@ -7,7 +7,8 @@ use Rattle.yf_events.specs.declared.event.ScalarStyle.TheVariants.{Plain, Double
 use Rattle.yf_events.specs.declared.lists.Lists.{Lists}
 use Rattle.yf_rule_sets.specs.RuleSets.Nodes.{RepeatedKey, repeats, is_root}
 
--- the reading of "a: 1\n\"a\": 2\n: 3\n: 4\n": the second key has the text of the first, and the last is as empty as the one before it
+-- the reading of "a: 1\n\"a\": 2\n: 3\n: 4\n": the second key has the text of the first, and the last is as empty as
+-- the one before it
 
 abbrev entry : ℕ → ℕ → Option Entry
 entry start colon = Some (record { start = start; colon = Some colon; blank_before = false })
