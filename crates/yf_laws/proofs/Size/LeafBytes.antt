@@ -268,8 +268,7 @@ block_most w column ls tail n l a b d =
     let two = mul-le-mul_right w a in
     omega (arith, one, two, a, b, d, at_append column ls (replicate tail []), empty_lines column tail)
 
--- The length of a scalar: on one line, or with its lines at a column of at most w, bounded by w plus eight for each of
--- the n bytes.
+-- The length of a scalar: on one line, or with its lines at a column of at most w, bounded by n · (w + 8).
 pub record LeafCost (house : Style) (n : ℕ) (props : PropsValue) (style : ScalarStyle) (text : List ℕ) (lines : List (List ℕ)) : Type 0 where
   pub short : Short n (spaced (props_text props) (scalar_text house style text))
   pub block : is_block_style style ≡ true → (w column : ℕ) → column ≤ w

@@ -1,4 +1,5 @@
--- The rows of a tree are bounded by the bytes that it is counted with, times the greatest column w plus eight.
+-- The rows of a tree have at most n · (w + 8) bytes; n is the number of bytes that the tree is counted with, and w the
+-- greatest column.
 use Rattle.std.proofs.Common.{◌≡◌, ℕ, zero, suc, ◌+◌, ◌-◌, ◌*◌, ◌≤◌, Bool, true, false, true≢false, List, [], ◌∷◌, ◌++◌, length, max, replicate, Option, Some, None, refl, sym, ap, ◌∙◌, arith, length-append}
 use Rattle.std.specs.Prelude.{if◌then◌else◌, is_some, ◌&&◌, nat_le, not}
 use Rattle.std.proofs.Math.Nat.{add-mul, le-max_left, le-max_right, mul-add, mul-le-mul_right, suc-mul}

@@ -1,4 +1,5 @@
--- A formatted text has at most as many bytes as the text, plus one, times the greatest column of a line, plus eight.
+-- A formatted text has at most (n + 1) · (c + 8) bytes; n is the number of bytes of the text, and c the greatest column
+-- of a line.
 use Rattle.std.proofs.Common.{◌≡◌, ℕ, suc, ◌+◌, ◌*◌, ◌≤◌, List, [], ◌∷◌, length, map, max, flat_map, refl, sym, ap, ◌∙◌, subst, arith}
 use Rattle.std.proofs.Math.Nat.{mul_comm, mul-le-mul_right, suc-mul}
 use Rattle.std.specs.Prelude.{Bool, true, false, if◌then◌else◌}
