@@ -35,7 +35,7 @@ module _ {t : List ℕ} where
   no_properties_there : {n m : ℤ} {c : Ctx} {h k l g : ℕ} {x : Meaning} {q : PropertiesValue} → BareNode t n h k l x → Chosen (Properties t m c k) g q → ⊥
   no_properties_there b d = true≢false (sym (properties_begin d.derived) ∙ bare_no_properties b)
 
-  -- it is there as a leaf
+  -- it is a leaf there
   pub bare_view : {R : Reader} {n m : ℤ} {c : Ctx} {h k l : ℕ} {a : Ahead} {x : Meaning} {o : Option ParsedNode} → BareNode t m h k l x → InlineView t R n c a k o → R (Leaf n a k) o
   bare_view b (view_leaf s r) = r
   bare_view b (view_below d e j r) = absurd (no_properties_there b d)

@@ -54,7 +54,7 @@ held_alone p f g = record {
   means = λ k ds. refl;
 }
 
--- a bare node that may be after properties, with which it is a node
+-- a bare node that may follow properties, and is a node with them
 record Propertied (t : List ℕ) (n : ℤ) (h g m l : ℕ) (x : Meaning) : Type 0 where
   bare : BareNode t n h m l x
   may : (v : PropertiesHeld) → MayLeaf t (Props v) m

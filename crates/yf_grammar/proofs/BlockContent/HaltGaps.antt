@@ -22,7 +22,8 @@ use Rattle.yf_grammar.proofs.Ends.GapLemmas.{Visible}
 use Rattle.yf_grammar.proofs.BlockOutcomes.BlockClaims.{line_unique, visible_white}
 use Rattle.yf_grammar.proofs.BlockOutcomes.BlockGaps.{whites_order, rows_order, line_in, ended_here, line_chosen, prefix_at_least}
 
--- what is at the line that begins at h, where a node is awaited: the node, or nothing, where what is ahead may end
+-- the outcome at the line that begins at h, when a node is awaited: the node, or only the `Ahead` if the node has no
+-- end
 pub data HaltsBelow (t : List ℕ) (e : ℕ) (ws : List ℕ) (n : ℤ) (c : Ctx) (a : Ahead) (i h m k : ℕ) (cs : List CommentValue) (o : Option ParsedNode) : Type 0 where
   halts_there : {cols : Columns} {f : ParsedNode} → LineColumns n c h m k cols → Halts t e ws (Inline n c cols (past a cs) k) (Some f) → o ≡ outcome_after a cs (Some f)
       → HaltsBelow t e ws n c a i h m k cs o
@@ -36,7 +37,7 @@ pub data HaltsCame (t : List ℕ) (e : ℕ) (ws : List ℕ) (b : Bool) (n : ℤ)
       → HaltsCame t e ws b n c a i k cs o
 
 module _ {t : List ℕ} where
-  -- the first character of a line is where the reader is
+  -- the reader is at the first character of a line
   moved_columns : {n : ℤ} {c : Ctx} {h z m l k p : ℕ} {cols : Columns} → LineText t h m k → z ≡ h → LineText t z l p → LineColumns n c z l p cols
       → LineColumns n c h m k cols × (p ≡ k)
   moved_columns {n} {c} {h} {z} {m} {l} {k} {p} {cols} w e v y =

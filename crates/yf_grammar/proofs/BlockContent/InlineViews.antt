@@ -1,5 +1,5 @@
--- Where no collection begins on a line, there is a leaf, with or without properties. What the reader does there is said once for
--- whole nodes and for last halts: R is one of the two, and Q what is to be shown of the outcome, which is something.
+-- If no collection begins on a line, a leaf does, with or without properties. One lemma covers whole nodes and last
+-- halts: R is one of the two relations, and Q is the goal for an outcome that is not `None`.
 use Rattle.std.proofs.Common.{◌≡◌, ℕ, ◌<◌, ℤ, pos, ◌+ℤ◌, false, List, Option, Some, None, refl, sym, ap, ◌∙◌, subst}
 use Rattle.yf_chars.specs.declared.context.Ctx.{Ctx}
 use Rattle.yf_chars.specs.declared.context.Ctx.TheVariants.{FlowOut, FlowKey}
@@ -31,7 +31,7 @@ pub record NoSignAt (t : List ℕ) (p : ℕ) : Type 0 where
 abbrev pub Reader : Type 1
 Reader = BlockTask → Option ParsedNode → Type 0
 
--- what is read of a line on which no collection begins
+-- the outcome on a line on which no collection begins
 pub data InlineView (t : List ℕ) (R : Reader) (n : ℤ) (c : Ctx) (a : Ahead) (p : ℕ) (o : Option ParsedNode) : Type 0 where
   view_leaf : Stuck (Properties t (pos 0) FlowKey p) → R (Leaf n a p) o → InlineView t R n c a p o
   view_below : {g k : ℕ} {q : PropertiesValue} {ds : List CommentValue} {z : Ahead} → Chosen (Properties t (pos 0) FlowKey p) g q → Chosen (LineEnd t g) k ds → Joins a q p g z
@@ -124,7 +124,7 @@ module _ {t : List ℕ} {Q : Option ParsedNode → Type 0} (some : Q None → �
     below = λ d w b r f. halts_below f (halts_below_comes d w b r);
   }
 
--- what is ahead of what follows the first properties, or the second
+-- the `Ahead` of the content after the first properties, or after the second
 pub joins_first : {a : Ahead} {q : PropertiesValue} {p g : ℕ} {z : Ahead} → Unheld a → Joins a q p g z → z ≡ Props (held q p g)
 joins_first n (first_held f) = refl
 joins_first n (more_held e c) = absurd (differ n e) where

@@ -22,7 +22,7 @@ use Rattle.yf_grammar.proofs.Ends.NodeExits.{alias_begins, alias_no_plain, plain
 use Rattle.yf_grammar.proofs.BlockOutcomes.OutcomeEnds.{with_plain_is}
 use Rattle.yf_grammar.proofs.FlowStack.AwaitEntries.{found_is}
 
--- what is found later reaches it, and so does what is found there with that meaning
+-- a node that is found later reaches the offset, and so does a node found there with that meaning
 pub reached_by : {o : Option ParsedNode} {k h j : ℕ} {y x : Meaning} → IsFound o k h y → j ≤ k → (k ≡ j → x ≡ y) → Longest o j x
 reached_by {o} {k} {h} {j} {y} {x} f l e = longest_of (record { end = k; height = h; json = false; meaning = y }) (f.is ∙ found_is k h false y)
     (⊎_elim (λ (m : j < k). inl m) (λ (m : k ≤ j). let same : j ≡ k = omega arith in inr (same, e (sym same))) (cases_lt j k))

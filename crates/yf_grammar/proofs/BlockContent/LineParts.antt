@@ -1,5 +1,5 @@
--- The longest part of a line's end, with comment lines, at which all may end: all of it, or, where all may not end after it, all but
--- its last line; a line's end of one line has no such part.
+-- The longest part of a line's end, with comment lines, at which all nodes may end: all of it, or all but its last line
+-- if they may not end after it. A line's end of one line has no shorter part.
 use Rattle.std.proofs.Common.{◌≡◌, ◌≢◌, ℕ, ◌+◌, ◌<◌, ◌≤◌, true, ⊎_elim, List, [], ◌++◌, length, refl, sym, ap, ◌∙◌, subst, arith, true≢false, append-nil}
 use Rattle.std.proofs.lemmas.Bool.{cases_lt, cases_eq}
 use Rattle.std.proofs.lemmas.Bool.Decides.{nat_tests}
@@ -144,11 +144,11 @@ module _ {t : List ℕ} (u : IsUtf8 t) where
     go l (by_end q) m = omega arith
 
 module _ {t : List ℕ} where
-  -- no `:` of an entry is where a comment line is
+  -- a comment line has no `:` of an entry
   row_no_colon : {j k m : ℕ} {x : List CommentValue} → Row t j k x → ColonLine t m j → ⊥
   row_no_colon {k = k} {x = x} r c = (line_still (colon_line c)).none k x r
 
-  -- a line's end where no line begins goes on
+  -- inside a line, before the end of the text, a line's end is not empty
   end_goes_on : {i m : ℕ} {x : List CommentValue} → (LineStart t i → ⊥) → LineEnd t i m x → i < length t → i < m
   end_goes_on n (past_rest r c) l = let a = rest_moves r l in let f = chain_forward row_functional (lines_rows c) in omega arith
   end_goes_on n (from_start s c) l = absurd (n s)

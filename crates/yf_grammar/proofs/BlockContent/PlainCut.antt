@@ -1,5 +1,5 @@
--- The longest part of a plain scalar at whose end all may end: the whole one, or, where all may not end after it, the scalar
--- without its last line, up to where that line begins; a scalar of one line has no such part.
+-- The longest part of a plain scalar at whose end all nodes may end: the whole scalar, or the scalar without its last
+-- line if they may not end after it. A scalar of one line has no shorter part.
 use Rattle.std.proofs.Common.{◌≡◌, ◌≢◌, ℕ, ℤ, ◌+◌, ◌-◌, ◌<◌, ◌≤◌, true, false, ◌⊎◌, inl, inr, ⊎_elim, List, [], ◌∷◌, refl, sym, ap, ◌∙◌, subst, arith, true≢false, encode_utf8_all}
 use Rattle.std.proofs.lemmas.Bool.{cases_lt}
 use Rattle.std.specs.Str.{IsUtf8}
@@ -165,7 +165,7 @@ pub record WithoutLast (t : List ℕ) (n : ℤ) (ws : List ℕ) (i j : ℕ) : Ty
   pub best : Chosen (PlainPart t n ws i) j (noting (scalar PlainStyle (encode_utf8_all text) [] i place) [])
 
 module _ {t : List ℕ} (u : IsUtf8 t) where
-  -- on the last line there is no shorter one
+  -- no shorter scalar ends on the last line
   between : {n : ℤ} {i k h l m : ℕ} {x y z : List ℕ} {ds : List CommentValue} → Plain t n FlowOut i k x → Plain t n FlowOut i h y → Plain t n FlowOut i l z → k < h → h < l
       → LineEnd t h m ds → LastStart t n FlowOut k l → ⊥
   between {l = l} p q r a b d s =
@@ -188,7 +188,7 @@ module _ {t : List ℕ} (u : IsUtf8 t) where
       (first_quiet u d).none j (omega arith) (omega arith) (after_break a.ends)
 
 module _ {t : List ℕ} (u : IsUtf8 t) {n : ℤ} {ws : List ℕ} {i : ℕ} where
-  -- where all may end after the whole scalar
+  -- all nodes may end after the whole scalar
   whole_far : {l j k : ℕ} {y : List ℕ} {ds : List CommentValue} {z : Meaning} → Chosen (Plain t n FlowOut i) l y → Chosen (MayEnd t ws l) j ds → PlainPart t n ws i k z → k ≤ j
   whole_far {l} {k = k} d m (plain_part {l = h} {x = x} {ds = es} q r) =
       let f = d.longest h x q in
@@ -218,7 +218,7 @@ module _ {t : List ℕ} (u : IsUtf8 t) {n : ℤ} {ws : List ℕ} {i : ℕ} where
     only = λ z p. whole_only d m p refl;
   }
 
-  -- where all may end nowhere after the whole scalar, of several lines
+  -- they may end nowhere after the whole scalar, which has several lines
   cut_far : {k l m : ℕ} {x y : List ℕ} {z : Meaning} → Plain t n FlowOut i k x → Chosen (Plain t n FlowOut i) l y → Stuck (MayEnd t ws l) → (s : LastStart t n FlowOut k l)
       → PlainPart t n ws i m z → (m < s.end.line) ⊎ ((m ≡ s.end.line) × (z ≡ noting (scalar PlainStyle (encode_utf8_all x) [] i k) []))
   cut_far {k} {l} {m} {x} p d stuck s (plain_part {l = h} {x = y} {ds = ds} q r) = ⊎_elim
@@ -301,7 +301,7 @@ module _ {t : List ℕ} (u : IsUtf8 t) {n : ℤ} {ws : List ℕ} {i : ℕ} where
         let m = plain_later p in
         absurd (none s.end.line (last_line u s (omega arith)))
 
-  -- where no plain scalar is derived, no part is one
+  -- if no plain scalar is derived, no part is one
   pub no_plain_part : Stuck (Plain t n FlowOut i) → Stuck (PlainPart t n ws i)
   no_plain_part s = record { none = λ j z p. go p } where
     go : {j : ℕ} {z : Meaning} → PlainPart t n ws i j z → ⊥

@@ -59,7 +59,7 @@ module _ {t : List ℕ} where
   any_context c d e f s = in_node f (in_lines c e s)
 
 module _ {t : List ℕ} (u : IsUtf8 t) where
-  -- where the sign of a block scalar is
+  -- at the sign of a block scalar
   bar_facts : {k : ℕ} → is_bar_sign (code t k) ≡ true → (begins_properties (code t k) ≡ false) × (begins_content (code t k) ≡ false) × NoSignAt t k
   bar_facts {k} b = (
     not_true (begins_properties (code t k)) (sign_begins (code t k) b).1,
@@ -144,7 +144,7 @@ module _ {t : List ℕ} (u : IsUtf8 t) where
       (λ cols y' v' r' w'. to_leaf u (halts_reads (λ i. longest_some i refl) ws) c key q v (scalar_visible d) facts.0 facts.2 (bar_no_key bar) (λ h q' m' d'. propertied_bar_no_key key bar (scalar_visible d) v d') v'
       (clear_back x1 z) x4 w' (λ h i r'' l'. longest_moved (i.is x ∙ sym (headed_unheld body v')) (longest_found (scalar_leaf_halts u d allowed l')))) r)
 
--- what is told after properties that are held
+-- the outcome after properties that are held
 told_held : (p : PropertiesValue) (f g : ℕ) (ds : List CommentValue) {j h : ℕ} (x : Meaning) {o : Option ParsedNode} → OutcomeAfter (Props (held p f g)) ds j h (headed (past (Props (held p f g)) ds) x) o
     → IsFound o j h (meaning_after (p.comments ++ ds) (with_props p.props p.tag_offset f g x))
 told_held p f g ds {j} {h} x {o} w =

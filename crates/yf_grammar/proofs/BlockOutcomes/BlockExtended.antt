@@ -61,7 +61,7 @@ by_scalar (a_compact_collection b s d) = by_scalar d
 by_scalar (an_indented_node d) = by_scalar d
 by_scalar (nothing_indented b g) = false
 
--- comments noted after a part are noted after what is made of it
+-- comments noted after a part are noted after anything made of it
 after_noting : (cs ds es : List CommentValue) (x : Meaning) → meaning_after cs (noting x (ds ++ es)) ≡ noting (meaning_after cs (noting x ds)) es
 unfolding meaning_after noting
 after_noting cs ds es x = ap (λ w. record x { comments = w }) (simp append_assoc)
@@ -97,7 +97,7 @@ empty_noting : (n : ℕ) (cs es : List CommentValue) → noting (empty_node n) (
 unfolding noting
 empty_noting n cs es = ap (λ w. record (empty_node n) { comments = w }) (sym (append_assoc (empty_node n).comments cs es))
 
--- so many comment lines more, and no `:` of an entry after them
+-- a number of further comment lines, and no `:` of an entry after them
 pub record MoreLines (t : List ℕ) (j k : ℕ) (es : List CommentValue) : Type 0 where
   pub rows : Chain (Row t) j k es
   pub some : j < k

@@ -1,4 +1,4 @@
--- Comment lines before a node of a document, where it may begin at any column: they belong to it as well, or are before it.
+-- Comment lines before a node of a document, which may begin at any column: they belong to it, or are before it.
 use Rattle.std.proofs.Common.{◌≡◌, ℕ, ℤ, pos, ◌+◌, ◌+ℤ◌, ◌≤◌, false, inl, ⊎_elim, List, [], ◌++◌, length, refl, sym, ap, ◌∙◌, subst, arith, add-zero, append_assoc, append-nil, true≢false}
 use Rattle.yf_chars.specs.declared.context.Ctx.{Ctx}
 use Rattle.yf_chars.specs.declared.context.Ctx.TheVariants.{FlowOut}
@@ -85,7 +85,7 @@ module _ {t : List ℕ} where
   content_stuck : {h k : ℕ} {w : List ℕ} → Many t is_white h k w → Visible t k → Stuck (Row t h)
   content_stuck m v = let s = visible_solid v in row_stuck (stuck_at_solid m s.not_white s.no_comment s.no_end)
 
-  -- where comment lines that are all end, a line begins, if there is content after it
+  -- all comment lines before content end at the start of a line
   last_start : {i g k : ℕ} {es : List CommentValue} → LeadingLines t i g es → g ≤ k → Visible t k → LineStart t g
   last_start {g = g} l o v = ⊎_elim (λ (s : LineStart t g). s) (λ (e : g ≡ length t). absurd (not_at_end g v o e)) (rows_next (inl l.start) l.rows)
 

@@ -1,5 +1,5 @@
--- An explicit entry: its key may be left without a value only where no `:` of the entry is on the next line, so that a
--- longer key does not always make a longer entry.
+-- An explicit entry: its key may have no value only if no `:` of the entry is on the next line, so a longer key does
+-- not always make a longer entry.
 use Rattle.std.proofs.Common.{◌≡◌, ℕ, max, ◌+◌, pos, true, false, List, ◌∷◌, Option, Some, None, refl, sym, subst, arith}
 use Rattle.yf_chars.specs.declared.context.Ctx.TheVariants.{BlockOut}
 use Rattle.yf_grammar.specs.Productions.Grammar.{ColonLine}

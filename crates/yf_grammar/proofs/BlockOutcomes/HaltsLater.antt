@@ -1,5 +1,5 @@
--- What the reader of block nodes finds, whole or not, ends after the place of its task: where a character is there, past
--- that character.
+-- Each outcome of the reader of block nodes, whole or not, ends after the offset of its task: if a character is at that
+-- offset, after that character.
 use Rattle.std.proofs.Common.{◌≡◌, ℕ, ◌+◌, ◌<◌, ◌≤◌, ℤ, true, false, List, Option, Some, refl, arith}
 use Rattle.yf_chars.specs.declared.context.Ctx.TheVariants.{FlowOut}
 use Rattle.yf_chars.proofs.Tests.{none_some}

@@ -56,7 +56,7 @@ module _ {t : List ℕ} where
       let same : k ≡ j = omega arith in
       (same, c.only w (subst (λ z. Body t n h i z w) same b))
 
-  -- so many lines from a place end at one place
+  -- a number of lines from one offset has one end
   no_lines : {j k : ℕ} {ls : List Line} → Chain (OneLine t) j k ls → length ls ≡ 0 → k ≡ j
   no_lines done e = refl
   no_lines (step {x = x} {y = y} s c) e =

@@ -1,4 +1,4 @@
--- What is made of an outcome: of what is found exactly, and of what ends at a place or later.
+-- Outcomes made of an exact outcome, and of one that ends at an offset or later.
 use Rattle.std.proofs.Common.{◌≡◌, ℕ, suc, max, ◌<◌, Bool, false, inl, inr, ⊎_elim, List, Option, Some, None, refl, ap, ◌∙◌, subst}
 use Rattle.yf_comments.specs.Comment.{CommentValue}
 use Rattle.yf_grammar.specs.Productions.Meaning.{Meaning, ◌⊕◌, meaning_after, empty_node, collection, entering}
@@ -12,7 +12,7 @@ use Rattle.yf_grammar.proofs.BlockOutcomes.BlockHalts.{then_is}
 use Rattle.yf_grammar.proofs.BlockOutcomes.BlockItems.{exact_end, exact_height, exact_meaning, longest_of}
 use Rattle.yf_grammar.proofs.FlowStack.AwaitEntries.{found_is}
 
--- one outcome is made of another, which ends where that does
+-- an outcome made of another one, with its end
 pub record Makes (made : ParsedNode → Option ParsedNode) (put : Meaning → Meaning) (deep : ℕ → ℕ) : Type 0 where
   pub is : (f : ParsedNode) → made f ≡ found f.end (deep f.height) false (put f.meaning)
 

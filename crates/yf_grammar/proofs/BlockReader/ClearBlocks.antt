@@ -106,7 +106,7 @@ module _ {t : List ℕ} (u : IsUtf8 t) where
   pub scalar_clear : {n : ℤ} {i j : ℕ} {x : Meaning} → BlockScalar t n i j x → Clear t i j
   scalar_clear (block_scalar h b l) = clear_join (header_clear h) (body_clear b)
 
--- where a task begins
+-- the offset of a task
 abbrev pub place : BlockTask → ℕ
 place (Awaited b n c a i) = i
 place (Below n c a i) = i

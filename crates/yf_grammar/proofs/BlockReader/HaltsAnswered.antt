@@ -80,7 +80,7 @@ module _ {t : List ℕ} (u : IsUtf8 t) (ws : List ℕ) where
   alone_any : (a : Ahead) (i : ℕ) → Irrefutable ((o : Option ParsedNode) × Alone t ws a i o)
   alone_any a i = takes (may_end_reached i) (λ k ds m. sure (_, alone_to m)) (λ s. sure (None, alone_nowhere s))
 
--- each task, where tasks of less weight have outcomes
+-- each task has an outcome, if tasks of less weight do
 module _ {t : List ℕ} (u : IsUtf8 t) (v : ℕ) (known : (e : ℕ) (ws : List ℕ) (task : BlockTask) → Fit task → weight t task < v → Irrefutable (Answer t e ws task)) where
   awaited_answer : (e i : ℕ) (ws : List ℕ) (b : Bool) (n : ℤ) (c : Ctx) (a : Ahead) → Column b n → weight t (Awaited b n c a i) ≤ v → Irrefutable (Answer t e ws (Awaited b n c a i))
   awaited_answer e i ws b n c a col w = takes (line_end_reached u i)

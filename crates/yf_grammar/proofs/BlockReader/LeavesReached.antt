@@ -1,5 +1,5 @@
--- From each place each leaf production has a longest part with one meaning, or none at all: that cannot be refuted. What is derived
--- ends within the text, or where it begins.
+-- From each offset, each leaf production has a longest part with one meaning, or no part: that cannot be refuted. A
+-- derived part ends within the text, or at its start.
 use Rattle.std.proofs.Common.{◌≡◌, ℕ, ℤ, ◌+◌, ◌≤◌, ⊎_elim, Bool, true, false, List, [], ◌++◌, length, refl, sym, ap, ◌∙◌, arith, true≢false, append-nil}
 use Rattle.std.proofs.lemmas.Bool.{cases_Bool}
 use Rattle.std.specs.Str.{IsUtf8}

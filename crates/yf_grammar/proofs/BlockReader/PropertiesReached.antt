@@ -1,4 +1,5 @@
--- From each place properties, quoted scalars and block scalars have a longest part with one meaning, or none at all: that cannot be refuted.
+-- At each offset, properties, quoted and block scalars have a longest part with one meaning, or none: that cannot be
+-- refuted.
 use Rattle.std.proofs.Common.{◌≡◌, ◌≢◌, ℕ, ℤ, ◌+◌, ◌<◌, ⊎_elim, inl, inr, false, List, [], ◌++◌, length, sym, ap, ◌∙◌, subst, arith, append_assoc}
 use Rattle.std.proofs.lemmas.Bool.{cases_eq}
 use Rattle.std.specs.Str.{IsUtf8}

@@ -1,4 +1,4 @@
--- From what the reader of block nodes has taken back to what the grammar derives: separations, properties and collections.
+-- Separations, properties and collections that the reader of block nodes took are derived by the grammar.
 use Rattle.std.proofs.Common.{◌≡◌, ℕ, suc, ◌+◌, ◌<◌, ◌≤◌, ℤ, pos, ◌+ℤ◌, ◌≤ℤ◌, Bool, true, false, ⊎_elim, List, [], ◌++◌, Option, Some, None, length, refl, sym, ap, ◌∙◌, subst, arith, append-nil}
 use Rattle.std.proofs.lemmas.Int.{ints}
 use Rattle.std.proofs.lemmas.Option.{same_Some}
@@ -35,12 +35,12 @@ use Rattle.yf_grammar.proofs.BlockOutcomes.BlockNodes.{column_some}
 use Rattle.yf_grammar.proofs.BlockContent.PropertiedNodes.{any_context}
 use Rattle.yf_grammar.proofs.BlockContent.PropertiesLines.{held}
 
--- the indentation of what is in a node, which is none where n is less than -1
+-- n + 1, the indentation of a node's content, as a natural number; there is none if n is less than -1
 pub record Width (n : ℤ) : Type 0 where
   pub width : ℕ
   pub is : n +ℤ pos 1 ≡ pos width
 
--- the parts of what is found
+-- the parts of an outcome
 pub record Parts (f : ParsedNode) (j h : ℕ) (x : Meaning) : Type 0 where
   pub end : f.end ≡ j
   pub height : f.height ≡ h
@@ -90,7 +90,7 @@ module _ {t : List ℕ} where
       let f = first_line e w y in subst (λ v. Separate t (n +ℤ pos 1) d i p v) (sym f.0) (in_node key (in_line f.1))
   begun d key wide s e w l (line_dashed y q z) = absurd (s.no_dash (column_some l.sequence q z) y)
 
-  -- what is no collection is separated
+  -- content that is no collection is separated
   pub sits_apart : {b : Bool} {n : ℤ} {c : Ctx} {i p : ℕ} {cols : Columns} {cs : List CommentValue} (d : Ctx) → is_key d ≡ false → Width n → NoSign t cols p → Sits t b n c i p cols cs
       → Separate t (n +ℤ pos 1) d i p cs
   sits_apart d key wide s (sits_on_line m l y) = in_node key (in_line (by_whites m l))
@@ -150,7 +150,7 @@ module _ {t : List ℕ} {n : ℤ} {c : Ctx} where
   join_props {f} {g} {p = p} {q = q} {ds = ds} (anchor_first {tag = x} v r z) s (tag_first {tag = y} w s' u) a = absurd (a (clash_tags (held p f g) q x y ds refl refl))
   join_props {f} {g} {p = p} {q = q} {ds = ds} (anchor_first {tag = x} v r z) s (anchor_first {tag = y} w s' u) a = absurd (a (clash_tags (held p f g) q x y ds refl refl))
 
--- what is there: a node, or a compact collection
+-- the node or the compact collection there
 pub data InlineAhead (t : List ℕ) (b : Bool) (n : ℤ) (c : Ctx) (i h j : ℕ) (cs : List CommentValue) (y : Meaning) : Type 0 where
   is_at_as_node : Derives t h (BlockNode n c) i j (meaning_after cs y) → InlineAhead t b n c i h j cs y
   is_at_compact : {m : ℕ} → n ≡ pos m → b ≡ true → cs ≡ [] → Derives t h (BlockIndented m c) i j y → InlineAhead t b n c i h j cs y

@@ -1,4 +1,5 @@
--- What a line is to an open block collection: its next entry, a line that breaks it, or one before which it ends; and a line that ends several.
+-- A line after an entry of an open block collection: it begins the next entry, breaks the collection, or ends one or
+-- several.
 use Rattle.std.proofs.Common.{◌≡◌, ℕ, suc, ◌+◌, ◌<◌, ◌≤◌, Bool, true, false, List, [], ◌∷◌, ◌++◌, length, Option, refl, sym, ap, ◌∙◌, subst, arith, true≢false}
 use Rattle.yf_grammar.specs.Productions.Grammar.{ColonLine}
 use Rattle.yf_grammar.specs.FlowReader.Parser.{ParsedNode}
@@ -8,7 +9,7 @@ use Rattle.yf_grammar.specs.BlockReader.BlockStates.{NodeRead, EndsHere, AllEnd,
 use Rattle.yf_grammar.proofs.BlockOutcomes.BlockClaims.{line_unique, colon_line}
 use Rattle.yf_grammar.proofs.BlockStack.BlockResume.{entry_was_read, collection_ends}
 
--- where no line is, or one that is less deep, or one without the `-` of an item
+-- a collection ends before no line, a line that is less deep, or a line without the `-` of an item
 next_line : {t : List ℕ} {s : Bool} {m k : ℕ} → NextEntry t s m k → (p : ℕ) × LineText t k m p
 next_line (next_item {p = p} w d) = (p, w)
 next_line (next_pair {p = p} w) = (p, w)

@@ -1,4 +1,5 @@
--- The comments of what is derived are in the order of the text, each within what derives it, and each is its sign with the characters after it.
+-- The comments of a derived part are in text order, each within its production's span, and each is its sign with the
+-- characters after it.
 use Rattle.std.proofs.Common.{◌≡◌, ℕ, ℤ, ◌+◌, ◌≤◌, Bool, true, false, List, [], ◌∷◌, ◌++◌, Option, slice_range, refl, ⊎_elim, arith}
 use Rattle.std.proofs.lemmas.Bool.{cases_Bool}
 use Rattle.yf_chars.specs.declared.context.Ctx.{Ctx}

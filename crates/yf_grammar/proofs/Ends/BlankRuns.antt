@@ -136,8 +136,8 @@ module _ {t : List ℕ} where
   blanks_of_fold (at_break d p) = blanks_join (blanks_of_folded d) (blanks_of_prefix p)
   blanks_of_fold (past_whites s d p) = blanks_join (blanks_of_line s) (blanks_join (blanks_of_folded d) (blanks_of_prefix p))
 
--- what a separation begins with: it is blank throughout, or a comment is after the first blanks, and where there are
--- none a line begins
+-- the start of a separation: it is blank throughout, or a comment follows the first blanks; if there are no blanks, a
+-- line begins at the comment
 pub data Front (t : List ℕ) (i j : ℕ) : Type 0 where
   all_blank : Blanks t i j → Front t i j
   hash_at : (h : ℕ) → Blanks t i h → code t h ≡ 35 → (i ≡ h → LineStart t i) → Front t i j

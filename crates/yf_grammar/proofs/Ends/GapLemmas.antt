@@ -1,4 +1,4 @@
--- The longest separation from a place, where what is after a separation is known.
+-- The longest separation from an offset, if the text after a separation is known.
 use Rattle.std.proofs.Common.{◌≡◌, ◌≢◌, ℕ, ℤ, ◌<◌, ◌≤◌, true, false, ◌⊎◌, inl, ⊎_elim, List, [], ◌++◌, length, refl, sym, ap, ◌∙◌, subst, arith, true≢false, append-nil}
 use Rattle.std.proofs.lemmas.Bool.{cases_lt}
 use Rattle.std.specs.Str.{IsUtf8}
@@ -101,7 +101,7 @@ module _ {t : List ℕ} where
   started_lines v (in_line s) = started_line v s
   started_lines v (over_lines d p) = started_end v d
 
-  -- and there is one at the start of a line alone
+  -- a separation at a visible character is at the start of a line
   pub separate_started : {n : ℤ} {c : Ctx} {k m : ℕ} {x : List CommentValue} → Visible t k → Separate t n c k m x → LineStart t k
   separate_started v (in_key e s) = started_line v s
   separate_started v (in_node e s) = started_lines v s
@@ -110,7 +110,7 @@ module _ {t : List ℕ} where
   no_separate_after u b v = record { none = λ j x s. no_start_past u b (separate_started v s) }
 
 module _ {t : List ℕ} {n : ℤ} {c : Ctx} where
-  -- what separates, and what follows is visible: the reader's gap is the same
+  -- a separation before a visible character is the reader's gap
   pub gap_is : {k l m : ℕ} {cs ds : List CommentValue} → Visible t l → MaySeparate t n c k l cs → Gap t n c k m ds → (m ≡ l) × (ds ≡ cs)
   gap_is v unseparated (no_gap s) = (refl, refl)
   gap_is v unseparated (longest_gap d) = separate_still v d.derived

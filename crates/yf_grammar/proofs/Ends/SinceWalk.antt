@@ -17,7 +17,8 @@ use Rattle.yf_grammar.specs.Productions.ReadParts.NotedSince.{noted, not_noted}
 use Rattle.yf_grammar.proofs.Ends.SinceKnown.{since_before}
 use Rattle.yf_chars.proofs.CharFacts.{feed_no_white}
 
--- what is left to find from a place on: a blank line, or what begins a line of which white space and a break are after
+-- the rest of the walk back from an offset: a blank line, or the start of a line of which white space and a break
+-- follow
 abbrev pub EndsSince : List ℕ → ℕ → ℕ → Bool → Type 0
 EndsSince t floor j true = Blank t j ⊎ BlankSince t floor j
 EndsSince t floor j false = BlankSince t floor j
@@ -94,7 +95,7 @@ module _ (t : List ℕ) (u : IsUtf8 t) (floor : ℕ) where
         let same = same_place t i h u (omega (arith, white_below (code t i) v)) (omega arith) (f ∙ sym (next_ascii t h (omega arith))) in
         white_not _ 13 white_cr v (ap (code t) same ∙ c)
 
-  -- a break that ends after a place up to which a line is blank does not begin before it
+  -- a break that ends after an offset up to which a line is blank does not begin before it
   break_within : {h j : ℕ} → Blank t floor → floor < j → Break t h j → floor ≤ h
   break_within c l (cr_lf {i = h} p q) = ⊎_elim
       (λ (b : h < floor). let e : floor ≡ h + 1 = omega arith in absurd (no_blank_within h p q (subst (λ k. Blank t k) e c)))

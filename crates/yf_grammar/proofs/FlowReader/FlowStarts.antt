@@ -40,7 +40,7 @@ use Rattle.yf_props.proofs.NameOrder.{properties_forward}
 unfoldable pub is_end : ℕ → Bool
 is_end c = (c == 44) || (c == 93) || (c == 125)
 
--- what begins a node that is no plain scalar
+-- the first characters of nodes that are no plain scalars
 unfoldable pub is_mark : ℕ → Bool
 is_mark c = begins_alias c || begins_properties c || begins_content c
 

@@ -1,4 +1,4 @@
--- A node before what ends it is found exactly as it is derived.
+-- The reader finds a node before the text that ends it exactly as it is derived.
 use Rattle.std.proofs.Common.{◌≡◌, ◌≢◌, ℕ, ℤ, ◌+◌, Bool, true, false, ⊎_elim, List, [], ◌++◌, Option, refl, sym, ap, ◌∙◌, subst, arith, true≢false, encode_utf8_all}
 use Rattle.std.proofs.lemmas.Bool.{cases_eq}
 use Rattle.std.proofs.lemmas.Bool.Decides.{nat_tests}
@@ -125,7 +125,7 @@ plain_is x i j = refl
 plain_same : (i : ℕ) {j k : ℕ} {x y : List ℕ} → (k ≡ j) × (y ≡ x) → plain_found y i k ≡ found j 0 false (scalar PlainStyle (encode_utf8_all x) [] i j)
 plain_same i {j} {k} {x} {y} s = ap (λ w. plain_found y i w) s.0 ∙ ap (λ w. plain_found w i j) s.1 ∙ plain_is x i j
 
--- the same, where it is known how long the plain scalar goes
+-- likewise, if the end of the plain scalar is known
 module _ {t : List ℕ} (u : IsUtf8 t) {n : ℤ} {c : Ctx} where
   plain_first_of : {i j : ℕ} {x : List ℕ} → PlainText t n c i j x → is_bar (code t i) ≡ false
   plain_first_of {i} p = first_no_bar t c i (plain_leaps p).0

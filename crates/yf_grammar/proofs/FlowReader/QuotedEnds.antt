@@ -1,4 +1,4 @@
--- Quoted scalars: where one ends, what it is in another context, and that one of a key is on one line.
+-- Quoted scalars: their ends, their meanings in other contexts, and that one of a key is on one line.
 use Rattle.std.proofs.Common.{◌≡◌, ℕ, ℤ, ◌+◌, ◌<◌, ◌≤◌, true, false, inl, inr, List, Option, sym, ap, ◌∙◌, subst, arith}
 use Rattle.std.specs.Str.{IsUtf8}
 use Rattle.yf_chars.specs.declared.context.Ctx.{Ctx}

@@ -1,4 +1,4 @@
--- The recursive reader is sound: what it finds is derived, within the limit.
+-- The recursive reader is sound: each outcome is derived, within the limit.
 use Rattle.std.proofs.Common.{◌≡◌, ℕ, suc, max, ◌+◌, ◌≤◌, ℤ, Bool, true, false, List, [], ◌++◌, Option, Some, None, refl, sym, ap, ◌∙◌, subst, arith}
 use Rattle.yf_chars.specs.declared.context.Ctx.{Ctx}
 use Rattle.yf_chars.specs.Text.{code}
@@ -20,7 +20,7 @@ pub record Made (t : List ℕ) (e : ℕ) (p : Production) (i : ℕ) (f : ParsedN
   pub derived : Derives t f.height p i f.end f.meaning
   pub within : f.height ≤ e
 
--- entries up to the closing bracket: none, or some, up to where their meaning ends
+-- entries up to the closing bracket: none, or some, up to the end of their meaning
 pub data Closed (t : List ℕ) (e : ℕ) (sequence : Bool) (n : ℤ) (c : Ctx) (i : ℕ) (f : ParsedNode) : Type 0 where
   closed_at_once : f.end ≡ i → f.height ≡ 0 → f.meaning ≡ only [] i → code t i ≡ closing sequence → Closed t e sequence n c i f
   closed_after : (x : Meaning) → Derives t f.height (Grammar.Entries sequence n c) i f.end x → f.height ≤ e → Same x f.meaning
@@ -56,7 +56,7 @@ closed_within : {t : List ℕ} {e i : ℕ} {n : ℤ} {c : Ctx} {f : ParsedNode} 
 closed_within sequence (closed_at_once s h m q) = omega arith
 closed_within sequence (closed_after x d w s q) = w
 
--- an entry, a comma and what is after it
+-- an entry, a comma and the text after it
 joined_closed : {t : List ℕ} {e i k m : ℕ} {sequence : Bool} {n : ℤ} {c : Ctx} {cs ds : List CommentValue} {f g : ParsedNode} → Made t e (Grammar.Entry sequence n c) i f
     → Gap t n c f.end k cs → code t k ≡ 44 → Gap t n c (k + 1) m ds → Closed t e sequence n c m g
     → Closed t e sequence n c i (record { end = g.end; height = max f.height g.height; json = true; meaning = noting f.meaning (cs ++ ds) ⊕ g.meaning })

@@ -1,5 +1,6 @@
--- The nodes of a tree are in a text in order: each begins at a visible character and ends after it, what is in it is between its content's
--- beginning and its end, an entry begins before its node, its `:` is between key and value, and no value begins an entry.
+-- The nodes of a tree are in a text in order: each begins at a visible character and ends after it, its inner nodes are
+-- between the start and the end of its content, an entry begins before its node, its `:` is between key and value, and
+-- no value begins an entry.
 use Rattle.std.proofs.Common.{◌≡◌, ◌≢◌, ℕ, ℤ, ◌<◌, ◌≤◌, Bool, true, List, [], length, Option, Some, None, arith}
 use Rattle.yf_chars.specs.Text.{code}
 use Rattle.yf_chars.specs.declared.context.Ctx.{Ctx}
@@ -46,7 +47,8 @@ pub data ContentFrom (t : List ℕ) : PropsValue → ℕ → ℕ → Type 0 wher
   content_after : {n : ℤ} {c : Ctx} {a g k : ℕ} {p : PropertiesValue} {cs : List CommentValue} → Properties t n c a g p → Separate t n c g k cs
       → begins_content (code t k) ≡ true → ContentFrom t p.props a k
 
--- a collection begins at a, its entries are from k on, and it ends at b, after k; where it is a flow collection, k is where its content begins
+-- a collection begins at a, its entries are from k on, and it ends at b, after k; the content of a flow collection
+-- begins at k
 pub record Opens (t : List ℕ) (flow : Bool) (props : PropsValue) (i a k b : ℕ) : Type 0 where
   pub order : i ≤ a
   pub visible : Visible t a

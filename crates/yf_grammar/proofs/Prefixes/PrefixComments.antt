@@ -54,7 +54,7 @@ nb_no_feed c l e = ⊎_elim
     l
 
 module _ {t s : List ℕ} {k : ℕ} (a : Alike t s k) where
-  -- what is before the place is the end of a break
+  -- the character before the offset ends a break
   pub last_of_break : before t k ≡ code t (k - 1)
   last_of_break =
       let f = a.later in

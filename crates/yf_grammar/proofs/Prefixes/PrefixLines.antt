@@ -154,7 +154,7 @@ module _ {t s : List ℕ} {k : ℕ} (a : Alike t s k) where
   pub fold_carried : (n : ℤ) → Carried k (FlowFolded t n) (FlowFolded s n)
   fold_carried n = record { order = λ i j x d. flow_folded_order d; there = λ i j x d l. flow_folded_there d l }
 
-  -- three of a character that ends no line, and what is after them
+  -- three copies of a character that ends no line, and the text after them
   three_there : (c i : ℕ) → c ≢ 10 → c ≢ 13 → i < k → is_three t i c ≡ true → (is_three s i c ≡ true) × (i + 3 < k)
   unfolding is_three
   three_there c i m n l e =

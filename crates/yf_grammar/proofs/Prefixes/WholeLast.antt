@@ -1,4 +1,4 @@
--- What the reader of whole nodes finds ends at its last halt, and a node that is found has a character.
+-- Each outcome of the reader of whole nodes ends at its last halt, and a node that is found has a character.
 use Rattle.std.proofs.Common.{◌≡◌, ℕ, ◌<◌, ℤ, true, false, ⊎_elim, List, [], Option, Some, None, refl, arith}
 use Rattle.std.specs.Str.{IsUtf8}
 use Rattle.yf_chars.specs.declared.context.Ctx.{Ctx}
@@ -13,7 +13,7 @@ use Rattle.yf_grammar.proofs.BlockOutcomes.BlockStatements.{longest_part, no_par
 use Rattle.yf_grammar.proofs.Documents.DerivedNodes.{whole_is_node, halt_is_node}
 use Rattle.yf_grammar.proofs.BlockReader.SoundSteps.{Width}
 
--- the last halt is at the end of what was found
+-- the last halt is at the end of the outcome
 pub record EndsLast (g : ParsedNode) (h : Option ParsedNode) : Type 0 where
   pub last : ParsedNode
   pub is : h ≡ Some last

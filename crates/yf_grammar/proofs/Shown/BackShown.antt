@@ -1,4 +1,4 @@
--- Flow collections by hand: their texts, and that they are derived wherever they are.
+-- Flow collections by hand: their texts, and that they are derived at each offset.
 use Rattle.std.proofs.Common.{◌+◌, true, false, [], Some, None, codes, refl}
 use lib.Utf8.{encode}
 use Rattle.yf_chars.specs.declared.context.Ctx.TheVariants.{FlowOut, FlowIn}

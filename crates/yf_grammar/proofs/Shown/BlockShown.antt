@@ -112,7 +112,7 @@ dash_comment_read =
     (below_node (text_start dash_comment_line) dash_comment_line (line_first refl) root_columns
     (sequence_read refl dash_comment_dash (items_last (item_read dash_comment_dash (awaited_below dash_comment_end (below_alone dash_comment_end (no_node (text_ends refl))))) (no_entry (text_ends refl)))))
 
--- a `?` alone: its value is empty
+-- only a `?`: its value is empty
 abbrev question : List ℕ
 question = codes "?"
 

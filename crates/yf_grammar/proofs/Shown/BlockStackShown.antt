@@ -72,7 +72,7 @@ dashes_on_line = node_on_line
 dashes_begun : EntryAt dashes 1 root collection_layer [] 0 (First (negsuc 0)) 0 None
 dashes_begun = sequence_begins dashes_on_line refl dashes_first
 
--- an empty item up to the second line, where the node may end
+-- an empty item up to the second line, at which the node may end
 abbrev empty_to : ℕ → ℕ → ParsedNode
 empty_to j i = record { end = j; height = 0; json = false; meaning = empty_node i }
 

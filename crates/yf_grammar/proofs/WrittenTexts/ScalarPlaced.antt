@@ -16,7 +16,7 @@ use Rattle.yf_grammar.specs.Productions.BlockScalar.BlockScalar.{block_scalar}
 use Rattle.yf_grammar.specs.Productions.BlockScalar.LinesBetween.{counted}
 use Rattle.yf_grammar.specs.Productions.Meaning.{Meaning, from_to}
 
--- the event of a scalar with that header, those lines and so many line feeds after them, from one offset to another
+-- the event of a scalar with a header, lines and a number of line feeds after them, from one offset to another
 abbrev pub scalar_event : Header → List (List ℕ) → ℕ → ℕ → ℕ → EventInText
 scalar_event h ls count i j = record {
   event = scalar_node no_props (style_of h.folded) (content_of h ls count false);

@@ -1,5 +1,5 @@
--- What a production means: its events with their places, its comments, and the offsets of its escapes that are no
--- character, each in order of the text, and where its last node with characters or its last indicator ends.
+-- The meaning of a production: its events with their offsets, its comments, and the offsets of its escapes that are no
+-- character, each in text order, and the end of its last node with characters or its last indicator.
 use Rattle.std.specs.Prelude.{ℕ, Bool, true, false, List, [], ◌∷◌, ◌++◌, Option, Some, None}
 use Rattle.yf_comments.specs.Comment.{CommentValue}
 use Rattle.yf_props.specs.Props.{PropsValue, no_props}
@@ -80,7 +80,7 @@ abbrev pub span_since : ℕ → ℕ → Option Span → Option Span
 span_since i j (Some span) = from_to i span.end
 span_since i j None = from_to i j
 
--- i and j: where the properties begin and end; tag: where the tag begins
+-- the properties are from i to j, and the tag begins at `tag`
 abbrev pub first_with : PropsValue → Option ℕ → ℕ → ℕ → List EventInText → List EventInText
 first_with props tag i j [] = []
 first_with props tag i j (e ∷ es) =

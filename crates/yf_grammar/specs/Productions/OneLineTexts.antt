@@ -1,5 +1,5 @@
--- Texts of nodes that are written on one line: wherever such a text is, and whatever follows that may follow, its production
--- derives it with the meaning that it has from that offset on.
+-- Texts of nodes that are written on one line: at each offset, and before any text that may follow, the production
+-- derives such a text with its meaning from that offset on.
 use Rattle.std.specs.Prelude.{ℕ, ◌+◌, ℤ, Bool, true, false, List, ◌++◌, length}
 use Rattle.std.specs.Str.{IsUtf8}
 use Rattle.yf_chars.specs.declared.context.Ctx.{Ctx}

@@ -7,13 +7,13 @@ use Rattle.yf_events.specs.declared.event.ScalarStyle.TheVariants.{Plain}
 use Rattle.yf_grammar.specs.Productions.Grammar.{Production, Derives}
 use Rattle.yf_grammar.specs.Productions.Meaning.{Meaning}
 
--- of a collection, its properties alone
+-- for a collection, only its properties
 abbrev pub as_leaf : EventValue → EventValue
 as_leaf (sequence_starts flow props) = scalar_node props Plain []
 as_leaf (mapping_starts flow props) = scalar_node props Plain []
 as_leaf e = e
 
--- the grammar derives a node of some text that has this event alone, wherever it is there
+-- the grammar derives a node of some text whose only event is this one, at some offsets
 pub record IsSpelled (e : EventValue) (lines : List (List ℕ)) : Type 0 where
   pub text : List ℕ
   pub utf8 : IsUtf8 text
