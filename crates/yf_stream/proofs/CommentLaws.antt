@@ -18,7 +18,8 @@ pub record IsCommentAt (t : List ℕ) (c : CommentValue) : Type 0 where
   pub chain : Many t is_nb_char (c.offset + 1) end characters
   pub text : c.text ≡ slice_range t c.offset end
 
--- Each comment of a reading is a comment of the text: it begins with #, holds no line break, and is what is there.
+-- Each comment of a reading is a comment of the text: it begins with #, has no line break, and is the text at its
+-- offset.
 abbrev pub CommentsOfReadingsAreTexts : Type 0
 CommentsOfReadingsAreTexts = (t : List ℕ) (r : Lists) → ReadingOf t r → All (IsCommentAt t) r.comments
 

@@ -18,7 +18,7 @@ pub mod Offsets
 pub mod TagPass
 -- the comments that are on the lines of leaves
 pub mod LeafPass
--- what `read_stream` is to answer (`StreamReader`): a stream step by step, from directives to the last document
+-- the contract of `read_stream` (`StreamReader`): a stream step by step, from directives to the last document
 pub mod Reader
 -- the notes on blank lines in a stream that is read step by step
 pub mod BlankNotes

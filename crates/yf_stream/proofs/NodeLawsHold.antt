@@ -1,4 +1,4 @@
--- The laws of where the nodes of a reading are hold.
+-- The laws of the offsets of a reading's nodes hold.
 use Rattle.std.proofs.Common.{◌≡◌, ℕ, List, flat_map, Some, refl, sym, subst}
 use Rattle.yf_events.specs.Event.{document_starts, document_ends, stream_starts, stream_ends}
 use Rattle.yf_events.proofs.TreeLemmas.{trees_unique}

@@ -1,4 +1,4 @@
--- Laws of where the parts of a reading are, each with the plain sentence that it says. `proofs/PlaceLawsHold.antt` proves them.
+-- Laws of the offsets of a reading's parts, each under a plain sentence. `proofs/PlaceLawsHold.antt` proves them.
 use Rattle.std.specs.Prelude.{◌≡◌, ℕ, ◌<◌, List, length, slice_index_or}
 use Rattle.yf_chars.specs.Text.{code}
 use Rattle.yf_comments.specs.Comment.{CommentValue}

@@ -1,4 +1,4 @@
--- A run of events that have nothing that is to be noted.
+-- A run of events that name nothing.
 use Rattle.std.specs.Prelude.{ℕ, List, Option}
 use Rattle.yf_props.specs.Handles.{Declaration}
 use Rattle.yf_events.specs.Event.{EventInText}

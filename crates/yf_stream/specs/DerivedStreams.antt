@@ -1,4 +1,5 @@
--- What the reader of all documents answers: the one shape of the text with its parts, or that it has none; and what the lists are that are made of them.
+-- The results of the reader of all documents: the text's one shape with its parts, or that it has none; and the lists
+-- that are made of them.
 use Rattle.std.specs.Prelude.{ℕ, ◌<◌, List, Option, Result, MatchOption, MatchResult}
 use Rattle.std.specs.Str.{IsCharBoundary}
 use Rattle.yf_events.specs.declared.lists.Lists.{Lists}

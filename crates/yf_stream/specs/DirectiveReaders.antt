@@ -1,4 +1,5 @@
--- What the readers of directives answer: parameters as long as they go, and directives with all comment lines after them.
+-- The results of the readers of directives: the longest run of parameters, and directives with all comment lines after
+-- them.
 use Rattle.std.specs.Prelude.{◌≡◌, ◌≢◌, ℕ, ◌+◌, List, [], ◌∷◌, ◌++◌, slice_range}
 use Rattle.yf_chars.specs.Text.{code}
 use Rattle.yf_chars.specs.Class.{is_ns_char}
@@ -50,7 +51,7 @@ pub record DirectivesRead (t : List ℕ) (i j : ℕ) (ds : List Directive) (a b 
   pub upto : DirectivesUpto t i j ds a b
   pub last : code t j ≢ 37
 
--- directives from a place on end at a % with which none begins
+-- directives from an offset on end at a % that begins no directive
 pub record DirectivesEnd (t : List ℕ) (i p : ℕ) : Type 0 where
   pub before : Directives
   pub longest : LongestDirectives t i p before.directives before.comments

@@ -1,5 +1,5 @@
--- What the readers of a stream answer of what is between its documents: the marker of a line, the lines before a document, and the
--- line of a `...`.
+-- The results of a stream's readers for the text between its documents: the marker of a line, the lines before a
+-- document, and the line of a `...`.
 use Rattle.std.specs.Prelude.{◌≡◌, ◌≢◌, ℕ, ◌+◌, ◌-◌, ◌<◌, Bool, true, false, not, List, [], ◌∷◌, ◌++◌, Option, Some, None}
 use Rattle.yf_chars.specs.Text.{code, next}
 use Rattle.yf_chars.specs.Chain.{Chain, Chosen, Stuck}
@@ -23,7 +23,7 @@ IsMarker t i None = ForbiddenLine t i → ⊥
 IsMarker t i (Some DocumentStart) = ForbiddenLine t i × (code t i ≡ 45)
 IsMarker t i (Some DocumentEnd) = ForbiddenLine t i × (code t i ≡ 46)
 
--- a byte order mark, or what is left of a line
+-- a byte order mark, or the rest of a line
 pub data PrefixRow (t : List ℕ) : ℕ → ℕ → List CommentValue → Type 0 where
   mark_row : {i : ℕ} → code t i ≡ 0xFEFF → PrefixRow t i (next t i) []
   line_row : {i j : ℕ} {cs : List CommentValue} → Row t i j cs → PrefixRow t i j cs
@@ -32,7 +32,7 @@ pub data PrefixRow (t : List ℕ) : ℕ → ℕ → List CommentValue → Type 0
 pub record FloorNote (t : List ℕ) (floor at : ℕ) (b : Bool) : Type 0 where
   pub since : (code t at ≡ 10 → code t (at - 1) ≢ 13) → (floor < at → Blank t floor) → NotedSince t floor at b
 
--- the same comments, but for their notes of blank lines
+-- comments that differ only in their notes of blank lines
 pub data SameButNotes (t : List ℕ) (floor : ℕ) : List CommentValue → List CommentValue → Type 0 where
   none_renoted : SameButNotes t floor [] []
   one_renoted : {c : CommentValue} {cs ns : List CommentValue} (b : Bool) → FloorNote t floor c.offset b → SameButNotes t floor cs ns
@@ -56,7 +56,7 @@ pub record PrefixRead (t : List ℕ) (floor i j : ℕ) (a b : List CommentValue)
   pub no_mark : code t j ≢ 0xFEFF
   pub no_row : Stuck (Row t j)
 
--- what has been read, with one more event that stands for no text
+-- the parts with one more event, which has no span
 abbrev pub with_event : Parts → EventValue → Parts
 with_event p e = record p { part = record p.part { events = p.part.events ++ unplaced e ∷ [] } }
 

@@ -1,4 +1,4 @@
--- Which comments are on the lines of leaves, where events and comments are in the order of the text.
+-- Which comments are on the lines of leaves, if events and comments are in text order.
 use Rattle.std.specs.Prelude.{◌≡◌, ℕ, ◌+◌, ◌<◌, ◌≤◌, ◌⊎◌, Bool, true, false, nat_lt, if◌then◌else◌, List, [], ◌∷◌, ◌++◌, length, Option, Some, None}
 use Rattle.std.specs.List.{All, list_any}
 use Rattle.yf_chars.specs.Text.{code}
@@ -21,7 +21,7 @@ abbrev pub leaf_spans : List EventInText → List Span
 leaf_spans [] = []
 leaf_spans (e ∷ rest) = span_in (begins_leaf e.event rest) e.span ++ leaf_spans rest
 
--- where the last of these leaves ends that begins before an offset
+-- the end of the last of these leaves that begins before an offset
 abbrev pub last_end : Option ℕ → ℕ → List Span → Option ℕ
 last_end found offset [] = found
 last_end found offset (s ∷ ss) = last_end (if nat_lt s.start offset then Some s.end else found) offset ss
@@ -42,13 +42,14 @@ pub data CommentsInOrder : ℕ → List CommentValue → Type 0 where
   no_comments : {i : ℕ} → CommentsInOrder i []
   comment_is_at : {i : ℕ} {c : CommentValue} {cs : List CommentValue} → i ≤ c.offset → CommentsInOrder c.offset cs → CommentsInOrder i (c ∷ cs)
 
--- where the line begins on which an offset is: after the last break that ends there or before it, or at the start of the text
+-- the start of the line that holds an offset: after the last break that ends there or before it, or at the start of the
+-- text
 pub record BeginsLine (t : List ℕ) (at i : ℕ) : Type 0 where
   pub order : i ≤ at
   pub begins : (i ≡ 0) ⊎ ((h : ℕ) × Break t h i)
   pub last : (h j : ℕ) → i < j → j ≤ at → Break t h j → ⊥
 
--- where the next line begins: after the first break that begins at the offset or after it, or at the end of the text
+-- the start of the next line: after the first break that begins at the offset or after it, or at the end of the text
 pub record NoBreakFrom (t : List ℕ) (i j : ℕ) : Type 0 where
   pub none : (h k : ℕ) → i ≤ h → h < j → Break t h k → ⊥
 
@@ -61,7 +62,7 @@ pub data StopsAt (offset : ℕ) : List EventInText → Type 0 where
   none_left : StopsAt offset []
   stops : {e : EventInText} {es : List EventInText} (s : Span) → e.span ≡ Some s → offset ≤ s.start → StopsAt offset (e ∷ es)
 
--- # is where a comment begins, and no line ends within its text
+-- a comment begins with #, and no line ends within its text
 pub record IsInLine (t : List ℕ) (c : CommentValue) : Type 0 where
   pub sign : code t c.offset ≡ 35
   pub unbroken : NoBreakIn t c.offset (c.offset + length c.text)

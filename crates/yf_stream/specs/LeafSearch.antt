@@ -15,7 +15,7 @@ pub record BegunAt (offset : ℕ) (es : List EventInText) (i : ℕ) : Type 0 whe
   pub there : slice_get (map (λ e. e.span) es) i ≡ Some span
   pub before : BeginsBefore offset span
 
--- what is found of the events from i up to j, where all of them have begun
+-- the result of the search among the events from i up to j, if all of them have begun
 pub record LastLeaf (es : List EventInText) (i j : ℕ) (found result : Option ℕ) : Type 0 where
   pub same : (offset o : ℕ) → ((k : ℕ) → i ≤ k → k < j → BegunAt offset es k) → offset ≤ o
       → last_end found o (leaf_spans (drop i es)) ≡ last_end result o (leaf_spans (drop j es))

@@ -1,4 +1,4 @@
--- Where what the parts of a stream hold is: between characters of the text.
+-- The offsets in the parts of a stream are between characters of the text.
 use Rattle.std.specs.Prelude.{ℕ, List}
 use Rattle.std.specs.List.{All}
 use Rattle.std.specs.Str.{IsCharBoundary}

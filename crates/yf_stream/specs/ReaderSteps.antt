@@ -1,5 +1,5 @@
--- What holds between two steps of the reader of streams: the places that it keeps lie between characters, and less of
--- the text is left at each step.
+-- The facts between two steps of the reader of streams: its offsets are between characters, and less of the text is
+-- left after each step.
 use Rattle.std.specs.Prelude.{ℕ, List}
 use Rattle.std.specs.Str.{IsCharBoundary}
 use Rattle.yf_chars.specs.Boundary.{BoundaryFrom}

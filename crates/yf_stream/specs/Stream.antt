@@ -1,5 +1,5 @@
--- Streams (YAML 1.2.2, sections 6.8 and 9) as relations between byte offsets of a text t: what is from i to j is
--- derived with the meaning x. The most collections that are open at once are h.
+-- Streams (YAML 1.2.2, sections 6.8 and 9) as relations between byte offsets of a text t: the text from i to j is
+-- derived with the meaning x, and at most h collections are open at once.
 use Rattle.std.specs.Prelude.{◌≡◌, ◌≢◌, ℕ, max, ◌+◌, pos, ◌-ℤ◌, Bool, true, false, List, [], ◌∷◌, ◌++◌, length, slice_range, codes}
 use Rattle.yf_chars.specs.declared.context.Ctx.TheVariants.{BlockIn}
 use Rattle.yf_chars.specs.Text.{code, next}
@@ -41,8 +41,8 @@ pub data DirectiveLines (t : List ℕ) : ℕ → ℕ → Directives → Type 0 w
   more_directives : {i k j : ℕ} {x y : Directives} → DirectiveLines t i k x → DirectiveLines t k j y
       → DirectiveLines t i j (record { directives = x.directives ++ y.directives; comments = x.comments ++ y.comments })
 
--- a document: where it begins, whether `---` is written, its directives, and what its node means but for comments. A
--- comment line may be taken by a document's node, by its directives or by what is between documents; a stream has one
+-- a document: its start, whether `---` is written, its directives, and the meaning of its node without comments. A
+-- comment line may belong to a document's node, to its directives or to the text between documents; so a stream has one
 -- list of comments, and a document has none
 pub record Document : Type 0 where
   pub start : ℕ

@@ -1,4 +1,4 @@
--- What the reader of streams answers.
+-- The results of the reader of streams.
 use Rattle.std.specs.Prelude.{◌≡◌, ℕ, ◌<◌, ◌≤◌, List, Result, MatchResult}
 use Rattle.yf_lines.specs.FaultPlaces.{InText, IsPlaceOf}
 use Rattle.yf_lines.specs.declared.fault.Fault.{Fault}
@@ -18,7 +18,7 @@ use Rattle.yf_stream.specs.WellFormed.{IsFirst, Shapes, breaches}
 abbrev pub NoStream : List ℕ → Type 0
 NoStream t = (h : ℕ) (x : Documents) → Stream t h x → h ≤ DEPTH → ⊥
 
--- the fault that tells of a breach of that kind
+-- the fault for a breach of that kind
 abbrev pub fault_of : BreachKind → Position → Fault
 fault_of Breaches.UnknownHandle place = UnknownHandle place
 fault_of Breaches.UnknownAlias place = UnknownAlias place
@@ -31,8 +31,8 @@ abbrev pub IsSyntax : List ℕ → Fault → Type 0
 IsSyntax t (Syntax place what) = InText t place
 IsSyntax t _ = ⊥
 
--- a text is refused only where memory was refused; where no stream is derived within the limit, as too deep only if it has more
--- openers than the limit; or where its one shape breaches what must hold of it: for the first breach, at the place of that
+-- a text is refused only if memory was refused; if no stream is derived within the limit, and as too deep only if it
+-- also has more openers than the limit; or if its one shape has a breach: for the first one, at its position
 pub data StreamFault (t : List ℕ) : Fault → Type 0 where
   for_memory : StreamFault t Memory
   no_stream : {fault : Fault} → NoStream t → IsSyntax t fault → StreamFault t fault

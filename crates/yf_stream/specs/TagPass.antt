@@ -1,4 +1,5 @@
--- What a pass over the events of a stream finds, document by document: the tags that they stand for, and the first of all breaches.
+-- The results of a pass over the events of a stream, document by document: their resolved tags, and the first of all
+-- breaches.
 use Rattle.std.specs.Prelude.{◌≡◌, ℕ, Bool, true, false, if◌then◌else◌, List, [], ◌∷◌, ◌++◌, drop, slice_get, Option, Some, None}
 use Rattle.std.specs.Borrow.{Bor}
 use Rattle.yf_props.specs.Handles.{Declaration, TagText, declared_prefix}
@@ -10,23 +11,23 @@ use Rattle.yf_stream.specs.WellFormed.{IsFirst, alias_breaches, alias_of, breach
 use Rattle.yf_stream.specs.declared.breaches.Breach.{Breach}
 use Rattle.yf_stream.specs.declared.breaches.BreachKind.TheVariants.{UnknownHandle}
 
--- the first of these breaches, or none where there is none
+-- the first of these breaches, or none
 abbrev pub FirstOf : List Breach → Option Breach → Type 0
 FirstOf bs None = bs ≡ []
 FirstOf bs (Some b) = IsFirst bs b
 
--- what was the first of some breaches before is the first of them and of these afterwards
+-- `before` is the first of some breaches, and `after` is the first of them and of these
 pub record FirstOfBoth (before after : Option Breach) (bs : List Breach) : Type 0 where
   pub first : (done : List Breach) → FirstOf done before → FirstOf (done ++ bs) after
 
--- two lists of names, and two lists of declarations, in which the same is found
+-- two lists of names, and two lists of declarations, with equal look-ups
 pub record SameNames (a b : List (List ℕ)) : Type 0 where
   pub each : (name : List ℕ) → has_name a name ≡ has_name b name
 
 pub record SameDeclarations (a b : List Declaration) : Type 0 where
   pub each : (handle : List ℕ) → declared_prefix a handle ≡ declared_prefix b handle
 
--- what the tag of an event stands for
+-- the resolved tag of an event
 abbrev pub TagOf : List Declaration → Option TagValue → Option (List ℕ) → Type 0
 TagOf ds None None = Unit {0}
 TagOf ds None (Some text) = ⊥
@@ -74,7 +75,7 @@ pub data PassTags : List Doc → List Declaration → List EventInText → List 
       {tags : List (Option (List ℕ))} → starts_document e.event ≡ false → TagOf ds (props_of e.event).tag tag → PassTags docs ds es tags
       → PassTags docs ds (e ∷ es) (tag ∷ tags)
 
--- an event of which this holds is the one at an index
+-- the event at an index has this property
 pub record EventAt (es : List EventInText) (i : ℕ) (P : EventInText → Type 0) : Type 0 where
   pub event : EventInText
   pub there : slice_get es i ≡ Some event
@@ -121,8 +122,8 @@ abbrev pub StartsDocument : List EventInText → Type 0
 StartsDocument [] = Unit {0}
 StartsDocument (e ∷ es) = starts_document e.event ≡ true
 
--- the events from i up to j, where a document starts or the events end, are those of a document with these directives: their first breach has
--- been kept, and their tags have been added
+-- the events from i up to j, at which a document starts or the events end, are those of a document with these
+-- directives: the first of their breaches has been kept, and their tags have been added
 pub record TagsResolved (es : List EventInText) (directives : List Directive) (i j : ℕ) (before after : Option Breach) (a b : List (Option (List ℕ))) : Type 0 where
   pub found : List Breach
   pub finds : FirstOfBoth before after found

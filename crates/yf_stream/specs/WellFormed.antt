@@ -1,4 +1,4 @@
--- What must hold in each document besides its grammar (YAML 1.2.2, sections 5.7, 6.8, 6.9 and 7.1), and where it does not.
+-- The rules for each document besides its grammar (YAML 1.2.2, sections 5.7, 6.8, 6.9 and 7.1), and their breaches.
 use Rattle.std.specs.Prelude.{◌≡◌, ◌<◌, ◌≤◌, ℕ, Bool, true, false, ◌==◌, ◌&&◌, ◌||◌, not, List, [], ◌∷◌, ◌++◌, Option, Some, None, codes, is_none, is_some, if◌then◌else◌}
 use Rattle.std.specs.List.{All, Contains}
 use Rattle.std.specs.Str.{bytes_eq}
@@ -14,7 +14,7 @@ use Rattle.yf_stream.specs.declared.breaches.Breach.{Breach}
 use Rattle.yf_stream.specs.declared.breaches.BreachKind.{BreachKind}
 use Rattle.yf_stream.specs.declared.breaches.BreachKind.TheVariants.{UnknownHandle, UnknownAlias, RepeatedDirective, BadVersion, EscapeValue}
 
--- the breach, where the test holds
+-- the breach, if the test holds
 abbrev pub breach_if : Bool → BreachKind → ℕ → List Breach
 breach_if true kind offset = record { offset = offset; kind = kind } ∷ []
 breach_if false kind offset = []
@@ -135,14 +135,14 @@ pub record IsFirst (bs : List Breach) (b : Breach) : Type 0 where
   pub among : Contains bs b
   pub all : All (IsEarlierBreach b) bs
 
--- the one shape of a text: what is derived of it as a stream within the limit of open collections, and all that is so derived is that
+-- the one shape of a text: it is derived as a stream within the limit of open collections, and so is nothing else
 pub record Shapes (t : List ℕ) (x : Documents) : Type 0 where
   pub height : ℕ
   pub derived : Stream t height x
   pub within : height ≤ DEPTH
   pub only : (h : ℕ) (y : Documents) → Stream t h y → h ≤ DEPTH → y ≡ x
 
--- the same where nothing is breached
+-- the one shape of a text without breaches
 pub record ReadsWithoutBreach (t : List ℕ) (x : Documents) : Type 0 where
   pub shapes : Shapes t x
   pub well_formed : breaches x.documents ≡ []

@@ -74,7 +74,7 @@ solid_more : is_gap 62 ≡ false
 unfolding is_gap is_white is_break_char
 solid_more = refl
 
--- where a scalar ends, and its comments after that
+-- the end of a scalar, and its comments after that
 pub record BodyEnd (t : List ℕ) (e i j : ℕ) (cs : List CommentValue) : Type 0 where
   pub order : i ≤ e
   pub upto : e ≤ j

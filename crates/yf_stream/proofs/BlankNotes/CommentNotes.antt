@@ -48,7 +48,7 @@ module _ {X : Type 0} {P : X → Type 0} where
   each_both f no_element b = no_element
   each_both f (one_element {x = x} p a) (one_element q b) = one_element (f x p q) (each_both f a b)
 
--- a comment between two places, with the note that it has where no block scalar is before it
+-- a comment between two offsets, with its note if no block scalar is before it
 pub record NotedComment (t : List ℕ) (i j : ℕ) (c : CommentValue) : Type 0 where
   pub after : i ≤ c.offset
   pub before : c.offset < j

@@ -39,7 +39,7 @@ use Rattle.yf_stream.proofs.BlankNotes.PartsSteps.{events_end, signs_solid}
 use Rattle.yf_stream.proofs.BlankNotes.PartsUpto.{EventsRead}
 use Rattle.yf_stream.proofs.Reader.StreamUpto.{ReadUpto, followed}
 
--- notes of entries leave where floors are what they are
+-- notes of entries keep the floors
 noting_floors : {t : List ℕ} {f i j : ℕ} {xs ys : List EventInText} → Noting t f xs ys → Each (FloorIn i j) xs → Each (FloorIn i j) ys
 noting_floors no_event no_element = no_element
 noting_floors (without_entry e n) (one_element x r) = one_element x (noting_floors n r)
@@ -189,7 +189,7 @@ module _ {t : List ℕ} (u : IsUtf8 t) {cursor : StreamCursor} {x : Documents} {
       let g = subst (λ z. Guard t z cursor.at) (sym (opened_floor start false [] a)) (r.bare q) in
       document_noted u x.comments _ (noted_silent r.comments (silent_start false)) (omega arith) g refl (node_noted u d)
 
--- what has been read up to a cursor, and the parts of it
+-- the text that has been read up to a cursor, and its parts
 pub record ReadSoFar (t : List ℕ) (cursor : StreamCursor) (p : Parts) : Type 0 where
   pub documents : Documents
   pub read : ReadUpto t cursor.may_be_bare cursor.at documents

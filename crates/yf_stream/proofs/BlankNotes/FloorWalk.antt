@@ -1,4 +1,4 @@
--- The floor that some events set for a place: none of those that end after it, and else the last one.
+-- The floor that some events set for an offset: none of those that end after it, otherwise the last one.
 use Rattle.std.proofs.Common.{◌≡◌, ℕ, ◌<◌, ◌≤◌, Bool, true, false, cond, nat_le, List, [], ◌∷◌, ◌++◌, Option, Some, refl, sym, ap, ◌∙◌, subst, arith}
 use Rattle.std.proofs.lemmas.Bool.Decides.{nat_tests}
 use Rattle.yf_props.specs.Props.{PropsValue}
@@ -50,7 +50,7 @@ floor_early o f l (one_element {x = e} {xs = es} (floor_kept k) r) =
 floor_early o f l (one_element {x = e} {xs = es} (floor_set s q k a b) r) =
     ap (λ (z : ℕ). floor_at o z es) (ap (λ (z : ℕ). end_before o f z) (set_end e f s q k) ∙ end_later o f s.end (omega arith)) ∙ floor_early o f l r
 
--- no floor is set after a place up to which all of them are
+-- events up to an offset set no floor after it
 pub floor_upto : {i j k : ℕ} {es : List EventInText} (o f : ℕ) → f ≤ k → j ≤ k → Each (FloorIn i j) es → floor_at o f es ≤ k
 floor_upto o f l m no_element = l
 floor_upto {k = k} o f l m (one_element {x = e} {xs = es} (floor_kept n) r) =

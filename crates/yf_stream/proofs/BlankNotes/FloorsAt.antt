@@ -8,7 +8,7 @@ use Rattle.yf_stream.proofs.BlankNotes.CommentNotes.{Each, no_element, one_eleme
 use Rattle.yf_stream.proofs.BlankNotes.FloorWalk.{FloorIn, end_taken, floor_kept, floor_set, set_end}
 use Rattle.yf_stream.proofs.BlankNotes.NotingLemmas.{floor_of}
 
--- notes of blank lines leave it what it is
+-- notes of blank lines keep the floor
 pub noting_floor : {t : List ℕ} {g : ℕ} {xs ys : List EventInText} (o f : ℕ) → Noting t g xs ys → floor_at o f xs ≡ floor_at o f ys
 noting_floor o f no_event = refl
 noting_floor o f (without_entry {e = e} n r) = noting_floor o (end_before o f (floor_after_event f e e.event)) r
@@ -19,7 +19,7 @@ noting_last f no_event = refl
 noting_last f (without_entry {e = e} n r) = noting_last (floor_after_event f e e.event) r
 noting_last f (with_entry {e = e} entry n s r) = noting_last (floor_after_event f e e.event) r
 
--- where all of them end at the offset or before it
+-- if all events end at the offset or before it
 pub floor_late : {i j : ℕ} {es : List EventInText} (o f : ℕ) → f ≤ o → j ≤ o → Each (FloorIn i j) es → floor_at o f es ≡ floor_of f es
 floor_late o f l m no_element = refl
 floor_late o f l m (one_element {x = e} {xs = es} (floor_kept k) r) =

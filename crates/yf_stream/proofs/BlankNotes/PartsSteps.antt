@@ -203,7 +203,7 @@ module _ {t : List ℕ} (u : IsUtf8 t) where
         escapes = n.escapes ∙ ap (λ z. z ++ y.escapes) c.escapes ∙ sym (escapes_last x.documents d);
       }
 
--- where no document is open
+-- if no document is open
 written_of : {t : List ℕ} {o : Bool} {k : ℕ} {ds : List Document} {es : List EventInText} → o ≡ false → EventsUpto t o k ds es → DocumentsWritten t ds es
 written_of e (all_closed w) = w
 written_of e (last_open d w l c) = absurd (true≢false e)

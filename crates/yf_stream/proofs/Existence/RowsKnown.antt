@@ -1,4 +1,4 @@
--- Whether a comment line is at the start of a line is known of every text, and so is whether a document's end is marked.
+-- Each text has a comment line at the start of a line or has none there; and a document's end is marked or is not.
 use Rattle.std.proofs.Common.{◌≡◌, ◌≢◌, ℕ, zero, suc, ◌+◌, ◌-◌, ◌<◌, ◌≤◌, Bool, true, false, ◌⊎◌, inl, inr, ⊎_elim, List, [], ◌∷◌, ◌++◌, length, refl, sym, ap, ◌∙◌, arith, true≢false}
 use Rattle.std.proofs.lemmas.Bool.{cases_Bool, cases_eq, cases_lt}
 use Rattle.std.specs.Str.{IsUtf8}
@@ -153,7 +153,7 @@ module _ {t : List ℕ} (u : IsUtf8 t) where
   pub prefixes_from : (i : ℕ) → LineOrEnd t i → PrefixesFrom t i
   prefixes_from i s = prefixes_upto (length t) i (omega arith) s
 
-  -- a `...` that document prefixes lead to is where they end
+  -- a `...` after document prefixes is at the end of the longest run of prefixes
   dot_there : {i q : ℕ} {cs : List CommentValue} (p : PrefixesFrom t i) → Prefixes t i q cs → code t q ≡ 46 → q ≡ p.end
   dot_there {q = q} p d e =
       (stuck_unique prefix_functional (prefixes_rows d) (still (λ m. absurd (omega arith)) (dot_still e)) p.rows p.last).0

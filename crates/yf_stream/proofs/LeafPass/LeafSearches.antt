@@ -78,7 +78,7 @@ begun_more {offset} {start} {at} {es} one before k l m = elim (cases_lt k at) [
   | inr least ↦ let same : at ≡ k = omega (arith, m, least) in subst (BegunAt offset es) same one
 ]
 
--- an event that has begun is there
+-- the index of an event that has begun is within the list
 pub begun_within : {offset : ℕ} (es : List EventInText) {k : ℕ} → BegunAt offset es k → k < length es
 begun_within es {k} b = omega (arith, slice_get_within (map (λ (e : EventInText). e.span) es) k b.span b.there, length-map es (λ (e : EventInText). e.span))
 

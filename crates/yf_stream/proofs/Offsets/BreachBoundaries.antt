@@ -1,5 +1,5 @@
--- Each breach of a stream's documents is between characters: the places of its nodes and of their tags are those of characters, and those of its
--- directives and escapes are known of the parts that were read.
+-- Each breach of a stream's documents is between characters: the offsets of its nodes and of their tags are those of
+-- characters, and the parts that were read give those of its directives and escapes.
 use Rattle.std.proofs.Common.{◌≡◌, ℕ, ◌<◌, Bool, true, false, ◌||◌, not, List, [], ◌∷◌, ◌++◌, map, flat_map, Option, Some, None, refl, sym, subst, is_some, arith}
 use Rattle.std.proofs.lemmas.List.Elements.{All-append, All-cons, All-contains, All-head, All-nil, All-tail}
 use Rattle.std.proofs.lemmas.Str.{IsCharBoundary-start}

@@ -1,4 +1,4 @@
--- Each comment of what is derived, and of a reading, is a comment of the text.
+-- Each comment of a derived part, and of a reading, is a comment of the text.
 use Rattle.std.proofs.Common.{ℕ, ℤ, ◌+◌, Bool, true, false, List, [], ◌∷◌, ◌++◌, refl, ◌∙◌}
 use Rattle.std.proofs.lemmas.List.Elements.{All-cons, All-nil, All-weaker}
 use Rattle.std.specs.List.{All}

@@ -1,4 +1,4 @@
--- The documents of a stream are in order: directives, the beginning, the node with all that is in it, and the next document.
+-- The documents of a stream are in order: directives, the start, the node with its content, and the next document.
 use Rattle.std.proofs.Common.{◌≡◌, ◌≢◌, ℕ, ◌+◌, ◌<◌, ◌≤◌, true, false, List, [], ◌∷◌, length, sym, ap, ◌∙◌, subst, ⊎_elim, arith, true≢false}
 use Rattle.std.specs.Prelude.{◌&&◌, ◌==◌}
 use Rattle.std.proofs.lemmas.Bool.{cases_eq}

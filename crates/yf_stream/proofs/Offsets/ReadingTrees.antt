@@ -1,4 +1,4 @@
--- The reading of a text has trees, whose documents and nodes are in order, and which mean what is derived.
+-- The reading of a text has trees, whose documents and nodes are in order, and which have the derived meaning.
 use Rattle.std.proofs.Common.{◌≡◌, ℕ, suc, ◌≤◌, List, [], ◌∷◌, ◌++◌, map, flat_map, length, Option, refl, sym, ap, ◌∙◌, subst, append_assoc}
 use Rattle.std.specs.Str.{IsUtf8}
 use Rattle.yf_events.specs.Event.{EventInText, document_starts, document_ends, stream_starts, stream_ends}
@@ -22,7 +22,7 @@ pub data TreesStand (t : List ℕ) : ℕ → List Doc → List DocumentTree → 
   tree_is_at : {i j : ℕ} {d : Doc} {ds : List Doc} {tree : DocumentTree} {trees : List DocumentTree} → DirectivesStand i d.directives d.start
       → NodeIsAt t d.start j tree.root → TreesStand t j ds trees → DocumentBounds t d.start j → TreesStand t i (d ∷ ds) (tree ∷ trees)
 
--- the trees of documents that are derived: they mean the same, but for notes on blank lines
+-- the trees of derived documents: they have one meaning, but for notes on blank lines
 pub data TreesMeant : List Document → List DocumentTree → Type 0 where
   no_trees_meant : TreesMeant [] []
   tree_meant : {d : Document} {ds : List Document} {x : Node} {tree : DocumentTree} {trees : List DocumentTree} → d.events ≡ flat x → Alike Anywhere x tree.root

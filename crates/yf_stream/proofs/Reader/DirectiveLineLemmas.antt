@@ -116,7 +116,7 @@ directives_more {t} {i} {k} {j} {x = x} (one_directive {x = y} {ds = ds} {cs = c
     subst (λ z. LongestDirectives t i j z ((y.comments ++ cs) ++ x.comments)) (sym (append_assoc y.directives ds x.directives))
     (subst (λ z. LongestDirectives t i j (y.directives ++ (ds ++ x.directives)) z) (sym (append_assoc y.comments cs x.comments)) (one_directive d (directives_more r c)))
 
--- what has been read of directives
+-- the directives that have been read
 pub directives_empty : {t : List ℕ} {ds : List Directive} (i : ℕ) (a : List CommentValue) → ds ≡ [] → DirectivesUpto t i i ds a a
 directives_empty {t} i a e = record { comments = []; longest = subst (λ z. LongestDirectives t i i z []) (sym e) no_directives; list = sym (append-nil a) }
 

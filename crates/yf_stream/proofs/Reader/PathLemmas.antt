@@ -1,4 +1,5 @@
--- What can be on a path of a stream at a place, by what is in the text there. Where the reader of streams refuses, no path goes on.
+-- The possible next steps of a stream's path at an offset, from the text there. If the reader of streams refuses, no
+-- path goes on.
 use Rattle.std.proofs.Common.{◌≡◌, ◌≢◌, ℕ, max, ◌+◌, Bool, true, false, List, [], length, refl, sym, ◌∙◌, arith, true≢false}
 use Rattle.yf_chars.specs.Text.{code, next}
 use Rattle.yf_chars.specs.Chain.Chain.{done, step}
@@ -60,7 +61,7 @@ module _ {t : List ℕ} where
   path_at_end {k = k} e (path_directives b c d y p m) = let n = end_code t e in absurd (omega arith)
   path_at_end e (path_bare b f c a n p) = absurd (content_not_at_end e a)
 
-  -- before a further document without `---`, where the one before has no `...`, there is no path
+  -- no path goes on at a further document without `---`, if the one before has no `...`
   pub no_path : {b : Bool} {h k : ℕ} {x : Documents} → b ≡ false → k ≢ length t → code t k ≢ 0xFEFF → (ForbiddenLine t k → ⊥) → Path t b h k x → ⊥
   no_path e n m f (path_ends q) = n q
   no_path e n m f (path_mark c s p) = m c

@@ -1,4 +1,5 @@
--- Each stream that is derived has a path through each place to which the reader of streams comes; so where none goes on, there is no stream.
+-- Each derived stream has a path through each offset that the reader of streams reaches. So if no path goes on there,
+-- no stream is derived.
 use Rattle.std.proofs.Common.{◌≡◌, ◌≢◌, ℕ, ◌+◌, ◌≤◌, Bool, true, false, List, length, refl, sym, subst}
 use Rattle.std.specs.Str.{IsUtf8}
 use Rattle.yf_chars.specs.Text.{code}
@@ -86,10 +87,10 @@ module _ {t : List ℕ} where
       → PathsThrough t true j
   paths_past_dots s f e d p = record { path = λ h x r l. dots_path f e (line_end_rows d) (settled_here s (p.path h x r l)) }
 
-  -- where no path goes on from the place of the reader, no stream is derived within the limit
+  -- if no path goes on from the reader's offset, no stream is derived within the limit
   pub no_stream_from : {b : Bool} {k : ℕ} → Stuck (Row t k) → (PathAt t b k → ⊥) → PathsThrough t b k → NoStream t
   no_stream_from s n p h x d l = n (settled_here s (p.path h x d l))
 
-  -- so it is where the reader stops since a document without `---` would follow another one
+  -- so no stream is derived if the reader stops since a document without `---` would follow another one
   pub no_second_bare : {f i k : ℕ} {c d : List CommentValue} → PrefixRead t f i k c d → k ≢ length t → (ForbiddenLine t k → ⊥) → PathsThrough t false k → NoStream t
   no_second_bare r n f p = no_stream_from r.no_row (λ a. no_path refl n r.no_mark f a.path) p

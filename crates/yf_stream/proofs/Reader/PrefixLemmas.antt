@@ -126,7 +126,7 @@ module _ {t : List ℕ} where
     no_row = still_row (subst (λ z. Chosen (LineEnd t j) z cs) e d);
   }
 
-  -- at the start of a line or at the end of the text they are what is before a document: l-document-prefix, as often as it goes
+  -- at the start of a line or at the end of the text they are a run of l-document-prefix
   part_rows : {i j : ℕ} {cs : List CommentValue} → PrefixPart t i j cs → Chain (PrefixRow t) i j cs
   part_rows (order_mark e) = chain_one (mark_row e)
   part_rows (prefix_comment c) = rows_prefix (lines_rows (chain_one c))

@@ -64,7 +64,7 @@ end_stays (by_end e) = refl
 no_text : {i j : ℕ} {x : List CommentValue} → CommentText [] i j x → ⊥
 no_text (comment_text p c n) = not_char _ 35 (omega arith) p
 
--- what is between documents
+-- document prefixes are empty
 record Stays (i j : ℕ) (cs : List CommentValue) : Type 0 where
   end : j ≡ i
   none : cs ≡ []
@@ -83,7 +83,7 @@ prefix_stays (step {x = x} {y = y} p c) =
     let a = part_stays p in let b = prefix_stays c in
     record { end = b.end ∙ a.end; none = ap (λ w. w ++ y) a.none ∙ b.none }
 
--- there are no documents, and no ends of documents
+-- neither documents nor ends of documents are derived
 no_explicit : {h i j : ℕ} {x : _} → ExplicitNode [] h i j x → ⊥
 no_explicit (marked_node m b) = no_three _ 45 (omega arith) m
 no_explicit (marked_nothing m e) = no_three _ 45 (omega arith) m

@@ -172,7 +172,7 @@ marker_fence : ForbiddenLine marker_then_comment 0
 unfolding code begins chars is_marker is_three is_white_or_end is_white is_break_char
 marker_fence = record { start = at_text; marker = refl }
 
--- where a line may end after the marker; there is no white space, and no node begins
+-- the possible ends of lines after the marker; no white space is there, and no node begins
 marker_places : {i j : ℕ} {cs : List CommentValue} → (i ≡ 3) ⊎ ((i ≡ 4) ⊎ (i ≡ 8)) → Chain (Row marker_then_comment) i j cs → (j ≡ 3) ⊎ ((j ≡ 4) ⊎ (j ≡ 8))
 marker_places a done = a
 marker_places {i} a (step {h = h} {x = x} r c) = marker_places (inr (row a)) c where

@@ -33,7 +33,7 @@ use Rattle.yf_stream.proofs.Shown.ShownParts.{all_at, holds_at}
 use Rattle.yf_stream.proofs.Shown.ShownPlain.{explicit_dash, is_sign, no_suffix}
 use Rattle.yf_chars.proofs.CharFacts.{feed_no_ns, hash_ns}
 
--- the characters: one # at p, dashes before d alone, no other sign and no byte order mark
+-- the characters: a # only at p, dashes only before d, no other sign and no byte order mark
 unfoldable pub is_simple : ℕ → ℕ → ℕ → ℕ → Bool
 is_simple p d i c = (not (is_sign c) && not (c == 0xFEFF)) && ((not (c == 45) || nat_lt i d) && (not (c == 35) || (i == p)))
 
@@ -115,7 +115,7 @@ pub record Takes (p : ℕ) (remark : CommentValue) (i j : ℕ) (cs : List Commen
 pub takes_two : {p : ℕ} {remark : CommentValue} {i k j : ℕ} {x y : List CommentValue} → Takes p remark i k x → Takes p remark k j y → Takes p remark i j (x ++ y)
 takes_two {p} {remark} {j = j} {x = x} {y = y} a b = record { taken = append_assoc x y (kept p remark j) ∙ ap (λ w. x ++ w) b.taken ∙ a.taken }
 
--- it is on neither side of the comment's beginning alone
+-- the part is on one side of the comment's start
 pub same_side : {p : ℕ} (remark : CommentValue) {i j : ℕ} → i ≤ j → (i ≤ p → j ≤ p) → Takes p remark i j []
 unfolding kept
 same_side {p} remark {i} {j} l f = record { taken = ⊎_elim after before (cases_lt p i) } where

@@ -162,7 +162,7 @@ comment_then_word_seen : Visible comment_then_word 4
 unfolding code begins chars is_ns_char is_nb_char is_printable is_break_char is_between is_white
 comment_then_word_seen = record { ns = refl; no_hash = λ e. omega (arith, e) }
 
--- at the start of the text is no white space, and no line ends
+-- no white space is at the start of the text, and no line ends there
 comment_then_word_still : {k : ℕ} → SeparateInLine comment_then_word 0 k → k ≡ 0
 unfolding code begins chars is_white
 comment_then_word_still s = whites_stay refl (separate_whites s).1

@@ -16,7 +16,7 @@ use Rattle.yf_comments.specs.Comments.HasBlankNote.{not_noted}
 pub clear_one : (t : List ℕ) (i : ℕ) → is_marker t i ≡ false → Clear t i (i + 1)
 clear_one t i e = record { none = λ h l m f. let same : h ≡ i = omega arith in true≢false (sym f.marker ∙ ap (is_marker t) same ∙ e) }
 
--- where a break begins that ends at the offset
+-- the start of a break that ends at the offset
 break_at : {t : List ℕ} {i j : ℕ} → Break t i j → ((i + 1 ≡ j) × ((code t i ≡ 10) ⊎ (code t i ≡ 13))) ⊎ ((i + 2 ≡ j) × ((code t i ≡ 13) × (code t (i + 1) ≡ 10)))
 break_at (cr_lf p q) = inr (refl, (p, q))
 break_at (lone_cr p q) = inl (refl, inr p)

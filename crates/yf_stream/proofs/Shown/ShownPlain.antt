@@ -97,7 +97,7 @@ pub explicit_dash : {t : List ℕ} {h i j : ℕ} {x : Meaning} → ExplicitNode 
 explicit_dash (marked_node m b) = m
 explicit_dash (marked_nothing m e) = m
 
--- without dashes there are no block collections and no `---`
+-- without dashes, neither block collections nor a `---` are derived
 module _ (t : List ℕ) (none : (i c : ℕ) → is_sign c ≡ true → code t i ≡ c → ⊥) (no_dash : (i : ℕ) → code t i ≢ 45) where
   pub no_entries : {h m i j : ℕ} {s : Bool} {x : Meaning} → Derives t h (BlockEntries s m) i j x → ⊥
   no_entries {i = i} d = no_dash i (entries_dash t none d)

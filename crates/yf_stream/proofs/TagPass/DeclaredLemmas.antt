@@ -1,4 +1,4 @@
--- Looking handles up: what is found among declarations after one more.
+-- Handles looked up among declarations after one more.
 use Rattle.std.proofs.Common.{◌≡◌, ℕ, ◌+◌, ◌<◌, Bool, true, false, cond, List, [], ◌∷◌, ◌++◌, length, map, Option, Some, None, refl, sym, ap, ◌∙◌, subst, arith, true≢false, is_none, is_some, not, if◌then◌else◌}
 use Rattle.std.specs.Option.{unwrap_or}
 use Rattle.std.proofs.lemmas.List.{length-map}
@@ -130,7 +130,7 @@ pub few_declared : (few : List Declaration) {new : List Declaration} (k v : List
     → (fresh ≡ not (is_declared few k)) × (new ≡ (if fresh then few ++ (k, v) ∷ [] else few)) → new ≡ few ++ (k, v) ∷ []
 few_declared few k v n p = p.1 ∙ ap (λ z. if z then few ++ (k, v) ∷ [] else few) (p.0 ∙ ap (λ z. not (is_some z)) n)
 
--- what is taken out again
+-- a declaration that is removed again
 pub taken_out : (a b c : Entries) (k v : Bor (List ℕ)) → declared_prefix (map declaration a) k.now ≡ None
     → ((h : List ℕ) → lookup (is_at (λ (k : Bor (List ℕ)). slice_cmp nat_cmp h k.now)) b
     ≡ cond (bytes_eq k.now h) (Some v) (lookup (is_at (λ (k : Bor (List ℕ)). slice_cmp nat_cmp h k.now)) a))
@@ -179,7 +179,7 @@ pub offset_there : (o : Option ℕ) → unwrap_or o 0 ≡ offset_or 0 o
 offset_there None = refl
 offset_there (Some i) = refl
 
--- a tag without a handle stands for the same whatever is declared
+-- declarations don't change a tag without a handle
 pub other_text : {a b : List Declaration} {x : List ℕ} (tag : Tag) → ((h s : Bor (List ℕ)) → tag ≡ Short h s → ⊥) → TagText a (tag_value tag) x → TagText b (tag_value tag) x
 other_text (Verbatim text) n verbatim_text = verbatim_text
 other_text (Short h s) n t = absurd (n h s refl)

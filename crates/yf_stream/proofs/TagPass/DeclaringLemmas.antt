@@ -11,7 +11,8 @@ use Rattle.yf_stream.proofs.TagPass.DeclaredLemmas.{same_itself}
 use Rattle.yf_stream.proofs.TagPass.FirstLemmas.{finds_as, finds_nothing_more, finds_then}
 use Rattle.yf_stream.proofs.TagPass.PassLemmas.{all_declared, at_index, directives_same}
 
--- What has been found of the directives before an index, where a version has been named or not, and these are the declarations.
+-- The breaches found among the directives before an index, if a version has been named or not, and these are the
+-- declarations.
 pub record Declaring (xs : List Directive) (ds : List Declaration) (before : Option Breach) (i : ℕ) (seen : Bool) (now : List Declaration) (after : Option Breach) : Type 0 where
   pub found : List Breach
   pub finds : FirstOfBoth before after found

@@ -50,7 +50,7 @@ finds_if {a} test kind offset e = subst (λ z. FirstOfBoth a a (breach_if z kind
 pub finds_as : {a b : Option Breach} {x y : List Breach} → x ≡ y → FirstOfBoth a b x → FirstOfBoth a b y
 finds_as {a} {b} e f = subst (λ z. FirstOfBoth a b z) e f
 
--- where nothing was found at last, nothing was found before
+-- if nothing was found in the end, nothing was found before
 pub found_nothing : {a b : Option Breach} {x : List Breach} → b ≡ None → FirstOfBoth a b x → (a ≡ None) × (x ≡ [])
 found_nothing {a} {b} {x} e p = go a (subst (λ z. FirstOfBoth a z x) e p) where
   go : (a : Option Breach) → FirstOfBoth a None x → (a ≡ None) × (x ≡ [])

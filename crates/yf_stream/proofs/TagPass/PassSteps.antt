@@ -1,4 +1,4 @@
--- The steps of the pass over the events of a stream: what its look-ups give.
+-- The steps of the pass over the events of a stream: the results of its look-ups.
 use Rattle.std.proofs.Common.{◌≡◌, ℕ, ◌+◌, ◌≤◌, ◌<◌, Bool, true, false, List, [], ◌∷◌, ◌++◌, drop, length, map, Option, Some, None, refl, sym, ap, ◌∙◌, subst, slice_get, option_map, get_or, is_ok, if◌then◌else◌, Result, Ok, Err}
 use Rattle.std.proofs.Math.ListN.{drop_of_length-le}
 use Rattle.std.proofs.lemmas.Option.{same_Some, slice_get-get_or, slice_get-map, slice_get_read}
@@ -39,7 +39,7 @@ written mapping_ends = refl
 written (scalar_node props style text) = refl
 written (alias_node name) = refl
 
--- what a list that is made of the events has at an index
+-- the element at an index of a list that is made of the events
 same_at : {A : Type 0} (f : EventInText → A) (es : List EventInText) (j : ℕ) {e : EventInText} {x : A} → slice_get es j ≡ Some e → slice_get (map f es) j ≡ Some x → f e ≡ x
 same_at f es j h g = sym (same_Some _ _ (sym g ∙ slice_get-map f es j ∙ ap (option_map f) h))
 
@@ -125,7 +125,7 @@ pub passing_step : {es : List EventInText} {i j : ℕ} {before first after : Opt
 passing_step p s n q =
     one_passed p q.there (sym (s.holds ∙ ap (λ (e : EventInText). starts_document e.event) (same_Some _ _ (sym s.there ∙ q.there))) ∙ n) q.holds
 
--- where a growth was not refused
+-- if a growth was not refused
 pub if_pushed : {T E A : Type 0} (r : Result T E) {x : A} (y z : A) {P : T → Type 0} → x ≡ (if is_ok r then y else z) → (x ≡ y → (t : T) → P t) → IfOk r P
 if_pushed (Ok t) y z e f = f e t
 if_pushed (Err w) y z e f = tt

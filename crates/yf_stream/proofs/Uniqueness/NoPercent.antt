@@ -1,4 +1,4 @@
--- No node begins with a `%`: so a document without `---` begins where no directive does.
+-- No node begins with a `%`. So no directive begins at the start of a document without `---`.
 use Rattle.std.proofs.Common.{◌≡◌, ℕ, ◌+◌, ◌<◌, ◌≤◌, ℤ, Bool, true, false, ⊎_elim, List, refl, sym, ap, ◌∙◌, arith, true≢false, add-zero}
 use Rattle.std.proofs.lemmas.Bool.{cases_lt}
 use Rattle.std.proofs.Math.Bool.{and-false}

@@ -32,7 +32,7 @@ use Rattle.yf_stream.proofs.Uniqueness.StreamPath.{Settled, NodeTo, ExplicitTo, 
 use Rattle.yf_grammar.proofs.BlockReader.BlockSound.{alone_nothing}
 use Rattle.yf_grammar.proofs.WrittenTexts.LeafBack.{noting_nothing}
 
--- parts of what is found
+-- parts of an outcome
 abbrev end_of : Option ParsedNode → ℕ
 end_of None = 0
 end_of (Some f) = f.end
@@ -78,7 +78,7 @@ module _ {t : List ℕ} where
       let v = settled_one d (subst (λ w. Settled t w m fs) (sym q.0) c) in
       record { ends = v.0; meaning = n ∙ ap (λ w. noting w es) q.1 ∙ ap (noting b) v.1 ∙ sym p }
 
-  -- nothing is found where comment lines are followed by what ends all nodes
+  -- no line of a node follows comment lines after which `LinesEnd` holds
   pub line_stuck : {q k m p j l : ℕ} {cs es : List CommentValue} {ds : List CommentValue} → LineEnd t q j cs → Settled t j l es → LinesEnd t l → LineEnd t q k ds → LineText t k m p → ⊥
   line_stuck {l = l} d s e f w =
       let r = stuck_unique row_functional (chain_append (line_end_rows d) s.rows) s.last (line_end_rows f) (line_still w) in
@@ -99,7 +99,7 @@ module _ {t : List ℕ} where
   known_some (all_of_it e) f = not_none e f
   known_some (but_lines e d n) f = not_none e f
 
-  -- what is at a place
+  -- the characters at an offset
   content_first : {k p : ℕ} → ContentAt t k p → is_white (code t k) ≡ false → is_ns_char (code t k) ≡ true
   content_first {k} (content_at {k = p} s n h) w =
       let same = (many_unique t is_white (done {i = k}) w (separate_whites s).1 (ns_not_white (code t p) n)).0 in

@@ -25,7 +25,7 @@ use Rattle.yf_stream.specs.Stream.Parameters.{version_parameter, tag_parameters,
 use Rattle.yf_stream.proofs.Reader.DirectiveWords.{same_start}
 use Rattle.yf_stream.proofs.Uniqueness.OneDirective.{byte_no_white, chain_after, handle_after, handle_one, in_line_one, mark_after, no_ns_white, no_tag_at_mark, prefix_ns, spelled_ns, tag_after, white_after, word_mark, word_white, yaml_no_tag}
 
--- what the parameters are
+-- the parameters
 record TagWords (t : List ℕ) (i j : ℕ) (x : List (List ℕ)) : Type 0 where
   start : ℕ
   handle_end : ℕ
@@ -55,7 +55,7 @@ module _ {t : List ℕ} (u : IsUtf8 t) where
   handle_no_white {k} (secondary_handle e f) = byte_no_white u k e (omega arith) (omega arith)
   handle_no_white {k} (named_handle e r f) = byte_no_white u k e (omega arith) (omega arith)
 
-  -- a handle goes on where a longer one is
+  -- a handle goes on if a longer one is derived
   goes_on_there : {k g h : ℕ} → Handle t k g → Handle t k h → g < h → is_white (code t g) ≡ false
   goes_on_there (primary_handle a) (primary_handle b) l = absurd (omega arith)
   goes_on_there {k} (primary_handle a) (secondary_handle b c) l = byte_no_white u (k + 1) c (omega arith) (omega arith)

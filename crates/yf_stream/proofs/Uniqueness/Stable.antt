@@ -1,4 +1,5 @@
--- What cannot be refuted holds, where it says that two numbers are one, two lists, two events, two meanings.
+-- A statement that cannot be refuted holds if it says that two numbers, two lists, two events or two meanings are
+-- equal.
 use Rattle.std.proofs.Common.{◌≡◌, ℕ, suc, zero, Bool, true, false, List, [], ◌∷◌, Option, Some, None, refl, sym, ap, ◌∙◌, ⊎_elim}
 use Rattle.std.proofs.lemmas.Bool.{cases_eq}
 use Rattle.yf_chars.proofs.Tests.{no_cons}

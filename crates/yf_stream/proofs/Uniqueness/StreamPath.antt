@@ -61,7 +61,7 @@ pub record NodeTo (t : List ℕ) (h p l : ℕ) (x : Meaning) : Type 0 where
   pub settled : Settled t end l comments
   pub is : x ≡ noting meaning comments
 
--- the same from a `---` on, where nothing may follow
+-- likewise from a `---` on, which nothing may follow
 pub data ExplicitTo (t : List ℕ) : ℕ → ℕ → ℕ → Meaning → Type 0 where
   node_to : {h i l : ℕ} {x : Meaning} → NodeTo t h (i + 3) l x → ExplicitTo t h i l x
   nothing_to : {i j l : ℕ} {cs es : List CommentValue} → LineEnd t (i + 3) j cs → Settled t j l es → ExplicitTo t 0 i l (noting (empty_node (i + 3)) (cs ++ es))
@@ -186,7 +186,7 @@ module _ {t : List ℕ} (u : IsUtf8 t) where
       let n = three_first t k 45 (λ q. absurd (omega arith)) in
       (record { start = line_of l (omega arith); marker = marker_of_dots t k n e ∙ line_end_white (no_start_after k 46 e (omega arith) signs_visible.1) d }, c)
 
-  -- where the parts end
+  -- the ends of the parts
   pub explicit_next : {h k j : ℕ} {x : Meaning} → ExplicitNode t h k j x → LineOrEnd t j
   explicit_next (marked_node e n) = block_ends n.derived
   explicit_next (marked_nothing e d) = end_next d
@@ -267,7 +267,7 @@ module _ {t : List ℕ} (u : IsUtf8 t) where
   explicit_dash {k = k} (marked_node e n) = three_code t k 45 e
   explicit_dash {k = k} (marked_nothing e d) = three_code t k 45 e
 
-  -- a document; where a bare one begins no directive does
+  -- a document; no directive begins at a bare one
   bare_from : {h g k p j : ℕ} {x : Meaning} {rest : Documents} → RootNode t h k j x → ContentAt t k p → PathFrom t false g j rest
       → PathFrom t true (max h g) k (with_document x.comments (document_of p false [] x) rest)
   bare_from {h} {k = k} {p = p} {j = j} {x = x} {rest = rest} n c q =
