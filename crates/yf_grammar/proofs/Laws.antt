@@ -44,7 +44,7 @@ NoKeyIsMissed = (t : List ℕ) (e i : ℕ) (c : Ctx) → IsUtf8 t → is_block c
 abbrev pub FlowOutcomesAreOne : Type 0
 FlowOutcomesAreOne = (t : List ℕ) (e : ℕ) (task : Task) (o p : Option ParsedNode) → Parses t e task o → Parses t e task p → o ≡ p
 
--- A flow node outside of keys has an outcome at each place, within each limit: it cannot be that it has none.
+-- A flow node outside of keys has an outcome at each offset, within each limit: it cannot be that it has none.
 abbrev pub FlowNodesHaveOutcomes : Type 0
 FlowNodesHaveOutcomes = (t : List ℕ) (e i : ℕ) (n : ℤ) (c : Ctx) → IsUtf8 t → is_flow c ≡ true → ((o : Option ParsedNode) → Parses t e (ANode n c i) o → ⊥) → ⊥
 
@@ -55,8 +55,8 @@ abbrev pub WholeNodesAreChosen : Type 0
 WholeNodesAreChosen = (t : List ℕ) (e i : ℕ) (n : ℤ) (c : Ctx) (f : ParsedNode) (part : Part) → IsUtf8 t → is_block c ≡ true → pos 0 ≤ℤ (n +ℤ pos 1)
     → Whole t e (Awaited false n c Nothing i) (Some f) → Fills t f.meaning part → Chosen (BlockNodePart t e n c i) f.end part
 
--- A block node that is derived within the limit, covers no forbidden line, and leaves no comment line after it, is what that reader
--- finds before the end of the text, a byte order mark or a forbidden line.
+-- If a block node is derived within the limit, covers no forbidden line, and leaves no comment line after it, that
+-- reader finds exactly this node before the end of the text, a byte order mark or a forbidden line.
 abbrev pub DerivedNodesAreWhole : Type 0
 DerivedNodesAreWhole = (t : List ℕ) (h e i j : ℕ) (n : ℤ) (c : Ctx) (x : Meaning) (o : Option ParsedNode) → IsUtf8 t → Derives t h (BlockNode n c) i j x → h ≤ e → Clear t i j
     → Stuck (Row t j) → LinesEnd t j → Whole t e (Awaited false n c Nothing i) o → o ≡ found j h false x
@@ -75,6 +75,7 @@ LastHaltsAreChosen = (t : List ℕ) (e i : ℕ) (n : ℤ) (c : Ctx) (f : ParsedN
 abbrev pub NoBlockNodeIsMissed : Type 0
 NoBlockNodeIsMissed = (t : List ℕ) (e i : ℕ) (n : ℤ) (c : Ctx) → IsUtf8 t → Halts t e [] (Awaited false n c Nothing i) None → Stuck (BlockNodePart t e n c i)
 
--- There is a last place at which a node may end, or there is none, within each limit: it cannot be that neither is so.
+-- The first call has a last offset at which its node may end, or it has none, within each limit: it cannot be that
+-- neither is so.
 abbrev pub LastHaltsHaveOutcomes : Type 0
 LastHaltsHaveOutcomes = (t : List ℕ) (e i : ℕ) (n : ℤ) (c : Ctx) → IsUtf8 t → ((o : Option ParsedNode) → Halts t e [] (Awaited false n c Nothing i) o → ⊥) → ⊥

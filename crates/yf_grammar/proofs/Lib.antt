@@ -1,8 +1,8 @@
--- The lemmas, a folder for each theorem or for what several rest on.
+-- The lemmas, a folder for each theorem or for the base of several.
 -- the laws of the readers of nodes, as the crates above use them
 pub mod LawsHold
 pub mod Laws
--- what all others rest on: ends, gaps, and what follows nodes
+-- the base of all others: ends, gaps, and the text after nodes
 pub mod Ends
 -- the recursive reader of flow nodes: one outcome (`Outcome`), sound, complete, the longest; and that it has an outcome
 pub mod FlowReader

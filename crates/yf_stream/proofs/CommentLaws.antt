@@ -1,4 +1,4 @@
--- Laws of the texts of comments, each with the plain sentence that it says. `proofs/Offsets/CommentTexts.antt` proves them.
+-- Laws of the texts of comments, each under a plain sentence. `proofs/Offsets/CommentTexts.antt` proves them.
 use Rattle.std.specs.Prelude.{◌≡◌, ℕ, ◌+◌, List, slice_range}
 use Rattle.std.specs.List.{All}
 use Rattle.std.specs.Str.{IsUtf8}

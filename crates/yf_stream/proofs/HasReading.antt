@@ -1,4 +1,4 @@
--- A well-formed text has a reading: what `ReadingOf` adds to its derivation exists.
+-- A well-formed text has a reading: the notes that `ReadingOf` adds to its derivation exist.
 use Rattle.std.proofs.Common.{◌≡◌, ℕ, ◌+◌, Bool, true, false, List, [], ◌∷◌, ◌++◌, map, flat_map, Option, Some, None, is_none, refl, sym, ◌∙◌, true≢false, ⊎_elim}
 use Rattle.std.proofs.lemmas.Bool.{cases_Bool}
 use Rattle.std.proofs.lemmas.Str.{IsUtf8-from_is_utf8, is_utf8-from_IsUtf8}

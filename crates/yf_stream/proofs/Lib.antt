@@ -1,4 +1,4 @@
--- The lemmas, a folder for each theorem or for what several rest on.
+-- The lemmas, a folder for each theorem or for the base of several.
 -- the laws of streams and readings hold
 pub mod LawsHold
 pub mod NodeLawsHold

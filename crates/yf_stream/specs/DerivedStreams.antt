@@ -20,7 +20,7 @@ NotDerived t (Refusals.Syntax offset) = NoStream t
 NotDerived t (Refusals.TooDeep offset) = NoStream t × (DEPTH < openers t)
 NotDerived t (Refusals.Breach b) = ⊥
 
--- the one shape, with the parts of it
+-- the one shape, with its parts
 pub record ShapeRead (t : List ℕ) (p : Parts) : Type 0 where
   pub documents : Documents
   pub shapes : Shapes t documents

@@ -38,19 +38,19 @@ pub data SameButNotes (t : List ℕ) (floor : ℕ) : List CommentValue → List 
   one_renoted : {c : CommentValue} {cs ns : List CommentValue} (b : Bool) → FloorNote t floor c.offset b → SameButNotes t floor cs ns
       → SameButNotes t floor (c ∷ cs) (record c { blank_before = b } ∷ ns)
 
--- comments have been added to a list, but for their notes
+-- comments have been added to a list, with notes of their own
 pub record CommentsAdded (t : List ℕ) (floor : ℕ) (cs a b : List CommentValue) : Type 0 where
   pub noted : List CommentValue
   pub renoted : SameButNotes t floor cs noted
   pub list : b ≡ a ++ noted
 
--- byte order marks and lines have been passed up to a place, and their comments added to a list
+-- byte order marks and lines have been passed up to an offset, and their comments added to a list
 pub record PrefixUpto (t : List ℕ) (floor i j : ℕ) (a b : List CommentValue) : Type 0 where
   pub comments : List CommentValue
   pub rows : Chain (PrefixRow t) i j comments
   pub kept : CommentsAdded t floor comments a b
 
--- all of them: neither begins at the place
+-- all of them have been passed: neither begins at the offset
 pub record PrefixRead (t : List ℕ) (floor i j : ℕ) (a b : List CommentValue) : Type 0 where
   pub upto : PrefixUpto t floor i j a b
   pub no_mark : code t j ≢ 0xFEFF
@@ -60,7 +60,7 @@ pub record PrefixRead (t : List ℕ) (floor i j : ℕ) (a b : List CommentValue)
 abbrev pub with_event : Parts → EventValue → Parts
 with_event p e = record p { part = record p.part { events = p.part.events ++ unplaced e ∷ [] } }
 
--- with the end of the document that is open, if there is one
+-- with the end of the open document, if one is open
 abbrev pub closed : Bool → Bool → Parts → Parts
 closed explicit true p = with_event p (document_ends explicit)
 closed explicit false p = p
@@ -83,7 +83,7 @@ pub record SuffixEnds (t : List ℕ) (cursor : StreamCursor) (a b : Parts) (afte
   pub floor : after.floor ≡ 0
   pub parts : b ≡ commented comments (closed true (not cursor.may_be_bare) a)
 
--- what comes after the three dots at a cursor: the next cursor, or no line ends there
+-- the result after the three dots at a cursor: the next cursor, or no line ends there
 abbrev pub SuffixRead : List ℕ → StreamCursor → Parts → Parts → StreamStep → Type 0
 SuffixRead t cursor a b (Go after) = SuffixEnds t cursor a b after
 SuffixRead t cursor a b (Syntax place) = Stuck (LineEnd t (cursor.at + 3))

@@ -35,7 +35,7 @@ pub data NoNode (t : List ℕ) (at : ℕ) : Type 0 where
   none_found : Whole t DEPTH (Awaited false (pos 0 -ℤ pos 1) BlockIn Nothing at) None → NoNode t at
   line_left : {f : ParsedNode} → Whole t DEPTH (Awaited false (pos 0 -ℤ pos 1) BlockIn Nothing at) (Some f) → (LinesEnd t f.end → ⊥) → Stuck (Row t f.end) → NoNode t at
 
--- a part after what the parts had
+-- a part added to the parts
 abbrev pub grown : Part → Parts → Parts
 grown part p = record p {
   part = record {

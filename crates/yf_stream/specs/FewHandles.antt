@@ -1,4 +1,4 @@
--- The handles of a document that are found by their hashes, and all of them.
+-- The handles of a document that are looked up by their hashes, and all of them.
 use Rattle.std.specs.Prelude.{◌≡◌, ℕ, ◌≤◌, List, length, None}
 use Rattle.yf_props.specs.Handles.{Declaration, declared_prefix}
 

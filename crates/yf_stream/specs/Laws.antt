@@ -1,5 +1,6 @@
--- The laws of streams and of readings, each with the plain sentence that it says: a text is derived as one stream at most, and
--- has one reading at most. `proofs/LawsHold.antt` proves them, so a change of the definitions that breaks one is refused there.
+-- The laws of streams and of readings, each under a plain sentence: a text is derived as at most one stream, and has at
+-- most one reading. `proofs/LawsHold.antt` proves them, so a change of the definitions that breaks one is refused
+-- there.
 use Rattle.std.specs.Prelude.{◌≡◌, ℕ, ◌<◌, ◌≤◌, List, length}
 use Rattle.std.specs.List.{All}
 use Rattle.std.specs.List.Sorted.{IsNonDecreasingBy}
@@ -23,7 +24,7 @@ StreamsAreOne = (t : List ℕ) (h g : ℕ) (x y : Documents) → IsUtf8 t → St
 abbrev pub DerivedStreamsAreShapes : Type 0
 DerivedStreamsAreShapes = (t : List ℕ) (h : ℕ) (x : Documents) → IsUtf8 t → Stream t h x → h ≤ DEPTH → Shapes t x
 
--- A text has one reading at most, all lists and notes of it.
+-- A text has at most one reading, with all its lists and notes.
 abbrev pub ReadingsAreOne : Type 0
 ReadingsAreOne = (t : List ℕ) (r s : Lists) → ReadingOf t r → ReadingOf t s → s ≡ r
 

@@ -57,7 +57,7 @@ pub data NextLine (t : List ℕ) (at : ℕ) : ℕ → Type 0 where
   after_break : {h j : ℕ} → at ≤ h → NoBreakFrom t at h → Break t h j → NextLine t at j
   at_text_end : NoBreakFrom t at (length t) → NextLine t at (length t)
 
--- the first of these events has a place at an offset or after it, or there is none
+-- the first of these events has a span from an offset on or later, or the list is empty
 pub data StopsAt (offset : ℕ) : List EventInText → Type 0 where
   none_left : StopsAt offset []
   stops : {e : EventInText} {es : List EventInText} (s : Span) → e.span ≡ Some s → offset ≤ s.start → StopsAt offset (e ∷ es)
@@ -67,7 +67,7 @@ pub record IsInLine (t : List ℕ) (c : CommentValue) : Type 0 where
   pub sign : code t c.offset ≡ 35
   pub unbroken : NoBreakIn t c.offset (c.offset + length c.text)
 
--- all that is asked
+-- all conditions of the pass
 pub record AreInOrder (t : List ℕ) (es : List EventInText) (cs : List CommentValue) : Type 0 where
   pub events : BeginInOrder 0 es
   pub comments : CommentsInOrder 0 cs

@@ -4,12 +4,12 @@ use Rattle.yf_events.specs.Event.{EventInText}
 use Rattle.yf_events.specs.declared.event.Span.{Span}
 use Rattle.yf_stream.specs.LeafPass.{last_end, leaf_spans}
 
--- the place begins before an offset, or there is none
+-- the span begins before an offset, or is missing
 abbrev pub BeginsBefore : ℕ → Option Span → Type 0
 BeginsBefore offset None = Unit {0}
 BeginsBefore offset (Some span) = span.start < offset
 
--- so does that of the event at an index
+-- so does the span of the event at an index
 pub record BegunAt (offset : ℕ) (es : List EventInText) (i : ℕ) : Type 0 where
   pub span : Option Span
   pub there : slice_get (map (λ e. e.span) es) i ≡ Some span

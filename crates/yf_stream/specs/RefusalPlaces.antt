@@ -7,7 +7,7 @@ use Rattle.yf_events.specs.declared.document.Doc.{Doc}
 use Rattle.yf_stream.specs.declared.stream.Refusal.{Refusal}
 use Rattle.yf_stream.specs.declared.stream.Refusal.TheVariants as Refusals
 
--- each directive begins between characters; so does each of each document
+-- each directive begins between characters; likewise for all documents
 abbrev pub DirectivesAt : List ℕ → List Directive → Type 0
 DirectivesAt t ds = All (λ (d : Directive). IsCharBoundary t d.offset) ds
 

@@ -100,7 +100,7 @@ pub data Suffixes (t : List ℕ) : ℕ → ℕ → List CommentValue → Type 0 
   more_suffixes : {i k j : ℕ} {cs ds : List CommentValue} → is_three t i 46 ≡ true → LineEnd t (i + 3) k cs → Suffixes t k j ds
       → Suffixes t i j (cs ++ ds)
 
--- what a part of a stream holds: documents, and all comments in order of the text
+-- the parts of a stretch of a stream: documents, and all comments in text order
 pub record Documents : Type 0 where
   pub documents : List Document
   pub comments : List CommentValue
@@ -108,7 +108,7 @@ pub record Documents : Type 0 where
 abbrev pub only_comments : List CommentValue → Documents
 only_comments cs = record { documents = []; comments = cs }
 
--- a document, the comments before it and in it, and what follows
+-- a document, the comments before it and in it, and the rest
 unfoldable pub with_document : List CommentValue → Document → Documents → Documents
 with_document cs d rest = record { documents = d ∷ rest.documents; comments = cs ++ rest.comments }
 

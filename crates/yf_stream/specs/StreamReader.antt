@@ -26,7 +26,7 @@ fault_of Breaches.RepeatedDirective place = RepeatedDirective place
 fault_of Breaches.BadVersion place = BadVersion place
 fault_of Breaches.EscapeValue place = EscapeValue place
 
--- the fault is Syntax, at a place in the text
+-- the fault is `Syntax`, with a position in the text
 abbrev pub IsSyntax : List ℕ → Fault → Type 0
 IsSyntax t (Syntax place what) = InText t place
 IsSyntax t _ = ⊥

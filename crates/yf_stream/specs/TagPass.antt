@@ -117,7 +117,7 @@ abbrev pub directives_of : Option (Bor Doc) → List Directive
 directives_of None = []
 directives_of (Some d) = d.now.directives
 
--- the first of the events starts a document, or there is none
+-- the first of the events starts a document, or the list is empty
 abbrev pub StartsDocument : List EventInText → Type 0
 StartsDocument [] = Unit {0}
 StartsDocument (e ∷ es) = starts_document e.event ≡ true

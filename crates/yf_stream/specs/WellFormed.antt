@@ -108,7 +108,7 @@ abbrev pub escape_breaches : List ℕ → List Breach
 escape_breaches [] = []
 escape_breaches (i ∷ rest) = record { offset = i; kind = EscapeValue } ∷ escape_breaches rest
 
--- which of two breaches at one place comes first
+-- the rank of a breach among those at its offset; the lowest comes first
 abbrev pub rank : BreachKind → ℕ
 rank UnknownHandle = 4
 rank UnknownAlias = 5
@@ -116,7 +116,7 @@ rank RepeatedDirective = 6
 rank BadVersion = 7
 rank EscapeValue = 8
 
--- the first breach: none is before it in the text, and none at its place has a lower rank
+-- the first breach: none is before it in the text, and none at its offset has a lower rank
 pub data IsEarlierBreach (a b : Breach) : Type 0 where
   earlier_place : a.offset < b.offset → IsEarlierBreach a b
   same_place : a.offset ≡ b.offset → rank a.kind ≤ rank b.kind → IsEarlierBreach a b

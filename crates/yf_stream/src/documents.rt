@@ -82,7 +82,7 @@ pub(crate) struct Parts<'a> {
 #[derive(Clone, Copy)]
 pub(crate) enum StreamStep {
     Go(StreamCursor),
-    /// No stream is derived; the text goes wrong at the byte offset.
+    /// No stream is derived; the reading went wrong at the byte offset.
     Syntax(usize),
     /// The limit of open collections is passed at the byte offset.
     TooDeep(usize),

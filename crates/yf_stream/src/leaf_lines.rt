@@ -45,7 +45,7 @@ pub(crate) fn on_leaf_lines(
     Ok(())
 }
 
-// Goes on to the last leaf that begins before the offset.
+// Advances to the last leaf that begins before the offset.
 fn leaves_before(events: &Events, offset: usize, seen: Seen) -> Seen
     ensures passed { (o : ℕ) → offset ≤ o → last_end seen.leaf_end o (leaf_spans (drop seen.events events.now))
         ≡ last_end result.leaf_end o (leaf_spans (drop result.events events.now)) }

@@ -14,12 +14,12 @@ use yf_props::handles::Handles;
 use yf_props::props::Tag;
 use yf_props::resolved::ResolvedTag;
 
-/// The maximum number of handles that are found by their hashes.
+/// The maximum number of handles that are looked up by their hashes.
 const FEW: usize = 64;
 
-/// The tag handles that are declared in a document. The first ones are also in a hash table, as most documents have
-/// few. All are in a tree, since names can be chosen to have equal hashes. In a contract, they are a list of
-/// declarations, each a handle and its prefix.
+/// The tag handles that are declared in a document. Up to `FEW` handles are looked up by their hashes, as most
+/// documents have few. If there are more, all are looked up in a tree, since names can be chosen to have equal hashes.
+/// In a contract, they are a list of declarations, each a handle and its prefix.
 #[derive(Drop)]
 pub(crate) struct Prefixes<'a> {
     few: Handles<'a>,
@@ -48,8 +48,7 @@ impl<'a> Prefixes<'a> {
         }
     }
 
-    /// Declares a handle's prefix, and returns true if the handle was not declared before. A declared handle keeps its
-    /// prefix.
+    /// Declares a handle's prefix, and returns true if the handle was not declared before. Otherwise its prefix stays.
     pub(crate) fn declare(&mut self, handle: &'a str, prefix: &'a str) -> Result<bool, AllocError>
         ensures fresh { IfOk result (λ fresh. fresh ≡ not (is_declared self.old handle.entry.now)) }
         ensures declared { IfOk result (λ _. SameDeclarations self.new

@@ -1,4 +1,4 @@
--- After a separation the reader of last halts comes to the character that is separated, as the reader of whole nodes does.
+-- After a separation, the reader of last halts reaches the next character, as the reader of whole nodes does.
 use Rattle.std.proofs.Common.{◌≡◌, ℕ, ◌<◌, ◌≤◌, ℤ, pos, ◌+ℤ◌, Bool, false, List, [], Option, Some, None, refl, sym, ap, ◌∙◌, subst, arith, true≢false}
 use Rattle.yf_chars.specs.declared.context.Ctx.{Ctx}
 use Rattle.yf_chars.specs.Class.{is_white}
@@ -110,7 +110,7 @@ module _ {t : List ℕ} where
       let x = line_in m.1 v (λ s. z.none h y (omega arith) s) in
       come_below d x.1 (line_indented (prefix_at_least f x.1)) r
 
-  -- after a separation the reader comes to the character
+  -- after a separation the reader reaches the next character
   pub gap_halts : {e i k j : ℕ} {ws : List ℕ} {b : Bool} {n : ℤ} {c : Ctx} {a : Ahead} {cs : List CommentValue} {o : Option ParsedNode} (d : Ctx) → is_key d ≡ false
       → Separate t (n +ℤ pos 1) d i k cs → Visible t k → Clear t i j → k < j → Halts t e ws (Awaited b n c a i) o → HaltsCame t e ws b n c a i k cs o
   gap_halts d n (in_key e s) v z q r = absurd (true≢false (sym e ∙ n))

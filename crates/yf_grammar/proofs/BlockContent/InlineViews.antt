@@ -76,7 +76,8 @@ module _ {t : List ℕ} where
   halts_view s k (Halting.halts_properties_apart y z q d j) = view_apart q j refl
   halts_view s k (Halting.halts_leaf y z q r) = view_leaf q r
 
--- what both readers have: the view of a line, and that they come to a line after the end of that of properties
+-- the common facts of both readers: the view of a line, and that they reach the line after properties that end their
+-- line
 pub record Reads (t : List ℕ) (e : ℕ) (R : Reader) (Q : Option ParsedNode → Type 0) : Type 0 where
   pub something : Q None → ⊥
   pub inline : {p : ℕ} {n : ℤ} {c : Ctx} {cols : Columns} {a : Ahead} {o : Option ParsedNode} → NoSignAt t p → NotKey t e n p → R (Inline n c cols a p) o → InlineView t R n c a p o

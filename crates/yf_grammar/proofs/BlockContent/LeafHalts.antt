@@ -1,4 +1,5 @@
--- A flow node without properties is reached as a leaf: the last halt there is as late as each place after it at which all may end.
+-- The reader reaches a flow node without properties as a leaf: its last halt is no sooner than each offset after the
+-- node at which all nodes may end.
 use Rattle.std.proofs.Common.{◌≡◌, ℕ, ℤ, pos, ◌+ℤ◌, ◌<◌, ◌≤◌, Bool, true, false, inl, inr, ⊎_elim, List, Option, refl, sym, ap, ◌∙◌, subst, arith, true≢false}
 use Rattle.std.proofs.lemmas.Bool.{cases_lt}
 use Rattle.std.specs.Str.{IsUtf8}

@@ -80,7 +80,7 @@ module _ {t : List ℕ} (u : IsUtf8 t) where
       → KeyBefore t p v z → v.end ≡ l → ⊥
   ends_there {z = z} d e b q = no_line_end_before u (node_next u d) (subst (λ w. Many t is_white w z b.whites) q b.run) (colon_visible u b.colon) e
 
-  -- a longer plain scalar goes on on another line
+  -- a longer plain scalar continues on another line
   tail_breaks : {k p l z : ℕ} {n : ℤ} {v : ParsedNode} → Tail t n FlowOut k l → p ≤ k → KeyBefore t p v z → l ≤ v.end → ⊥
   tail_breaks a q b m =
       let f = a.end in

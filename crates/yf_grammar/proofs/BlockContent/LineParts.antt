@@ -97,7 +97,7 @@ module _ {t : List ℕ} where
   last_row done = no_row refl
   last_row (step r c) = last_after done r c
 
-  -- rows up to one place mean one list of comments
+  -- rows with one end mean one list of comments
   rows_still : {i j : ℕ} {x : List CommentValue} → Chain (Row t) i j x → j ≤ i → x ≡ []
   rows_still done l = refl
   rows_still (step r c) l = let f = r.later in let g = chain_forward row_functional c in absurd (omega arith)
@@ -108,7 +108,7 @@ module _ {t : List ℕ} where
     go {x} (goes_on z d e) = e ∙ ap (λ w. x ++ w) (rows_still d (omega arith)) ∙ append-nil x
     go {y = y} (falls_short z d e) = sym (e ∙ ap (λ w. y ++ w) (rows_still d (omega arith)) ∙ append-nil y)
 
-  -- before the end of a row no other place is reached
+  -- no run of rows ends inside a row
   none_before : {j k m : ℕ} {v z : List CommentValue} → Row t j k z → Chain (Row t) j m v → m < k → m ≤ j
   none_before r done q = omega arith
   none_before r (step s c) q = let a = row_functional.one_end r s in let f = chain_forward row_functional c in absurd (omega arith)
@@ -159,7 +159,7 @@ pub record LinesWithoutLast (t ws : List ℕ) (i j : ℕ) : Type 0 where
   pub best : Chosen (MayEnd t ws i) j comments
 
 module _ {t : List ℕ} (u : IsUtf8 t) {ws : List ℕ} {i k : ℕ} {ds : List CommentValue} (inside : LineStart t i → ⊥) (all : Chosen (LineEnd t i) k ds) (owed : NoColonAt t k ws → ⊥) where
-  -- each place at which all may end is before the whole end
+  -- each other offset at which all nodes may end is before the whole end
   shorter : {m : ℕ} {es : List CommentValue} → MayEnd t ws i m es → m < k
   shorter {m} {es} e = ⊎_elim (λ (l : m < k). l)
       (λ (l : k ≤ m). let f = all.longest m es e.line in let same : m ≡ k = omega arith in absurd (owed (subst (λ w. NoColonAt t w ws) same e.allowed)))

@@ -38,7 +38,7 @@ use Rattle.yf_grammar.proofs.FlowReader.PlainEnds.{plain_later}
 use Rattle.yf_grammar.proofs.BlockContent.PlainTails.{FoldEnd, fold_end, fold_chosen, next_visible, tail_of, tail_before}
 use Rattle.yf_plain.proofs.PlainOrder.{items_forward}
 
--- the last place after a break that begins at the first offset or after it, before the other offset
+-- the last end of a break that begins at the first offset or after it, before the other offset
 pub record LastLine (t : List ℕ) (i l j : ℕ) : Type 0 where
   pub from : ℕ
   pub ends : Break t from j
@@ -156,7 +156,7 @@ shown i k x ds = noting (scalar PlainStyle (encode_utf8_all x) [] i k) ds
 shown_same : {k l : ℕ} {x y : List ℕ} {ds es : List CommentValue} (i : ℕ) → k ≡ l → x ≡ y → ds ≡ es → shown i k x ds ≡ shown i l y es
 shown_same {k} {l} {x} {y} {ds} {es} i a b c = ap (λ w. shown i w x ds) a ∙ ap (λ w. shown i l w ds) b ∙ ap (shown i l y) c
 
--- the scalar without its last line, which ends at the place
+-- the scalar without its last line, which ends at `place`
 pub record WithoutLast (t : List ℕ) (n : ℤ) (ws : List ℕ) (i j : ℕ) : Type 0 where
   pub place : ℕ
   pub text : List ℕ

@@ -94,7 +94,7 @@ module _ {t : List ℕ} (u : IsUtf8 t) where
   pub next_visible : {n : ℤ} (c : Ctx) {i h : ℕ} {x : List ℕ} → FoldsTo t n i h x → is_plain_char t c h ≡ true → Visible t h
   next_visible c {h = h} f e = record { ns = plain_is_ns t c h e; no_hash = λ q. true≢false (sym e ∙ plain_hash t c h q ∙ fold_before u f) }
 
-  -- so the end of the line goes up to that line, and no further
+  -- so the end of the line reaches that line, and no further one
   pub fold_chosen : {n : ℤ} {i h : ℕ} (f : FoldEnd t n i h) → Visible t h → Chosen (LineEnd t i) f.line []
   fold_chosen f v = let s = visible_solid v in line_end_chosen f.end (row_stuck (stuck_at_solid f.whites s.not_white s.no_comment s.no_end))
 
@@ -115,7 +115,7 @@ module _ {t : List ℕ} (u : IsUtf8 t) where
       no_end_there u b (subst (λ m. is_ns_char (code t m) ≡ true) same (plain_is_ns t c h e)) d)
       (cases_lt k h)
 
--- a shorter scalar, after which the line ends, goes on with a next line
+-- a shorter scalar before the end of a line continues on the next line
 pub record Tail (t : List ℕ) (n : ℤ) (c : Ctx) (k l : ℕ) : Type 0 where
   pub place : ℕ
   pub text : List ℕ

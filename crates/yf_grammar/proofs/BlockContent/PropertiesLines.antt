@@ -1,5 +1,5 @@
--- Properties of a block node: all on one line, or one on a line and the other on a later one. Those of one line are what the
--- reader takes of it.
+-- Properties of a block node: all on one line, or one on a line and the other on a later one. The reader takes all
+-- properties of a line.
 use Rattle.std.proofs.Common.{◌≡◌, ℕ, ℤ, pos, false, List, refl, sym, ap, ◌∙◌, append-nil, true≢false}
 use Rattle.std.specs.Str.{IsUtf8}
 use Rattle.yf_chars.specs.declared.context.Ctx.{Ctx}

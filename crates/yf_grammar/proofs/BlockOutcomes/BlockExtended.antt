@@ -12,7 +12,7 @@ use Rattle.yf_grammar.specs.Productions.Grammar.{Production, FlowNode, NodeOf, J
 use Rattle.yf_grammar.specs.Productions.Grammar.Derives.{flow_node, an_alias, a_plain, a_plain_with, properties_alone, a_json, a_json_with, a_single, a_double, an_empty_collection, a_collection, last_entry, last_entry_with_comma, more_entries, a_node_entry, a_pair_entry, an_explicit_entry, an_implicit_entry, an_explicit_pair, a_keyed_pair, an_unkeyed_pair, explicit_with, explicit_without, key_alone, key_and_value, value_alone, empty_value, a_value, a_key, a_block_scalar, a_block_scalar_with, a_block_collection, a_block_collection_with, flow_in_block, a_last_entry, an_entry_before, a_dash_entry, an_explicit_entry_with, an_explicit_key_alone, a_keyed_entry, an_unkeyed_entry, a_block_value, an_empty_block_value, a_compact_collection, an_indented_node, nothing_indented}
 use Rattle.yf_grammar.proofs.FlowReader.ParserLemmas.{moved}
 
--- whether it ends with a block scalar; of flow productions this is not asked
+-- whether it ends with a block scalar; false for flow productions
 unfoldable pub by_scalar : {t : List ℕ} {h i j : ℕ} {p : Production} {x : Meaning} → Derives t h p i j x → Bool
 by_scalar (flow_node _) = false
 by_scalar (an_alias _ _) = false

@@ -156,7 +156,7 @@ module _ {t : List ℕ} (u : IsUtf8 t) where
       → Chosen (Properties t (pos 0) FlowKey i) g q → LineEnd t g l ds → ⊥
   key_no_line d s c e = key_no_line_end d s c.derived e
 
--- what the first entry of a mapping begins with
+-- the beginning of the first entry of a mapping
 pub data FirstEntry (t : List ℕ) (h i j : ℕ) : Type 0 where
   question_first : SignAt t 63 i → FirstEntry t h i j
   colon_first : SignAt t 58 i → FirstEntry t h i j

@@ -1,5 +1,5 @@
--- After a separation the reader of block nodes comes to the character that is separated: on the line of an indicator, or on
--- a later one.
+-- After a separation, the reader of block nodes reaches the next character: on the line of an indicator, or on a later
+-- one.
 use Rattle.std.proofs.Common.{◌≡◌, ◌≢◌, ℕ, suc, zero, ◌+◌, ◌<◌, ◌≤◌, ℤ, pos, ◌+ℤ◌, ◌≤ℤ◌, Bool, true, false, ⊎_elim, List, [], Option, refl, sym, ap, ◌∙◌, subst, arith, true≢false}
 use Rattle.std.proofs.lemmas.Bool.{cases_lt, cases_eq}
 use Rattle.std.proofs.lemmas.Int.{ints}
@@ -57,7 +57,7 @@ pub data Came (t : List ℕ) (e : ℕ) (b : Bool) (n : ℤ) (c : Ctx) (a : Ahead
   on_the_line : {cols : Columns} → cs ≡ [] → Stuck (LineEnd t i) → Compact t b n i k cols → Whole t e (Inline n c cols a k) o → Came t e b n c a i k cs o
   on_a_line : {h m : ℕ} → Chosen (LineEnd t i) h cs → LineText t h m k → Begins t n c i h m k → CameBelow t e n c a h m k cs o → Came t e b n c a i k cs o
 
--- white space up to a place: spaces, and from the first other white on the rest
+-- white space up to an offset: spaces, and then the rest from the first tab on
 record Split (t : List ℕ) (h k : ℕ) : Type 0 where
   column : ℕ
   spaces : Spaces t h column
@@ -118,7 +118,7 @@ module _ {t : List ℕ} where
   pub spaces_within : {h l m k : ℕ} → Spaces t h l → LineText t h m k → l ≤ m
   spaces_within {h} {l} {m} s w = ⊎_elim (λ (q : m < l). absurd (w.no_space (s.each m q))) (λ (q : l ≤ m). q) (cases_lt m l)
 
-  -- a line end that goes nowhere
+  -- an empty line end
   rows_still : {i h : ℕ} {x : List CommentValue} → Chain (Row t) i h x → Stuck (Row t i) → (h ≡ i) × (x ≡ [])
   rows_still done s = (refl, refl)
   rows_still (step {h = h} {x = x} r c) s = absurd (s.none h x r)
@@ -198,7 +198,7 @@ module _ {t : List ℕ} where
       let x = line_in m.1 v (λ s. z.none h y (omega arith) s) in
       come_below d x.1 (line_indented (prefix_at_least f x.1)) r
 
-  -- after a separation the reader comes to the character
+  -- after a separation the reader reaches the next character
   pub gap_reached : {e i k j : ℕ} {b : Bool} {n : ℤ} {c : Ctx} {a : Ahead} {cs : List CommentValue} {o : Option ParsedNode} (d : Ctx) → is_key d ≡ false → Separate t (n +ℤ pos 1) d i k cs
       → Visible t k → Clear t i j → k < j → Whole t e (Awaited b n c a i) o → Came t e b n c a i k cs o
   gap_reached d n (in_key e s) v z q r = absurd (true≢false (sym e ∙ n))

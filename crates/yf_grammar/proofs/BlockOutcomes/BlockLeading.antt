@@ -38,7 +38,7 @@ after_twice cs ds x = ap (λ w. record x { comments = w }) (append_assoc cs ds x
 after_longer : (es cs ds fs : List CommentValue) (x : Meaning) → meaning_after ((es ++ cs) ++ ds ++ fs) x ≡ meaning_after es (meaning_after (cs ++ ds ++ fs) x)
 after_longer es cs ds fs x = ap (λ w. meaning_after w x) (simp append_assoc) ∙ after_twice es (cs ++ ds ++ fs) x
 
--- comment lines from the start of a line on, up to another place
+-- comment lines from the start of a line to an offset
 pub record LeadingLines (t : List ℕ) (g i : ℕ) (es : List CommentValue) : Type 0 where
   pub start : LineStart t g
   pub rows : Chain (Row t) g i es

@@ -1,4 +1,5 @@
--- Collections on lines of their own, compact ones, and empty nodes: what the reader finds of each, and what it reaches.
+-- Collections on lines of their own, compact ones, and empty nodes: the reader's outcomes for them, and how far it
+-- reaches.
 use Rattle.std.proofs.Common.{◌≡◌, ℕ, suc, ◌+◌, ◌-◌, ◌<◌, ◌≤◌, ℤ, pos, ◌≤ℤ◌, Bool, true, false, ⊎_elim, List, Option, Some, length, refl, sym, ap, ◌∙◌, subst, arith, true≢false}
 use Rattle.std.specs.Str.{IsUtf8}
 use Rattle.yf_chars.specs.declared.context.Ctx.{Ctx}
@@ -74,7 +75,7 @@ module _ {t : List ℕ} where
   pub no_line_end : {i k p : ℕ} {w : List ℕ} {x : List CommentValue} → (LineStart t i → ⊥) → Many t is_white i p w → Visible t p → LineEnd t i k x → ⊥
   no_line_end {k = k} {x = x} n m v d = let s = visible_solid v in (line_end_stuck n (stuck_at_solid m s.not_white s.no_comment s.no_end)).none k x d
 
-  -- a line end goes on, or the text ends
+  -- a line end is not empty, or the text ends
   pub line_end_moves : {i h m p : ℕ} {x : List CommentValue} → (LineStart t i → ⊥) → LineEnd t i h x → LineText t h m p → h ≡ i → ⊥
   line_end_moves {i} {h} n (past_rest {h = g} r c) w e =
       let a : i ≤ g = rows_order (past_rest r done) in

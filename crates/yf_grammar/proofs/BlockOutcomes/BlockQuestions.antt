@@ -17,7 +17,7 @@ use Rattle.yf_grammar.proofs.BlockOutcomes.BlockItems.{exact_end, exact_height, 
 use Rattle.yf_grammar.proofs.BlockOutcomes.OutcomeMade.{makes_exact, makes_longest, makes_further, makes_lone_key, makes_pair, pair_exact, pair_longest}
 
 module _ {t : List ℕ} where
-  -- one sign is at a place
+  -- an offset has one sign
   pub one_sign : {i : ℕ} → SignAt t 63 i → SignAt t 58 i → ⊥
   one_sign a b = let x = a.sign_is_at in let y = b.sign_is_at in absurd (omega arith)
 

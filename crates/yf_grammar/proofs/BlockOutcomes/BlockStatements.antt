@@ -44,7 +44,7 @@ module _ {t : List ℕ} (u : IsUtf8 t) where
   plain_is_whole = record { whole = λ p d a. whole_plain u p (may_end_chosen d a) }
 
 module _ {t : List ℕ} (u : IsUtf8 t) {h e i j : ℕ} {n : ℤ} {c : Ctx} {x : Meaning} (d : Derives t h (BlockNode n c) i j x) (within : h ≤ e) (clear : Clear t i j) where
-  -- a node is what the reader finds, before what can follow it
+  -- the reader finds a node before text that can follow it
   pub node_is_found : {b : Bool} {a : Ahead} {o : Option ParsedNode} → Follow t (by_scalar d) n c j → Unheld a → Whole t e (Awaited b n c a i) o → o ≡ found j h false x
   node_is_found {b} {a} {o} f y r = (cover u (line_reading u) d e within clear f b a y o r).is
 

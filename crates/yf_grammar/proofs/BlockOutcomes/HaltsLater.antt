@@ -18,7 +18,7 @@ use Rattle.yf_grammar.proofs.BlockOutcomes.BlockGaps.{whites_order, rows_order}
 use Rattle.yf_grammar.proofs.BlockOutcomes.OutcomeEnds.{collected_end, leaf_end, with_plain_end, item_end, lone_key_end, lone_value_end, pair_end, items_end, alone_end, told_of, then_of}
 use Rattle.yf_props.proofs.NameOrder.{properties_forward}
 
--- an end after the place of a task
+-- an end after the offset of a task
 abbrev pub Beyond : BlockTask → ℕ → Type 0
 Beyond (Awaited b n c a i) z = i ≤ z
 Beyond (Below n c a i) z = i ≤ z

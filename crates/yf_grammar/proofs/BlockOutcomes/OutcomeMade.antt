@@ -30,7 +30,7 @@ module _ {made : ParsedNode → Option ParsedNode} {put : Meaning → Meaning} {
       (ap (then_found made) l.is ∙ then_is made f ∙ m.is f ∙ found_is f.end (deep f.height) false (put f.meaning))
       (⊎_elim (λ (q : j < f.end). inl q) (λ (q : (j ≡ f.end) × (x ≡ f.meaning)). inr (q.0, ap put q.1)) l.far)
 
-  -- it ends after a place, and the part before it does not
+  -- it ends after j, so it is longer than each part up to j
   pub makes_further : (g : ParsedNode) (j : ℕ) (x : Meaning) → Makes made put deep → j < g.end → Longest (made g) j x
   makes_further g j x m l =
       longest_of (record { end = g.end; height = deep g.height; json = false; meaning = put g.meaning }) (m.is g ∙ found_is g.end (deep g.height) false (put g.meaning)) (inl l)

@@ -1,4 +1,4 @@
--- What the reader of block nodes finds, whole or not, covers no forbidden line.
+-- The outcomes of the reader of block nodes, whole or not, cover no forbidden line.
 use Rattle.std.proofs.Common.{◌≡◌, ◌≢◌, ℕ, suc, ◌+◌, ◌<◌, ◌≤◌, ℤ, Bool, true, false, List, [], Option, Some, refl, sym, ap, ◌∙◌, subst, arith, true≢false}
 use Rattle.std.proofs.lemmas.Bool.Decides.{nat_tests}
 use Rattle.std.specs.Str.{IsUtf8}

@@ -58,7 +58,7 @@ module _ {t : List ℕ} {e : ℕ} {task : BlockTask} {B : Type 0} where
   whole_tells : Irrefutable (Wholes.Answer t e task) → ((f : ParsedNode) → Whole t e task (Some f) → Irrefutable B) → (Whole t e task None → Irrefutable B) → Irrefutable B
   whole_tells a some none = then a (λ r. by_whole r.outcome r.read some none)
 
--- places at which a leaf may end
+-- offsets at which a leaf may end
 module _ {t : List ℕ} (u : IsUtf8 t) (ws : List ℕ) where
   may_end_reached : (i : ℕ) → Irrefutable (ChosenOrStuck (MayEnd t ws i))
   may_end_reached i = takes (line_end_reached u i)

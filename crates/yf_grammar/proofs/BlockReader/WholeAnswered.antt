@@ -122,7 +122,7 @@ module _ {t : List ℕ} where
   dash_no_key {o = Some f} d r = absurd (node_no_dash refl (found_is_derived refl r).0 d)
 
 module _ {t : List ℕ} (u : IsUtf8 t) where
-  -- white space from a white on, as far as it goes
+  -- the longest run of white space from a white character
   pub past_whites : {B : Type 0} (i : ℕ) → is_white (code t i) ≡ true → ((p : ℕ) (w : List ℕ) → Many t is_white i p w → i < p → is_white (code t p) ≡ false → Irrefutable B) → Irrefutable B
   past_whites i e f = takes (whites_reached u i)
       (λ p w m. ⊎_elim

@@ -61,7 +61,7 @@ collections_end {t} {d} {root} {at} {ls} {h} {xs = l ∷ xs} {e = e} {f = f} (on
     let rest = collections_end a (collection_ends (entry_was_read r n.no_colon) n.no_entry) in
     subst (λ (z : ℕ). NodeRead t d root ls z (rounds (l ∷ xs) f) at h) (omega arith) rest
 
--- so does a line that is less deep than all of them, and the want of a line
+-- a line that is less deep than all of them ends them, and so does the end of the lines
 pub dedent_ends : {t : List ℕ} {at m p : ℕ} {ls : List Layer} → LineText t at m p → AllDeeper m ls → AllEnd t at ls
 dedent_ends w no_more = all_ended
 dedent_ends w (one_deeper d a) = one_ends (less_deep_ends w d) (dedent_ends w a)

@@ -1,4 +1,5 @@
--- A reader of block nodes with a stack keeps the outcomes of `Whole` and `Halts`: what a broken node makes of the outermost one.
+-- A reader of block nodes with a stack keeps the outcomes of `Whole` and `Halts`: the outermost outcome when a node is
+-- broken.
 use Rattle.std.proofs.Common.{◌≡◌, ℕ, ◌+◌, false, List, [], ◌∷◌, length, Option, Some, None, refl, sym, ap, subst, arith}
 use Rattle.yf_grammar.specs.FlowReader.Parser.{ParsedNode}
 use Rattle.yf_grammar.specs.BlockReader.BlockParser.{BlockTask, Item, Whole}
@@ -38,7 +39,7 @@ room_left outermost = omega arith
 room_left (in_entry a n y s) = let b = room_left a in omega (arith, b)
 room_left (in_key a n u k s) = let b = room_left a in omega (arith, b)
 
--- the columns that are asked for round a node of an entry that asks for none, and of the key after a `?`
+-- the columns of open `?` entries round the node of an entry that is no such entry, and round the key after a `?`
 pub entry_asked : {t : List ℕ} {e : ℕ} {inner : BlockTask} {o : Option ParsedNode} (ls : List Layer) (l : Layer) → asks l.stage ≡ false → Halts t e (asked (l ∷ ls)) inner o
     → Halts t e (asked ls) inner o
 entry_asked {t} {e} {inner} {o} ls l s h = subst (λ b. Halts t e (column_if b l.column (asked ls)) inner o) s h

@@ -47,7 +47,7 @@ use Rattle.yf_grammar.proofs.Ends.Forward.{in_line_forward}
 use Rattle.yf_grammar.proofs.FlowReader.PlainEnds.{plain_later}
 use Rattle.yf_grammar.proofs.FlowReader.QuotedEnds.{single_later, double_later}
 
--- a comment at a place: # and the characters after it
+-- a comment at an offset: # and the characters after it
 pub record CommentIsAt (t : List ℕ) (i : ℕ) (text : List ℕ) : Type 0 where
   pub sign : code t i ≡ 35
   pub end : ℕ
@@ -55,7 +55,7 @@ pub record CommentIsAt (t : List ℕ) (i : ℕ) (text : List ℕ) : Type 0 where
   pub chain : Many t is_nb_char (i + 1) end characters
   pub is : text ≡ slice_range t i end
 
--- comments of a text in order, from one place up to another
+-- comments of a text in order, from one offset to another
 pub data Ascend (t : List ℕ) : ℕ → List CommentValue → ℕ → Type 0 where
   no_more : {i j : ℕ} → i ≤ j → Ascend t i [] j
   one_more : {i j : ℕ} {c : CommentValue} {cs : List CommentValue} → i ≤ c.offset → CommentIsAt t c.offset c.text → Ascend t (c.offset + 1) cs j

@@ -32,7 +32,7 @@ module _ {t : List ℕ} where
   clear_rows {i} u done = clear_nothing t i
   clear_rows u (step r c) = clear_join (clear_rest u r.rest) (clear_rows u c)
 
-  -- no line of a node begins at comment lines, nor where `LinesEnd` holds
+  -- no line of a node begins at comment lines, nor at an offset with `LinesEnd`
   no_line_there : {j k m p : ℕ} {es : List CommentValue} → Chain (Row t) j k es → LinesEnd t k → LineText t j m p → ⊥
   no_line_there done l w = w.goes_on l
   no_line_there (step {h = h} {x = x} r c) l w = (line_still w).none h x r

@@ -1,4 +1,4 @@
--- Runs of white space and breaks: what a separation begins with, and the characters of a plain scalar after them.
+-- Runs of white space and breaks: the starts of separations, and the characters of a plain scalar after such runs.
 use Rattle.std.proofs.Common.{◌≡◌, ◌≢◌, ℕ, ℤ, ◌+◌, ◌<◌, ◌≤◌, Bool, true, false, ◌||◌, ◌⊎◌, inl, inr, ⊎_elim, List, [], ◌∷◌, ◌++◌, refl, sym, ap, ◌∙◌, subst, arith, true≢false}
 use Rattle.std.proofs.lemmas.Bool.{cases_Bool, cases_eq}
 use Rattle.std.proofs.lemmas.Bool.Decides.{nat_tests}
@@ -180,7 +180,7 @@ module _ {t : List ℕ} where
   separate_front (in_key e s) = all_blank (blanks_of_line s)
   separate_front (in_node e s) = separate_lines_front s
 
--- a character of content ends at the place
+-- a character of content ends at the offset
 pub record ContentBefore (t : List ℕ) (k : ℕ) : Type 0 where
   pub at : ℕ
   pub char : ℕ

@@ -33,7 +33,7 @@ use Rattle.yf_grammar.specs.FlowReader.Parser.Gap.{longest_gap, no_gap}
 use Rattle.yf_grammar.proofs.Ends.BlankRuns.{ContentBefore, no_start_past}
 use Rattle.yf_chars.proofs.CharFacts.{feed_no_ns}
 
--- a character that begins no separation is at the place
+-- a character that begins no separation is at the offset
 pub record Visible (t : List ℕ) (k : ℕ) : Type 0 where
   pub ns : is_ns_char (code t k) ≡ true
   pub no_hash : code t k ≢ 35
@@ -84,7 +84,7 @@ module _ {t : List ℕ} where
   still_lines v (in_line s) = (still_line v s, refl)
   still_lines v (over_lines d p) = still_over v (still_rows v (line_end_rows d)) p
 
-  -- a separation from there goes nowhere
+  -- a separation at a visible character is empty
   pub separate_still : {n : ℤ} {c : Ctx} {k m : ℕ} {x : List CommentValue} → Visible t k → Separate t n c k m x → (m ≡ k) × (x ≡ [])
   separate_still v (in_key e s) = (still_line v s, refl)
   separate_still v (in_node e s) = still_lines v s

@@ -53,7 +53,7 @@ pub found_is_key : {t : List ℕ} {e i : ℕ} {c : Ctx} {f : ParsedNode} {part :
     → Noting t 0 f.meaning.events part.events → part.comments ≡ f.meaning.comments → part.escapes ≡ f.meaning.escapes → KeyPart t e c i f.end part
 found_is_key {f = f} u b p events comments escapes = key_node f.json (found_is_part u b p events comments escapes)
 
--- there is one way to note
+-- a note has one value
 noted_one : {t : List ℕ} {floor i : ℕ} {a b : Bool} → NotedSince t floor i a → NotedSince t floor i b → a ≡ b
 noted_one (noted x) (noted y) = refl
 noted_one (noted x) (not_noted n) = absurd (n x)

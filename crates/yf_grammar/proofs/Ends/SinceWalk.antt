@@ -1,4 +1,4 @@
--- Going back from a place to a floor over white space, breaks and marks, as long as no blank line is met.
+-- The walk back from an offset to a floor over white space, breaks and marks, as long as it meets no blank line.
 use Rattle.std.proofs.Common.{◌≡◌, ◌≢◌, ℕ, ◌+◌, ◌-◌, ◌<◌, ◌≤◌, Bool, true, false, ◌⊎◌, inl, inr, ⊎_elim, List, refl, sym, ap, ◌∙◌, subst, arith, true≢false}
 use Rattle.std.proofs.lemmas.Bool.{cases_lt}
 use Rattle.std.specs.Str.{IsUtf8}
@@ -23,7 +23,7 @@ abbrev pub EndsSince : List ℕ → ℕ → ℕ → Bool → Type 0
 EndsSince t floor j true = Blank t j ⊎ BlankSince t floor j
 EndsSince t floor j false = BlankSince t floor j
 
--- the walk back from i has come to j
+-- the walk back from i has reached j
 pub record WalkedSince (t : List ℕ) (floor i j : ℕ) (blank : Bool) : Type 0 where
   pub there : EndsSince t floor j blank → BlankSince t floor i
   pub back : BlankSince t floor i → EndsSince t floor j blank
@@ -167,7 +167,7 @@ module _ (t : List ℕ) (u : IsUtf8 t) (floor : ℕ) where
         not_noted (λ d. ⊎_elim (λ (e : Blank t j). no_blank t u j z w n e) (λ (e : BlankSince t floor j). no_before t u j w m n k.outside (since_before e)) (k.back d))
     since_none false z w m n k = not_noted (λ d. no_before t u j w m n k.outside (since_before (k.back d)))
 
-    -- the walk has come to the floor
+    -- the walk has reached the floor
     pub since_end : (b : Bool) → (floor < i → Blank t floor) → j ≤ floor → WalkedSince t floor i j b → NotedSince t floor i b
     since_end true c l k =
         let e : floor ≡ j = let h = k.high refl in omega arith in

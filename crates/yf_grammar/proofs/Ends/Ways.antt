@@ -1,5 +1,5 @@
--- Ways to an outcome: a test, the longest part of a leaf production, or the outcome of another task decides how to go on.
--- Two ways of one form lead to one outcome.
+-- Ways to an outcome: a test, the longest part of a leaf production, or the outcome of another task decides the next
+-- step. Two ways of one form lead to one outcome.
 use Rattle.std.proofs.Common.{◌≡◌, ℕ, suc, ℤ, Bool, List, Option, Some, None, refl, sym, ◌∙◌, subst, arith}
 use Rattle.yf_chars.specs.declared.context.Ctx.{Ctx}
 use Rattle.yf_chars.specs.Chain.{Chosen, Stuck}

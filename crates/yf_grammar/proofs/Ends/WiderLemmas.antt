@@ -114,7 +114,7 @@ module _ {t : List ℕ} where
   wider_may w unseparated = unseparated
   wider_may w (separated s) = separated (wider_separate w s)
 
-  -- of keys neither the indentation nor the context matters
+  -- neither the indentation nor the context of a key matters
   pub key_properties : {n : ℤ} {c : Ctx} {i j : ℕ} {p : PropertiesValue} (m : ℤ) (d : Ctx) → is_key c ≡ true → Properties t n c i j p → Properties t m d i j p
   key_properties m d k (by_tag g) = by_tag g
   key_properties m d k (by_anchor a) = by_anchor a

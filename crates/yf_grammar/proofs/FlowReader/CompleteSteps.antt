@@ -81,7 +81,7 @@ module _ {t : List ℕ} where
   pub node_no_colon : {d : Ctx} {i j : ℕ} → NodeStarts t d i j → ColonAt t false d i → ⊥
   node_no_colon s q = true≢false (sym (s.colon q.colon) ∙ q.follows)
 
-  -- a `?` at which a node begins is not after it separated from what follows
+  -- no separation follows a `?` at which a node begins
   pub sign_stuck : {m : ℤ} (d : Ctx) (i : ℕ) → IsUtf8 t → (code t i ≡ 63 → is_plain_safe (code t (i + 1)) d ≡ true) → code t i ≡ 63 → Stuck (Separate t m d (i + 1))
   sign_stuck d i u f e = separate_stuck (i + 1) u (after_byte i u e (omega arith) sign_facts.1) (safe_is_ns (code t (i + 1)) d (f e))
 
@@ -172,7 +172,7 @@ pub noting_twice : (x : Meaning) (cs ds : List CommentValue) → noting (noting 
 unfolding noting
 noting_twice x cs ds = ap (λ w. record x { comments = w }) (append_assoc x.comments cs ds)
 
--- after `?` nothing, up to what ends the entry
+-- nothing after `?`, up to the end of the entry
 nothing_comments : (s l : ℕ) (cs ds : List CommentValue)
     → noting (meaning_after (cs ++ ds) (entering s None (empty_node l) ⊕ empty_node l)) [] ≡ noting (meaning_after cs (entering s None (empty_node l) ⊕ empty_node l)) ds
 unfolding noting meaning_after entering empty_node ◌⊕◌

@@ -1,4 +1,4 @@
--- A quoted scalar or flow collection is found as it is derived, but for a quoted scalar before a quote.
+-- The reader finds a quoted scalar or flow collection as it is derived, except a quoted scalar before a quote.
 use Rattle.std.proofs.Common.{◌≡◌, ℕ, ℤ, suc, ◌+◌, ◌<◌, ◌≤◌, Bool, true, false, ⊎_elim, List, [], Option, Some, None, refl, sym, ap, ◌∙◌, subst, arith, encode_utf8_all}
 use Rattle.std.proofs.lemmas.Bool.{cases_lt}
 use Rattle.std.proofs.lemmas.Option.{same_Some}

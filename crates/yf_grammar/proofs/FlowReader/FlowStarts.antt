@@ -1,4 +1,5 @@
--- What flow productions begin with: a character that no separation goes on with, and no end of an entry; and that they go on.
+-- The first characters of flow productions, which continue no separation and end no entry; and that these productions
+-- are not empty.
 use Rattle.std.proofs.Common.{◌≡◌, ◌≢◌, ℕ, ℤ, ◌+◌, ◌<◌, ◌≤◌, Bool, true, false, ◌||◌, ◌==◌, List, refl, sym, ap, ◌∙◌, arith, true≢false, not}
 use Rattle.std.proofs.lemmas.Bool.{and_parts}
 use Rattle.std.proofs.lemmas.Bool.Decides.{nat_tests}
@@ -104,7 +105,7 @@ in_flow_not_block FlowIn b = refl
 in_flow_not_block BlockKey b = refl
 in_flow_not_block FlowKey b = refl
 
--- what the first character of a part says
+-- the part is not empty, and its first character is visible and ends no entry
 pub record Starts (t : List ℕ) (i j : ℕ) : Type 0 where
   pub later : i < j
   pub visible : Visible t i

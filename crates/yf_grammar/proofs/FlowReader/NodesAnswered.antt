@@ -230,7 +230,7 @@ module _ {t : List ℕ} (u : IsUtf8 t) (m : ℕ) (known : (e : ℕ) (task : Task
       then (known e (AnImplicit n c s i) v (omega arith)) (λ r. answer (Parser.explicit_something a r.read)))
       (cases_Bool ((code t i == 44) || (code t i == 93) || (code t i == 125)))
 
-  -- a value at a place, which always is found
+  -- a value, which is always found
   has_value : {B : Type 0} (e i : ℕ) (json : Bool) (n : ℤ) (c : Ctx) → Inside c → weight t (AValue json n c i) < m
       → ((g : ParsedNode) → Parses t e (AValue json n c i) (Some g) → Irrefutable B) → Irrefutable B
   has_value e i json n c v w f = asks (known e (AValue json n c i) v w) f (λ r. absurd (value_found r refl))

@@ -197,7 +197,7 @@ prefix_in_line {t} {n} {i} {j} s p =
     (λ (l : j ≤ i). let same : i ≡ j = omega arith in subst (λ k. SeparateInLine t i k) same (at_start s))
     (cases_lt i j)
 
--- the lines of comments after the start of a line: on one line there is none
+-- the lines of comments after the start of a line: one line has none
 no_lines : {t : List ℕ} {a z i h : ℕ} {x : List CommentValue} → AllOnLine t a z → a ≤ i → h ≤ z → Chain (CommentLine t) i h x → (i ≡ h) × (x ≡ [])
 no_lines o l m done = (refl, refl)
 no_lines o l m (step s c) = let f = comment_lines_order c in absurd (no_line_end o l (omega arith) (comment_line_broken s))
@@ -258,7 +258,7 @@ module _ {t : List ℕ} {a z : ℕ} where
   double_key {n} o l m q =
       quoted_chars (double_means t) (λ h k y b u v. not_broken o (omega arith) (omega arith) (double_broken b)) (double_onward t) (double_break_onward t n) q
 
--- what a production within a flow collection derives on one line, it derives at n = 0 in a key
+-- a production that derives a part on one line within a flow collection derives it at n = 0 in a key
 abbrev Keyed : List ℕ → ℕ → Production → ℕ → ℕ → Meaning → Type 0
 Keyed t h (Grammar.FlowNode n c) i j x = is_inside c ≡ true → Derives t h (Grammar.FlowNode (pos 0) FlowKey) i j x
 Keyed t h (Grammar.NodeOf json n c) i j x = is_inside c ≡ true → Derives t h (Grammar.NodeOf json (pos 0) FlowKey) i j x

@@ -1,4 +1,4 @@
--- The recursive reader has one outcome: each task goes one way, which the text and the limit decide.
+-- The recursive reader has one outcome: the text and the limit decide the way of each task.
 use Rattle.std.proofs.Common.{◌≡◌, ◌≢◌, ℕ, suc, ◌+◌, ℤ, Bool, true, false, ◌==◌, ◌||◌, not, List, Option, refl, sym, ap, ◌∙◌, ⊎_elim, arith}
 use Rattle.std.proofs.lemmas.Bool.{true≢false, cases_eq}
 use Rattle.std.proofs.lemmas.Bool.Decides.{nat_tests}

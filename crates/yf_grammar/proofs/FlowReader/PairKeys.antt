@@ -30,7 +30,7 @@ module _ {t : List ℕ} {c : Ctx} where
   pub key_unique : {i k m : ℕ} {f : ParsedNode} → PairKey t c i f k → PairKey t c i f m → m ≡ k
   key_unique p q = (many_unique t is_white q.run (key_white q) p.run (key_white p)).0
 
-  -- no key is before what ends an entry
+  -- no key is before the end of an entry
   pub no_key_before_end : {n : ℤ} {i j k l : ℕ} {cs : List CommentValue} {f : ParsedNode} → MaySeparate t n c j l cs → is_end (code t l) ≡ true → f.end ≡ j
       → PairKey t c i f k → ⊥
   no_key_before_end {n} {i} {j} {k} {l} m e q p = go (may_front m) where

@@ -109,7 +109,7 @@ module _ {t : List ℕ} where
   tags_unique : {i w v : ℕ} → Run (TagChar t) i w → Run (TagChar t) i v → w ≡ v
   tags_unique r s = run_unique tag_functional r s
 
-  -- two shorthands from one place
+  -- two shorthands from one offset
   two_handles : {i h g m k : ℕ} → Handle t i h → Run (TagChar t) h g → Handle t i m → Run (TagChar t) m k → is_stop (code t g) ≡ true → g < k → ⊥
   two_handles (primary_handle a) r (primary_handle b) s e l = let q = tags_unique r s in omega arith
   two_handles (primary_handle a) r (secondary_handle b c) s e l = no_tag_at 33 r c exclamation_no_tag (λ q. absurd (omega arith))
@@ -164,7 +164,7 @@ module _ {t : List ℕ} where
   tag_before_stop (shorthand_tag d) e f l = shorthand_short d e f l
   tag_before_stop (non_specific_tag a s) e f l = alone_short s e f l
 
-  -- and so is one before a separation
+  -- likewise before a separation
   pub tag_before_separation : {n : ℤ} {c : Ctx} {i g k m : ℕ} {v w : TagValue} {x : List CommentValue} → IsUtf8 t → TagProperty t i g v → TagProperty t i k w
       → Separate t n c g m x → g < k → ⊥
   tag_before_separation {g = g} {m = m} {x = x} u d e s l =
@@ -172,7 +172,7 @@ module _ {t : List ℕ} where
       let all = tag_all_solid e in
       (no_separation_inside t u (g - 1) g (omega arith) (all.each (g - 1) (omega arith) (omega arith)) (all.each g (omega arith) l)).none m x s
 
--- after the properties that end at g no longer tag goes on, and no anchor or tag is after a separation
+-- properties end at g: no longer tag is derived, and no anchor or tag follows a separation there
 record Ended (t : List ℕ) (n : ℤ) (c : Ctx) (g : ℕ) : Type 0 where
   no_longer : {i k : ℕ} {v w : TagValue} → TagProperty t i g v → TagProperty t i k w → g < k → ⊥
   no_second : (k : ℕ) (x : List CommentValue) → Separate t n c g k x → (code t k ≡ 33) ⊎ (code t k ≡ 38) → ⊥

@@ -28,7 +28,7 @@ module _ {A : Type 0} {t : List ℕ} {put : List ℕ → List A} {C B : ℕ → 
       let f = chain_forward (step_functional l) b.steps in
       let g = l.order b.at j b.last b.gap in omega arith
 
-  -- a body that goes on after the quote at which another one closes has a character there
+  -- if a body continues after the closing quote of another one, it has a character there
   longer_body : {m p j k : ℕ} {last other z : List A} → Laws t put C B quote → Gap t put B m j last → code t j ≡ quote
       → Chain (Step t put C B) m p z → Gap t put B p k other → code t k ≡ quote → j < k → (h : ℕ) × (w : List A) × C j h w
   longer_body {m} {j = j} {k = k} {last = last} {other = other} l g q done h r o =

@@ -26,7 +26,7 @@ pub data Closed (t : List ℕ) (e : ℕ) (sequence : Bool) (n : ℤ) (c : Ctx) (
   closed_after : (x : Meaning) → Derives t f.height (Grammar.Entries sequence n c) i f.end x → f.height ≤ e → Same x f.meaning
       → code t f.end ≡ closing sequence → Closed t e sequence n c i f
 
--- what the outcome of each task says
+-- the claim about the outcome of each task
 abbrev pub Sound : List ℕ → ℕ → Task → Option ParsedNode → Type 0
 Sound t e task None = Unit {0}
 Sound t e (Parser.ANode n c i) (Some f) = is_block c ≡ false → Made t e (Grammar.NodeOf f.json n c) i f

@@ -1,4 +1,4 @@
--- The way that each task of the recursive reader of flow nodes goes, over the outcomes of the tasks that it calls for.
+-- The way of each task of the recursive reader of flow nodes, over the outcomes of the tasks that it calls.
 use Rattle.std.proofs.Common.{◌≡◌, ◌≢◌, ℕ, max, ◌+◌, ◌<◌, ◌≤◌, ℤ, Bool, true, false, ◌==◌, ◌||◌, List, [], ◌++◌, Option, Some, None, encode_utf8_all}
 use Rattle.yf_chars.specs.declared.context.Ctx.{Ctx}
 use Rattle.yf_chars.specs.Text.{code}

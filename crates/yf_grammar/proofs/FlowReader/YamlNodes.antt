@@ -1,4 +1,5 @@
--- Nodes like those of YAML are found as they are derived, inside of a flow collection and before what can follow them.
+-- The reader finds nodes like those of YAML as they are derived, inside of a flow collection and before text that can
+-- follow them.
 use Rattle.std.proofs.Common.{◌≡◌, ℕ, ℤ, Bool, true, false, List, Option, None, sym, ◌∙◌, arith}
 use Rattle.std.specs.Str.{IsUtf8}
 use Rattle.yf_chars.specs.declared.context.Ctx.{Ctx}

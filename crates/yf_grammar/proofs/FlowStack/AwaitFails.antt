@@ -119,7 +119,7 @@ module _ {t : List ℕ} {n : ℤ} {c d : Ctx} {i h : ℕ} {x : Meaning} {s : ℕ
       let m = not_ended sequence (code t p) q in
       entry_stays_open a z l.3 l.4 m.0 m.1
 
-  -- there is one, with content after it that belongs to no entry
+  -- the node is found, but content follows it that belongs to no entry
   pub lone_fails : {sequence pair : Bool} {e p g k : ℕ} {y : Meaning} {cs : List CommentValue} (f : ParsedNode) → NodeAwaited t n d s sequence e pair p g y
       → EntriesAwaited t (with_pair pair e) sequence n c d i h x s → code t s ≢ closing sequence → Parses t e (ANode n d p) (Some f) → Gap t n d f.end k cs
       → begins_content (code t k) ≡ true → Parses t (suc (with_pair pair e)) (AContent n c i) None

@@ -36,12 +36,12 @@ pub data HasCharacters : PropsValue → ScalarStyle → List ℕ → Type 0 wher
   by_text : {props : PropsValue} {style : ScalarStyle} {text : List ℕ} → 0 < length text → HasCharacters props style text
   by_style : {props : PropsValue} {style : ScalarStyle} {text : List ℕ} → style ≢ Plain → HasCharacters props style text
 
--- a node begins at a place or after it, with a visible character
+-- a node begins at an offset or after it, with a visible character
 pub record Begins (t : List ℕ) (i a : ℕ) : Type 0 where
   pub order : i ≤ a
   pub visible : Visible t a
 
--- the content of a node with properties begins after them and what separates it from them, and with no sign of properties or comments
+-- the content of a node with properties begins after them and a separation, and with no sign of properties or comments
 pub data ContentFrom (t : List ℕ) : PropsValue → ℕ → ℕ → Type 0 where
   content_alone : {a : ℕ} → ContentFrom t no_props a a
   content_after : {n : ℤ} {c : Ctx} {a g k : ℕ} {p : PropertiesValue} {cs : List CommentValue} → Properties t n c a g p → Separate t n c g k cs

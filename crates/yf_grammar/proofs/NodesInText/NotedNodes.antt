@@ -98,7 +98,7 @@ module _ {t : List ℕ} where
   regrouped : {floor : ℕ} {ys : List EventInText} (x y z : List EventInText) → Noting t floor ((x ++ y) ++ z) ys → Noting t floor (x ++ (y ++ z)) ys
   regrouped {floor = floor} {ys = ys} x y z n = subst (λ w. Noting t floor w ys) (append_assoc x y z) n
 
--- a place, or none
+-- a span, or none
 spanned_as : {o p : Option Span} → p ≡ o → is_some o ≡ is_some p
 spanned_as e = ap is_some (sym e)
 

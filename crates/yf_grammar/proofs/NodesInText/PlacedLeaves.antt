@@ -41,7 +41,7 @@ use Rattle.yf_grammar.proofs.NodesInText.NodePlaces.{HasProps, has_tag, has_anch
 use Rattle.yf_grammar.proofs.NodesInText.PlacedNodes.{NodeAt}
 use Rattle.yf_grammar.proofs.BlockOutcomes.BlockGaps.{block_no_key}
 
--- What nodes begin with.
+-- The first characters of nodes.
 
 pub properties_seen : (c : ℕ) → begins_properties c ≡ true → is_ns_char c ≡ true
 unfolding begins_properties is_ns_char is_nb_char is_printable is_between is_break_char is_white

@@ -66,7 +66,7 @@ module _ {t : List ℕ} (u : IsUtf8 t) where
   pub between_forward : {i j count : ℕ} → LinesBetween t count i j → i ≤ j
   between_forward (counted c l) = chain_forward (line_functional t) c
 
--- What it begins with.
+-- Its first character.
 
 bar_seen : (is_ns_char 124 ≡ true) × (is_ns_char 62 ≡ true)
 unfolding is_ns_char is_nb_char is_printable is_between is_break_char is_white

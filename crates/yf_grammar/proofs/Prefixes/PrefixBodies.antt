@@ -54,7 +54,7 @@ module _ {t s : List ℕ} {k : ℕ} (a : Alike t s k) where
   indicators_there (digit_sign d e) l = let g = sign_order e in digit_sign (digit_there d (omega arith)) (sign_there e l)
   indicators_there (sign_digit d e) l = let g = digit_order e in sign_digit (sign_there d (omega arith)) (digit_there e l)
 
-  -- spaces from a place of the prefix on end in it
+  -- spaces from an offset of the prefix on end in it
   pub spaces_inside : {i m : ℕ} → Spaces t i m → i < k → i + m < k
   spaces_inside {i} {m} d l = ⊎_elim
       (λ (g : k - 1 - i < m).

@@ -128,7 +128,7 @@ module _ {t s : List ℕ} {k : ℕ} (a : Alike t s k) where
         comment (in_line_there a d (omega arith)) (comment_there c (omega arith)) (by_break (break_there a b l))
     go (comment d c (by_end e)) f l = let w = a.within in absurd (no_comment_last c (omega arith))
 
--- a text and its prefix that ends at the place
+-- a text and its prefix that ends at the offset
 pub record PrefixText (t s : List ℕ) (k : ℕ) : Type 0 where
   pub alike : Alike t s k
   pub closed : length s ≡ k

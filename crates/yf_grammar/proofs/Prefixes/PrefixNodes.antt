@@ -91,7 +91,7 @@ module _ {t s : List ℕ} {k : ℕ} (f : PrefixText t s k) where
   value_order true n c i j x d = may_forward d
   value_order false n c i j x d = separate_forward d
 
-  -- what a test says of the end, it says of each place after it
+  -- if a test has one result for the end of the text and for a code, it has it in the prefix
   class_in_prefix : (p : ℕ → Bool) {b : Bool} (i : ℕ) → p no_char ≡ b → p (code t i) ≡ b → p (code s i) ≡ b
   class_in_prefix p i n e = ⊎_elim
       (λ (l : i < k). ap p (sym (f.alike.codes i l)) ∙ e)

@@ -23,7 +23,7 @@ use Rattle.yf_grammar.proofs.Prefixes.PrefixLines.{passes_there, break_there}
 use Rattle.yf_grammar.proofs.Prefixes.PrefixComments.{blank_alike}
 use Rattle.yf_grammar.proofs.Prefixes.PrefixNodes.{derived_order}
 
--- no entry begins after the place
+-- no entry begins after the offset
 pub data Begun (k : ℕ) : List EventInText → Type 0 where
   none_begun : Begun k []
   one_begun : {e : EventInText} {es : List EventInText} → ((f : Entry) → e.entry ≡ Some f → f.start ≤ k) → Begun k es → Begun k (e ∷ es)

@@ -14,7 +14,7 @@ use Rattle.yf_lines.specs.Basic.{Break}
 use Rattle.yf_lines.proofs.BasicLemmas.{break_end, break_forward}
 use Rattle.yf_lines.proofs.LineLemmas.{break_boundary}
 
--- what ends at a place: a line feed, or a carriage return
+-- the last character of a break: a line feed, or a carriage return
 abbrev pub FeedOrReturn : ℕ → Type 0
 FeedOrReturn c = (c ≡ 10) ⊎ (c ≡ 13)
 

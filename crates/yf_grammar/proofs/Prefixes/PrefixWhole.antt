@@ -95,7 +95,7 @@ module _ {t : List ℕ} (u : IsUtf8 t) where
         escapes = d.escapes;
       }
 
-  -- In the prefix that ends with a block node, that node is what the reader of whole nodes finds.
+  -- The reader of whole nodes finds a block node in the prefix that ends with it.
   pub node_is_whole : {h e i j : ℕ} {n : ℤ} {c : Ctx} {x : Meaning} {o : Option ParsedNode} → Derives t h (BlockNode n c) i j x → h ≤ e → Clear t i j
       → Whole (take j t) e (Awaited false n c Nothing i) o → o ≡ found j h false x
   node_is_whole {j = j} d within clear r =
@@ -104,7 +104,7 @@ module _ {t : List ℕ} (u : IsUtf8 t) where
       node_at_end (cut_utf8 u z) (cut_derives z d l) within (cut_clear z clear l) (λ _. row_stuck_end (cut_closed z)) (text_ends (cut_closed z)) r
 
 module _ {t : List ℕ} (u : IsUtf8 t) {e i : ℕ} {n : ℤ} {c : Ctx} {f : ParsedNode} (block : is_block c ≡ true) (wide : Width n) (r : Halts t e [] (Awaited false n c Nothing i) (Some f)) where
-  -- What the last halt leaves of a node, the reader of whole nodes finds in the prefix that ends there.
+  -- The reader of whole nodes finds the part up to the last halt in the prefix that ends there.
   pub prefix_is_whole : {o : Option ParsedNode} → Whole (take f.end t) e (Awaited false n c Nothing i) o → o ≡ found f.end f.height false f.meaning
   prefix_is_whole w = let d = halt_is_node u block wide r in node_is_whole u d.derived d.within d.clear w
 

@@ -20,7 +20,7 @@ pub record EndsLast (g : ParsedNode) (h : Option ParsedNode) : Type 0 where
   pub end : last.end ≡ g.end
 
 module _ {t : List ℕ} (u : IsUtf8 t) {e i : ℕ} {n : ℤ} {c : Ctx} (block : is_block c ≡ true) (wide : Width n) where
-  -- all last halts are at one place
+  -- all last halts have one end
   pub one_last_end : {f g : ParsedNode} → Halts t e [] (Awaited false n c Nothing i) (Some f) → Halts t e [] (Awaited false n c Nothing i) (Some g) → f.end ≡ g.end
   one_last_end {f} {g} a b =
       let x = halt_is_node u block wide a in

@@ -108,7 +108,7 @@ unfolding meaning_after noting empty_node alone found made_or headed collection 
 second_item = node_was_read (item_begins second_begun refl dashes_second) (awaited_below (text_stops refl) (below_alone (text_stops refl) (no_node (text_ends refl))))
     (halts_below (text_stops refl) (halts_alone (text_stops refl) (no_node (text_ends refl)) (alone_to (may_end_chosen (text_stops refl) none_open))))
 
--- the sequence ends with it, and is the outermost node; so much of it may be at the end
+-- the sequence ends with it, and is the outermost node; its last halt is the whole sequence
 dashes_read : Whole dashes 1 root both_items
 unfolding meaning_after found headed collection entering ◌⊕◌ only empty_node
 dashes_read = root_was_read (collection_ends (entry_was_read second_item (λ e. absurd (true≢false (sym e)))) (no_entry (text_ends refl)))

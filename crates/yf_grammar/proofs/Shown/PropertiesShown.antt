@@ -67,7 +67,7 @@ module _ {t : List ℕ} (u : IsUtf8 t) where
       → Chosen (Properties t n FlowKey i) (i + 1) (tag_only i IsNonSpecific)
   mark_line a b m l w h = tag_alone u (mark_alone a b) (no_anchor_after (alone_chosen (inl refl) (in_line_farthest (by_whites m l) w)) (no_anchor_here (differs h)))
 
-  -- the anchor of the first line waits for what the next line begins
+  -- the anchor of the first line is held for the node of the next line
   anchor_waits : {e : ℕ} {o : Option ParsedNode} → LineText t 0 0 0 → (code t 0 == 45) ≡ false → (code t 0 == 63) ≡ false → (code t 0 == 58) ≡ false → Anchor t 0 2 (codes "a")
       → ContentBefore t 2 → is_white (code t 2) ≡ false → Break t 2 3 → LineText t 3 0 3 → Visible t 3 → Whole t e (Inline (negsuc 0) BlockIn first_columns (Props anchored) 3) o
       → Whole t e (Awaited false (negsuc 0) BlockIn Nothing 0) (outcome_after Nothing [] (outcome_after (Props anchored) [] o))

@@ -1,4 +1,4 @@
--- Parts of small block nodes: the starts and ends of lines, and what is not at a character.
+-- Parts of small block nodes: the starts and ends of lines, and the signs that are not at a character.
 use Rattle.std.proofs.Common.{◌≡◌, ◌≢◌, ℕ, ◌+◌, ◌-◌, ◌<◌, ◌≤◌, ℤ, pos, Bool, true, false, ◌==◌, List, [], ◌∷◌, length, refl, sym, ap, ◌∙◌, arith, true≢false, ⊎_elim}
 use Rattle.std.proofs.lemmas.Bool.{eq-eqb, cases_lt}
 use Rattle.std.proofs.lemmas.Int.{ints}
@@ -114,7 +114,7 @@ module _ {t : List ℕ} where
     each = λ h l m. ⊎_elim (λ (b : h < j). o.each h l b) (λ (b : j ≤ h). let same : h ≡ j = omega arith in ap (λ k. is_break_char (code t k)) same ∙ f) (cases_lt h j);
   }
 
-  -- a plain scalar of one character, after which neither its line nor a next one goes on
+  -- a plain scalar of one character, which continues neither on its line nor on a next one
   pub plain_character : {n : ℤ} {i : ℕ} → is_plain_first t FlowOut i ≡ true → Clear t i (next t i) → is_white (code t (next t i)) ≡ false
       → is_plain_char t FlowOut (next t i) ≡ false → NoNextLine t n FlowOut (next t i) → Chosen (Plain t n FlowOut i) (next t i) (code t i ∷ [])
   plain_character {i = i} f c w e l =
@@ -126,6 +126,6 @@ module _ {t : List ℕ} where
   pub no_fold : {n : ℤ} {c : Ctx} {i : ℕ} → is_white (code t i) ≡ false → (code t i == 13) ≡ false → (code t i == 10) ≡ false → NoNextLine t n c i
   no_fold {i = i} w a b = no_next_fold (no_fold_break ([], done) w (no_break_here t i (differs a) (differs b)))
 
-  -- no marker begins at the place
+  -- no marker begins at the offset
   pub clear_place : {i : ℕ} → is_marker t i ≡ false → Clear t i (i + 1)
   clear_place {i} e = record { none = λ h l m f. let same : h ≡ i = omega arith in true≢false (sym f.marker ∙ ap (is_marker t) same ∙ e) }

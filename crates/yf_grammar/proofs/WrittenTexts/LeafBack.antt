@@ -34,7 +34,7 @@ pub noting_nothing : (x : Meaning) → noting x [] ≡ x
 unfolding noting
 noting_nothing x = ap (λ cs. record x { comments = cs }) (append-nil x.comments)
 
--- what follows
+-- the text after a leaf
 pub space_follows : {r : List ℕ} → Follows is_after_name (32 ∷ r)
 unfolding is_after_name
 space_follows = byte_follows (omega arith) refl

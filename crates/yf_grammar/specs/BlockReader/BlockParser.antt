@@ -34,7 +34,7 @@ pub data LinesEnd (t : List ℕ) (k : ℕ) : Type 0 where
   mark_is_at : code t k ≡ 0xFEFF → LinesEnd t k
   marker_is_at : ForbiddenLine t k → LinesEnd t k
 
--- a character that is neither white nor the beginning of a comment or of a line's end
+-- a character that is not white space and begins neither a comment nor the end of a line
 pub record Content (t : List ℕ) (p : ℕ) : Type 0 where
   pub no_white : is_white (code t p) ≡ false
   pub no_hash : code t p ≢ 35
@@ -49,7 +49,7 @@ pub record LineText (t : List ℕ) (k m p : ℕ) : Type 0 where
   pub run : Many t is_white (k + m) p whites
   pub content : Content t p
 
--- the columns at which a sequence or a mapping may begin at a place
+-- the columns at which a sequence or a mapping may begin at an offset
 pub record Columns : Type 0 where
   pub sequence : Option ℕ
   pub mapping : Option ℕ

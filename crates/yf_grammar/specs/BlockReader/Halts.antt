@@ -24,7 +24,7 @@ pub data NoColonAt (t : List ℕ) (j : ℕ) : List ℕ → Type 0 where
   none_open : NoColonAt t j []
   one_open : {w : ℕ} {ws : List ℕ} → (ColonLine t w j → ⊥) → NoColonAt t j ws → NoColonAt t j (w ∷ ws)
 
--- the end of a line, and comment lines, up to a place at which all may end
+-- the end of a line, and comment lines, up to an offset at which all nodes may end
 pub record MayEnd (t : List ℕ) (ws : List ℕ) (i j : ℕ) (ds : List CommentValue) : Type 0 where
   pub line : LineEnd t i j ds
   pub allowed : NoColonAt t j ws

@@ -67,7 +67,7 @@ pub record ValueNodeAwaited (t : List ℕ) (e : ℕ) (sequence : Bool) (n : ℤ)
   pub none : Parses t e (ANode n d p) None
       → (j : ℕ) × (cs : List CommentValue) × (y : Meaning) × IsEntry t (with_pair pair e) sequence n d s j (with_pair pair h) y × Gap t n d j p cs
 
--- a comma or a closing bracket, after which there is nothing more of an entry
+-- a comma or a closing bracket, which ends an entry
 abbrev pub is_entry_end : ℕ → Bool
 is_entry_end c = (c == 44) || (c == 93) || (c == 125)
 

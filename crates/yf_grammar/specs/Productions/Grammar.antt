@@ -1,5 +1,5 @@
--- The nested productions as one inductive relation: `Derives t h p i j x` says that the production p derives the
--- characters of the text t from i to j with the meaning x, and that h collections are open at once at most (a single
+-- The nested productions as one inductive relation: `Derives t h p i j x` means that the production p derives the
+-- characters of the text t from i to j with the meaning x, and that at most h collections are open at once (a single
 -- pair counts as a mapping). n is an indentation, from -1; c is a context; m is the column of the entries of a block
 -- collection. Flow nodes: YAML 1.2.2, chapter 7; block nodes: chapter 8.
 use Rattle.std.specs.Prelude.{◌≡◌, ℕ, suc, max, ◌+◌, ◌-◌, ◌≤◌, ℤ, pos, ◌+ℤ◌, ◌≤ℤ◌, Bool, true, false, List, [], ◌∷◌, ◌++◌, Some, None, length, take, drop, encode_utf8_all}

@@ -60,6 +60,6 @@ FlowNodePart t limit n c = DerivedPart t limit (FlowNode n c)
 abbrev pub BlockNodePart : List ℕ → ℕ → ℤ → Ctx → ℕ → ℕ → Part → Type 0
 BlockNodePart t limit n c = DerivedPart t limit (BlockNode n c)
 
--- the node of an implicit key: like YAML's or like JSON's, with n = 0, and without what separates it from its `:`
+-- the node of an implicit key: like YAML's or like JSON's, with n = 0, and without the white space before its `:`
 pub data KeyPart (t : List ℕ) (limit : ℕ) (c : Ctx) (i j : ℕ) (part : Part) : Type 0 where
   key_node : (json : Bool) → DerivedPart t limit (NodeOf json (pos 0) c) i j part → KeyPart t limit c i j part

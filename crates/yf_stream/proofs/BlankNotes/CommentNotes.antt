@@ -55,7 +55,7 @@ pub record NotedComment (t : List ℕ) (i j : ℕ) (c : CommentValue) : Type 0 w
   pub sign : code t c.offset ≡ 35
   pub note : NotedSince t 0 c.offset c.blank_before
 
--- a floor before a place, with a visible character between them; or none
+-- a floor before an offset, with a visible character between them; or none
 pub data Guard (t : List ℕ) (f i : ℕ) : Type 0 where
   no_floor : f ≡ 0 → Guard t f i
   guarded : (p : ℕ) → code t p < no_char → is_gap (code t p) ≡ false → f ≤ p → p < i → Guard t f i

@@ -42,7 +42,7 @@ floor_top {j = j} f l (one_element {x = e} {xs = es} (floor_kept k) r) = let sam
 floor_top {j = j} f l (one_element {x = e} {xs = es} (floor_set s q k a b) r) =
     let same : floor_after_event f e e.event ≡ s.end = k f e ∙ ap (λ z. end_or f z) q in floor_top (floor_after_event f e e.event) (omega (arith, same)) r
 
--- the comments up to a place, and the notes of them
+-- the comments up to an offset, and their notes
 pub record CommentsNotedTo (t : List ℕ) (k : ℕ) (es : List EventInText) (cs ns : List CommentValue) : Type 0 where
   pub noted : NotedComments t es cs ns
   pub within : Each (Within t 0 k) cs

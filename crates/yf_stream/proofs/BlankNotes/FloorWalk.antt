@@ -11,7 +11,7 @@ use Rattle.yf_grammar.specs.Productions.ReadParts.{floor_after_event, end_or}
 use Rattle.yf_stream.specs.ReadingOf.{end_before, floor_at}
 use Rattle.yf_stream.proofs.BlankNotes.CommentNotes.{Each, no_element, one_element}
 
--- an event that sets no floor; one that ends a block scalar after a place and up to another
+-- an event that sets no floor; one that ends a block scalar after an offset and up to another
 pub data FloorIn (i j : ℕ) (e : EventInText) : Type 0 where
   floor_kept : ((f : ℕ) (p : EventInText) → floor_after_event f p e.event ≡ f) → FloorIn i j e
   floor_set : (s : Span) → e.span ≡ Some s → ((f : ℕ) (p : EventInText) → floor_after_event f p e.event ≡ end_or f p.span) → i < s.end → s.end ≤ j → FloorIn i j e
@@ -21,7 +21,7 @@ floor_wider {h} {i} {j} {k} l m no_element = no_element
 floor_wider {h} {i} {j} {k} l m (one_element (floor_kept f) r) = one_element (floor_kept f) (floor_wider l m r)
 floor_wider {h} {i} {j} {k} l m (one_element (floor_set s q f a b) r) = one_element (floor_set s q f (omega arith) (omega arith)) (floor_wider l m r)
 
--- what one event does to a floor
+-- the floor after one event
 if_same : (b : Bool) (f : ℕ) → cond b f f ≡ f
 if_same true f = refl
 if_same false f = refl

@@ -1,4 +1,4 @@
--- The floor at an offset, of events one after the other, by the floor after all of them.
+-- The floor that events set at an offset, and the floor after all of them.
 use Rattle.std.proofs.Common.{◌≡◌, ℕ, ◌≤◌, ◌⊎◌, inl, inr, ⊎_elim, List, Some, refl, sym, ap, ◌∙◌, arith}
 use Rattle.yf_events.specs.Event.{EventInText}
 use Rattle.yf_events.specs.declared.event.Span.{Span}

@@ -19,7 +19,7 @@ use Rattle.yf_stream.specs.ReadingOf.{end_before, floor_at}
 use Rattle.yf_stream.proofs.BlankNotes.CommentNotes.{Each, no_element, one_element, each_join, each_weaker, each_both, NotedComment, told_wider, Guard, since_guarded, separate_told}
 use Rattle.yf_stream.proofs.BlankNotes.FloorWalk.{FloorIn, floor_kept, floor_early, floor_join, end_same, kept_event}
 
--- a comment within two places
+-- a comment between two offsets
 pub record Within (t : List ℕ) (i j : ℕ) (c : CommentValue) : Type 0 where
   pub after : i ≤ c.offset
   pub before : c.offset < j

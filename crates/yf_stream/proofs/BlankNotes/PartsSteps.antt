@@ -1,4 +1,4 @@
--- What the parts hold after one step more of the reader of streams.
+-- The parts after one more step of the reader of streams.
 use Rattle.std.proofs.Common.{◌≡◌, ◌≢◌, ℕ, ◌+◌, ◌≤◌, Bool, true, false, not, inr, List, [], ◌∷◌, ◌++◌, length, map, flat_map, Option, Some, None, refl, sym, ap, ◌∙◌, subst, arith, append_assoc, append-nil, true≢false}
 use Rattle.std.specs.Str.{IsUtf8}
 use Rattle.yf_chars.specs.Text.{code}
@@ -37,7 +37,7 @@ use Rattle.yf_stream.proofs.Reader.PrefixLemmas.{rows_prefix}
 use Rattle.yf_stream.proofs.Reader.StreamUpto.{followed, one_document}
 use Rattle.yf_comments.proofs.RowLemmas.{end_code}
 
--- the parts of the text that events have end at a place or before it
+-- the spans of events end at an offset or before it
 abbrev pub SpanWithin : ℕ → Option Span → Type 0
 SpanWithin m None = Unit {0}
 SpanWithin m (Some s) = s.end ≤ m
@@ -121,7 +121,7 @@ escapes_last : (ds : List Document) (d : Document) → flat_map (λ (d : Documen
 escapes_last [] d = append-nil d.escapes
 escapes_last (x ∷ ds) d = ap (λ z. x.escapes ++ z) (escapes_last ds d) ∙ sym (append_assoc x.escapes (flat_map (λ (d : Document). d.escapes) ds) d.escapes)
 
--- a document's node, and what the parts have of it after the start of the document
+-- a document's node, and its parts after the start of the document
 record NodeParts (t : List ℕ) (at : ℕ) (start : ℕ) (marked : Bool) (dirs : List Directive) (a b : Parts) (after : StreamCursor) (y : Meaning) : Type 0 where
   from : ℕ
   order : at ≤ from

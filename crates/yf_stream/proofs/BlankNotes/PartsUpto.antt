@@ -25,7 +25,7 @@ use Rattle.yf_stream.proofs.Uniqueness.OneDirective.{dot_still}
 use Rattle.yf_stream.proofs.Reader.PrefixLemmas.{prefix_functional, prefixes_rows, rows_parts, still}
 use Rattle.yf_stream.proofs.Reader.StreamUpto.{followed}
 
--- the events of documents; the last of them may be open, and its end is not yet among them
+-- the events of documents; the last one may be open, without its end among them
 pub data EventsUpto (t : List ℕ) : Bool → ℕ → List Document → List EventInText → Type 0 where
   all_closed : {k : ℕ} {ds : List Document} {x : List EventInText} → DocumentsWritten t ds x → EventsUpto t false k ds x
   last_open : {k j : ℕ} {ds : List Document} (d : Document) {x : List EventInText} {cs more : List CommentValue} → DocumentsWritten t ds x → LineEnd t d.finish j cs
@@ -45,7 +45,7 @@ pub record EventsRead (t : List ℕ) (cursor : StreamCursor) (x : Documents) (p 
   pub documents : p.documents ≡ map doc_of x.documents
   pub escapes : p.part.escapes ≡ flat_map (λ (d : Document). d.escapes) x.documents
 
--- the parts of the stream x, but for its comments
+-- the parts of the stream x, without its comments
 pub record EventsWritten (t : List ℕ) (x : Documents) (p : Parts) : Type 0 where
   pub derived : List EventInText
   pub written : DocumentsWritten t x.documents derived

@@ -107,7 +107,7 @@ module _ {t : List ℕ} where
       let same : e ≡ q = lines_one s (counted b.chain b.counts) d in
       record { order = omega arith; upto = omega arith; first = λ m x. subst (λ z. NotedSince t z (q + m) false) (sym same) (not_noted (λ y. spaces_none x y (omega arith))) }
 
--- a comment after a scalar that ends at a place
+-- a comment after a scalar that ends at an offset
 pub record AfterEnd (t : List ℕ) (e : ℕ) (c : CommentValue) : Type 0 where
   pub after : e ≤ c.offset
   pub note : NotedSince t e c.offset c.blank_before

@@ -132,7 +132,7 @@ tags_same (y ∷ ys) s (untagged e a) = untagged (ap (λ (w : Sign). w.0.tag) (s
 tags_same [] s (tagged e f a) = some_none s
 tags_same (y ∷ ys) s (tagged e f a) = tagged (ap (λ (w : Sign). w.0.tag) (sym (same_head s)) ∙ e) f (tags_same ys (same_tail s) a)
 
--- Trees that differ by nothing but places.
+-- Trees that differ only in offsets.
 
 pub values_append : (xs ys : List EventInText) → values (xs ++ ys) ≡ values xs ++ values ys
 values_append [] ys = refl

@@ -45,7 +45,7 @@ pub record LineEndsAt (t : List ℕ) (i : ℕ) : Type 0 where
   pub comments : List CommentValue
   pub line : LineEnd t i end comments
 
--- and more comment lines after them, up to a place
+-- and more comment lines after them, up to an offset
 pub record LineRows (t : List ℕ) (i j : ℕ) : Type 0 where
   pub ends : LineEndsAt t i
   pub more : List CommentValue

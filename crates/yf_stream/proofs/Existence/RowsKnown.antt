@@ -30,7 +30,7 @@ use Rattle.yf_stream.proofs.Uniqueness.OneDirective.{dot_still}
 use Rattle.yf_stream.proofs.Reader.PrefixLemmas.{prefix_functional, prefixes_rows, row_next, rows_parts, still}
 use Rattle.yf_chars.proofs.CharFacts.{end_no_white}
 
--- the characters of a class from a place on
+-- the characters of a class from an offset on
 record RunFrom (t : List ℕ) (p : ℕ → Bool) (i : ℕ) : Type 0 where
   end : ℕ
   characters : List ℕ
@@ -72,7 +72,7 @@ stop_known t h = ⊎_elim (λ (e : h ≡ length t). inl (h, by_end e)) (λ (n : 
       (cases_eq (code t h) 10))
       (cases_eq (code t h) 13)
 
--- a row at a place
+-- a row at an offset
 record RowAt (t : List ℕ) (i : ℕ) : Type 0 where
   end : ℕ
   comments : List CommentValue
@@ -103,7 +103,7 @@ module _ {t : List ℕ} (u : IsUtf8 t) where
         (λ (none : Nowhere (BreakOrEnd t w.end)). inr (row_stuck (stuck_after_whites before w.stops e none)))
         (stop_known t w.end)
 
--- all document prefixes that are at a place
+-- all document prefixes at an offset
 pub record PrefixesFrom (t : List ℕ) (i : ℕ) : Type 0 where
   pub end : ℕ
   pub comments : List CommentValue

@@ -82,7 +82,7 @@ begun_more {offset} {start} {at} {es} one before k l m = elim (cases_lt k at) [
 pub begun_within : {offset : ℕ} (es : List EventInText) {k : ℕ} → BegunAt offset es k → k < length es
 begun_within es {k} b = omega (arith, slice_get_within (map (λ (e : EventInText). e.span) es) k b.span b.there, length-map es (λ (e : EventInText). e.span))
 
--- an event with a place has begun, or the search stops at it
+-- an event with a span has begun, or the search stops at it
 pub begun_if : (es : List EventInText) (i offset : ℕ) (s : Span) (b : Bool) → nat_lt s.start offset ≡ b → slice_get (map (λ (e : EventInText). e.span) es) i ≡ Some (Some s)
     → MatchBool b (BegunAt offset es i) (StopsAt offset (drop i es))
 begun_if es i offset s true e f = record { span = Some s; there = f; before = grind (arith, nat_tests, e) }

@@ -165,7 +165,7 @@ module _ {t : List ℕ} (u : IsUtf8 t) where
       (escapes_told x.escapes (first_all (IsCharBoundary t) x.escapes others e))))
       (documents_told more rest (All-tail (λ (d : Doc). DirectivesAt t d.directives) (doc_of x) docs d) (second_all (IsCharBoundary t) x.escapes others e))
 
-  -- so is the first of them
+  -- so the first of them is between characters
   pub first_told : {x : Documents} {p : Parts} {b : Breach} → Shapes t x → PartsOf t x p → DocumentsAt t p.documents → All (IsCharBoundary t) p.part.escapes
       → IsFirst (breaches x.documents) b → IsCharBoundary t b.offset
   first_told {x} {p} {b} s w d e f =

@@ -63,7 +63,7 @@ module _ {t : List ℕ} where
   separated_before (by_whites m l) v o = whites_before m v o
   separated_before (at_start s) v o = o
 
-  -- the parts of a stream go on
+  -- the parts of a stream never lead back
   part_forward : {i j : ℕ} {x : List CommentValue} → PrefixPart t i j x → i ≤ j
   part_forward (order_mark {i = i} e) = let l = next_later t i in omega arith
   part_forward (prefix_comment c) = chain_forward row_functional (lines_rows (chain_one c))

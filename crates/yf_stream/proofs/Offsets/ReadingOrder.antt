@@ -74,7 +74,7 @@ module _ {t : List ℕ} where
 pub reading_ascends : {t : List ℕ} {r : Lists} → ReadingOf t r → Ascend t 0 r.comments (length t)
 reading_ascends a = noted_ascend a.comments (stream_ascends a.reads.shapes.derived)
 
--- in terms of indices: a comment between two places of a text, with its sign
+-- in terms of indices: a comment between two offsets of a text, with its sign
 pub record CommentAt (t : List ℕ) (i k : ℕ) (c : CommentValue) : Type 0 where
   pub from : i ≤ c.offset
   pub before : c.offset < k

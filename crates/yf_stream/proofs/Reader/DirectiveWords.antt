@@ -31,7 +31,7 @@ record Version (t : List ℕ) (i j : ℕ) (x : List (List ℕ)) : Type 0 where
   is : x ≡ slice_range t start j ∷ []
 
 module _ {t : List ℕ} (u : IsUtf8 t) where
-  -- no character of a class, no run of it
+  -- without a character of a class, no run of it begins
   pub no_run : (p : ℕ → Bool) {i j : ℕ} → p (code t i) ≡ false → Run (One t p) i j → ⊥
   no_run p e r = true≢false (sym (run_first u r.chain r.some) ∙ e)
 

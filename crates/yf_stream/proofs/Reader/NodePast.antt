@@ -1,5 +1,5 @@
--- The reader of streams goes on after a document's node, as far as the longest node there goes. Each stream that is derived has a path there too:
--- its node is that one, with or without the comment lines after it.
+-- After a document's node the reader of streams goes on at the end of the longest node there. Each derived stream has a
+-- path there too: its node is that one, with or without the comment lines after it.
 use Rattle.std.proofs.Common.{◌≡◌, ℕ, ◌-ℤ◌, ℤ, pos, ◌≤◌, Bool, true, false, List, [], Option, Some, None, refl, sym, ap, ◌∙◌, subst, arith}
 use Rattle.std.proofs.lemmas.Int.{ints}
 use Rattle.std.specs.Str.{IsUtf8}

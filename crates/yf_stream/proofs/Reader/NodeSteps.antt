@@ -182,7 +182,7 @@ module _ {t : List ℕ} (u : IsUtf8 t) where
         record { place = a.end; comments = s.0; settled = s.1; goes = record { height = a.others; documents = a.rest; path = a.path; within = a.others_within } };
   }
 
-  -- past a `---` without a node: the line ends, and after it and its comment lines is what ends all nodes
+  -- past a `---` without a node: the line ends, and `LinesEnd` holds after it and its comment lines
   still_end : {p j : ℕ} {cs : List CommentValue} → Chosen (LineEnd t p) j cs → Stuck (Row t j)
   still_end c = record {
     none = λ k y r.

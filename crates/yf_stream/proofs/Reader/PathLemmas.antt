@@ -70,7 +70,7 @@ module _ {t : List ℕ} where
   no_path e n m f (path_directives b c d y p q) = true≢false (sym b ∙ e)
   no_path e n m f (path_bare b g c a y p) = true≢false (sym b ∙ e)
 
-  -- at a `---` a path goes on with its document, at a `...` after its lines
+  -- at a `---` a path continues with its document, at a `...` after its lines
   pub path_at_dash : {b : Bool} {h k : ℕ} {x : Documents} → ForbiddenLine t k → code t k ≡ 45 → Path t b h k x → ExplicitStep t h k x
   path_at_dash {k = k} f c (path_ends q) = let n = end_code t q in absurd (omega arith)
   path_at_dash f c (path_mark m s p) = absurd (omega arith)
@@ -97,7 +97,7 @@ module _ {t : List ℕ} where
   path_at_dots f c (path_directives b d e y p m) = absurd (omega arith)
   path_at_dots f c (path_bare b g d a y p) = absurd (g f)
 
-  -- at a byte order mark it goes on after it
+  -- at a byte order mark it continues after the mark
   pub path_at_mark : {b : Bool} {h k : ℕ} {x : Documents} → code t k ≡ 0xFEFF → Path t b h k x → MarkStep t b h k x
   path_at_mark {k = k} c (path_ends q) = let n = end_code t q in absurd (omega arith)
   path_at_mark c (path_mark {l = l} {es = es} {x = x} m s p) = record { end = l; comments = es; rest = x; settled = s; path = p; is = refl }

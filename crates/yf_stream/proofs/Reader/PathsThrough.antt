@@ -17,7 +17,7 @@ use Rattle.yf_stream.specs.StreamReader.{NoStream}
 use Rattle.yf_stream.proofs.Reader.PathLemmas.{no_path, path_at_dots, path_at_mark}
 use Rattle.yf_stream.proofs.Uniqueness.StreamPath.{Path, Settled, mark_still, stream_from}
 
--- within the limit of open collections, a path goes on from a place, or from the comment lines that begin there on
+-- within the limit of open collections, a path continues from an offset, or from the end of the comment lines there
 pub record PathAt (t : List ℕ) (b : Bool) (k : ℕ) : Type 0 where
   pub height : ℕ
   pub documents : Documents

@@ -94,7 +94,7 @@ module _ {t : List ℕ} where
     later (mark_row {i = i} e) = next_later t i
     later (line_row r) = r.later
 
-  -- a line's end that goes nowhere, or none
+  -- an empty line end, or none
   pub still_row : {i : ℕ} {x : List CommentValue} → Chosen (LineEnd t i) i x → Stuck (Row t i)
   still_row {i} c = record { none = λ j y r. let l = c.longest j y (rows_line_end (chain_one r) r.later) in let m = r.later in absurd (omega arith) }
 
@@ -143,7 +143,7 @@ module _ {t : List ℕ} where
   row_next l (mark_row e) = inl (after_mark l e)
   row_next l (line_row r) = rest_next r.rest
 
-  -- they are what the reader passes
+  -- the reader passes them
   pub rows_parts : {i j : ℕ} {cs : List CommentValue} → LineOrEnd t i → Chain (PrefixRow t) i j cs → Prefixes t i j cs
   rows_parts l done = done
   rows_parts {i} l (step r c) = ⊎_elim

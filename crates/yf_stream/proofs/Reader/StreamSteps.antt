@@ -12,7 +12,7 @@ use Rattle.yf_stream.specs.Stream.StreamRest.{past_explicit, past_prefix, past_s
 use Rattle.yf_stream.specs.Stream.Suffixes.{last_suffix}
 use Rattle.yf_stream.proofs.Uniqueness.StreamPath.{before_document, comments_join, no_comments}
 
--- the rest of a stream from a place on; the flag says that a document without `---` or with directives may be there
+-- the rest of a stream from an offset on; the flag means that a document without `---` or with directives may be there
 pub data StreamFrom (t : List ℕ) : Bool → ℕ → ℕ → Documents → Type 0 where
   as_rest : {b : Bool} {h k : ℕ} {x : Documents} → StreamRest t h k x → StreamFrom t b h k x
   any_document : {h g k j : ℕ} {cs : List CommentValue} {d : Document} {x : Documents} → AnyDocument t h k j d cs → StreamRest t g j x
@@ -61,7 +61,7 @@ module _ {t : List ℕ} where
       → StreamFrom t true (max h g) k (with_document cs d rest)
   from_document d r = any_document d (rest_if refl r)
 
-  -- from the beginning of the text on, all of it
+  -- the whole stream, from the beginning of the text on
   after_prefixes : {b : Bool} {h i : ℕ} {cs : List CommentValue} {x : Documents} → Prefixes t 0 i cs → StreamFrom t b h i x → Stream t h (with_comments cs x)
   after_prefixes p (as_rest r) = without_document p r
   after_prefixes {cs = cs} p (any_document {h = h} {g = g} {cs = es} {d = d} {x = x} a r) =

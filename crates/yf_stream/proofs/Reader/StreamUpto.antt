@@ -30,7 +30,7 @@ followed x y = record { documents = x.documents ++ y.documents; comments = x.com
 abbrev pub one_document : List CommentValue → Document → Documents
 one_document cs d = record { documents = d ∷ []; comments = cs }
 
--- the flag says that a document without `---` or with directives may be there
+-- the flag means that a document without `---` or with directives may be there
 pub record ReadUpto (t : List ℕ) (b : Bool) (k : ℕ) (x : Documents) : Type 0 where
   pub height : ℕ
   pub within : height ≤ DEPTH

@@ -1,4 +1,4 @@
--- The empty text: whatever is derived of it is the stream without documents and comments, so it has one shape.
+-- The empty text: each derivation of it is the stream without documents and comments, so it has one shape.
 use Rattle.std.proofs.Common.{◌≡◌, ℕ, ◌<◌, true, List, [], ◌++◌, refl, sym, ap, ◌∙◌, arith}
 use Rattle.std.proofs.lemmas.Bool.{true≢false}
 use Rattle.yf_chars.specs.Text.{code, no_char}

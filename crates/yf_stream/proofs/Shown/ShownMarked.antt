@@ -55,7 +55,7 @@ one_marked m remark = record { documents = document_of 0 true [] m ∷ []; comme
 
 module _ {t : List ℕ} {p e d : ℕ} {remark : CommentValue} (o : OneComment t p e d remark) (m : Meaning) (later : 0 < p) (fence : ForbiddenLine t 0) (seen : Visible t 0)
     (node_is : (h j : ℕ) (x : Meaning) → ExplicitNode t h 0 j x → Marked p d remark m j x) where
-  -- what follows the start of the text
+  -- the text after the start
   record From (i : ℕ) (x : Documents) : Type 0 where
     documents : x.documents ≡ document_of 0 true [] m ∷ []
     comments : x.comments ≡ kept p remark i

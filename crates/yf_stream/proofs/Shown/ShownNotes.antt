@@ -105,7 +105,7 @@ pub record OneComment (t : List ℕ) (p e d : ℕ) (remark : CommentValue) : Typ
   pub sign : code t p ≡ 35
   pub later : p < e
 
--- the comments that begin at the place or after it
+-- the comments that begin at the offset or after it
 unfoldable pub kept : ℕ → CommentValue → ℕ → List CommentValue
 kept p remark i = if nat_lt p i then [] else remark ∷ []
 
@@ -232,7 +232,7 @@ module _ {t : List ℕ} {p e d : ℕ} {remark : CommentValue} (o : OneComment t 
     prefix_side done l = l
     prefix_side (step q c) l = prefix_side c (part_side q l)
 
-  -- after a place after all dashes no document begins, and the comment is taken that is still to come
+  -- after all dashes no document begins, and the comments still ahead are taken
   pub record Rest (i : ℕ) (x : Documents) : Type 0 where
     pub documents : x.documents ≡ []
     pub comments : x.comments ≡ kept p remark i

@@ -87,7 +87,7 @@ module _ {t : List ℕ} {p e q : ℕ} {remark : CommentValue} (o : OneComment t 
   document_is f (explicit_document d) = absurd (no_explicit t o.chars.sign no_dash d)
   document_is f (directive_document d x) = absurd (no_directive t o.chars.sign d)
 
-  -- what follows the document begins after the word
+  -- the text after the document begins after the word
   rest_later : {h i : ℕ} {x : Documents} → StreamRest t h i x → q < i
   rest_later stream_ended = before_end o q 97 w.word (omega arith)
   rest_later {i = i} (past_prefix f r) =

@@ -1,4 +1,4 @@
--- Parts of small streams: places without a document marker, comments that follow no blank line.
+-- Parts of small streams: offsets without a document marker, comments that follow no blank line.
 use Rattle.std.proofs.Common.{◌≡◌, ◌≢◌, ℕ, zero, suc, ◌+◌, ◌<◌, ◌≤◌, Bool, true, false, not, ◌&&◌, ◌||◌, ◌==◌, List, refl, sym, ap, ◌∙◌, ◌⊎◌, inl, inr, ⊎_elim, arith}
 use Rattle.std.proofs.lemmas.Bool.{true≢false, eqb-true, cases_Bool, cases_eq, and_parts}
 use Rattle.yf_chars.specs.Text.{code, next}
@@ -99,7 +99,7 @@ no_mark t (suc n) i e l h = ⊎_elim here (λ (m : i ≡ n → ⊥). further (om
   further m before = ⊎_elim (λ (b : (code t n == 0xFEFF) ≡ true). true≢false (sym e ∙ rw b refl))
       (λ (b : (code t n == 0xFEFF) ≡ false). before (rw b at e) m h) (cases_Bool (code t n == 0xFEFF))
 
--- of the first n offsets each it holds, with the code there
+-- it holds for each of the first n offsets, with the code there
 unfoldable pub all_at : (ℕ → ℕ → Bool) → List ℕ → ℕ → Bool
 all_at f t zero = true
 all_at f t (suc n) = f n (code t n) && all_at f t n

@@ -68,7 +68,7 @@ pass_inside docs ds names (e ∷ es) rest n =
     (event_breaches ds (with_name (props_of e.event).anchor names) es)
     (pass_breaches docs ds (names_after (with_name (props_of e.event).anchor names) es) rest)
 
--- the breaches of documents, but for their escapes
+-- the breaches of documents, without those by their escapes
 document_pass : Document → List Breach
 document_pass d = directive_breaches false [] d.directives ++ event_breaches (declarations [] d.directives) [] d.events
 

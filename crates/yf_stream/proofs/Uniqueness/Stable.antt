@@ -21,7 +21,7 @@ record Both (A B : Type 0) : Type 0 where
   first : A
   second : B
 
--- what follows from an equation
+-- consequences of an equation
 follows : {A B : Type 0} → Irrefutable A → (A → B) → Irrefutable B
 follows a f = record { held = λ n. a.held (λ x. n (f x)) }
 
