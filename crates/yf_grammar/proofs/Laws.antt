@@ -15,7 +15,7 @@ use Rattle.yf_grammar.specs.FlowReader.Parser.{ParsedNode, found, Task, Parses, 
 use Rattle.yf_grammar.specs.BlockReader.BlockParser.{LinesEnd, Nothing, Awaited, Whole}
 use Rattle.yf_grammar.specs.BlockReader.Halts.{Halts}
 
--- the part that a meaning is, with the notes of its entries filled in
+-- the part of a meaning, with the notes of its entries filled in
 pub record Fills (t : List ℕ) (x : Meaning) (part : Part) : Type 0 where
   pub events : Noting t 0 x.events part.events
   pub comments : part.comments ≡ x.comments

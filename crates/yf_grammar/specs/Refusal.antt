@@ -9,9 +9,9 @@ use Rattle.yf_lines.specs.declared.place.Position.{Position}
 use Rattle.yf_events.specs.declared.part.Part.{Part}
 use Rattle.yf_events.specs.declared.reading.TheConstants.{DEPTH}
 
--- the openers are [ { - ? and : . Each collection has one of them that belongs to no other collection: a flow collection its
--- bracket, a block sequence the - of its first entry, a mapping of another kind the ? or : of its first entry. So a text opens no
--- more collections than it has openers
+-- the openers are [ { - ? and : . Each collection has an opener of its own: a flow collection its bracket, a block
+-- sequence the - of its first entry, another mapping the ? or : of its first entry. So a text opens no more collections
+-- than it has openers
 abbrev pub is_opener : ℕ → Bool
 is_opener c = (c == 91) || (c == 123) || (c == 45) || (c == 63) || (c == 58)
 

@@ -23,6 +23,6 @@ pub record IsCommentAt (t : List ℕ) (c : CommentValue) : Type 0 where
 abbrev pub CommentsOfReadingsAreTexts : Type 0
 CommentsOfReadingsAreTexts = (t : List ℕ) (r : Lists) → ReadingOf t r → All (IsCommentAt t) r.comments
 
--- So each can be written on a line of its own: its text is # and characters of a line.
+-- So each can be written on a line of its own: its text is # and further characters of a line.
 abbrev pub CommentsOfReadingsAreRemarks : Type 0
 CommentsOfReadingsAreRemarks = (t : List ℕ) (r : Lists) → IsUtf8 t → ReadingOf t r → All (λ (c : CommentValue). IsRemark c.text) r.comments

@@ -128,7 +128,7 @@ module _ {t : List ℕ} (u : IsUtf8 t) where
       let n = note_since_known t (floor_at c.offset 0 es) c.offset u in
       (_, one_comment n.1 rest.1)
 
--- All of it.
+-- The whole reading.
 pub well_formed_texts_have_readings : WellFormedTextsHaveReadings
 well_formed_texts_have_readings t x u reads =
     let s = reads.shapes in

@@ -12,7 +12,7 @@ pub mod ReaderLaws
 pub mod Uniqueness
 -- a well-formed text has a reading (`HasReading`)
 pub mod Existence
--- at which offsets documents, nodes, comments and directives are (`NodeLaws`, `PlaceLaws`, `CommentLaws`)
+-- the offsets of documents, nodes, comments and directives (`NodeLaws`, `PlaceLaws`, `CommentLaws`)
 pub mod Offsets
 -- the pass over the events: tags, handles, anchors and the first breach
 pub mod TagPass

@@ -10,7 +10,7 @@ use Rattle.yf_events.specs.declared.event.Span.{Span}
 use Rattle.yf_events.specs.declared.lists.Lists.{Lists}
 use Rattle.yf_stream.specs.ReadingOf.{ReadingOf}
 
--- a visible character begins there, and no comment
+-- a visible character begins there, but no comment
 pub record IsVisibleAt (t : List ℕ) (i : ℕ) : Type 0 where
   pub visible : is_ns_char (code t i) ≡ true
   pub no_hash : code t i ≢ 35

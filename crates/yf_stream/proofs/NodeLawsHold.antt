@@ -19,7 +19,7 @@ module _ {t : List ℕ} where
       events_join (event_is_at (unplaced_is_at (document_starts tree.marked) refl)
       (events_join (node_events a) (event_is_at (unplaced_is_at (document_ends tree.closed) refl) no_events_stand))) (trees_events b)
 
-  -- of a reading
+  -- for a reading
   pub reading_events : {ds : List Document} {r : Lists} → ReadingIsAt t ds r → EventsStand t r.events
   reading_events {r = r} a =
       let all : EventsStand t (flat_stream a.trees) =

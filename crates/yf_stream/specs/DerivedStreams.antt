@@ -14,7 +14,7 @@ use Rattle.yf_stream.specs.declared.documents.Parts.{Parts}
 use Rattle.yf_stream.specs.declared.stream.Refusal.{Refusal}
 use Rattle.yf_stream.specs.declared.stream.Refusal.TheVariants as Refusals
 
--- none is derived; as too deep a text is refused only if it has more openers than the limit
+-- no stream is derived; a text is refused as too deep only if it also has more openers than the limit
 abbrev pub NotDerived : List ℕ → Refusal → Type 0
 NotDerived t (Refusals.Syntax offset) = NoStream t
 NotDerived t (Refusals.TooDeep offset) = NoStream t × (DEPTH < openers t)

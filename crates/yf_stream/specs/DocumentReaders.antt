@@ -17,7 +17,7 @@ use Rattle.yf_stream.specs.declared.documents.StreamStep.TheVariants.{Go, Syntax
 use Rattle.yf_stream.specs.declared.documents.Parts.{Parts}
 use Rattle.yf_stream.specs.declared.documents.StreamCursor.{StreamCursor}
 
--- the marker of the line that begins there; without one, the line is no marker's
+-- the marker of the line that begins there; without one, the line has none
 abbrev pub IsMarker : List ℕ → ℕ → Option Marker → Type 0
 IsMarker t i None = ForbiddenLine t i → ⊥
 IsMarker t i (Some DocumentStart) = ForbiddenLine t i × (code t i ≡ 45)
@@ -28,7 +28,7 @@ pub data PrefixRow (t : List ℕ) : ℕ → ℕ → List CommentValue → Type 0
   mark_row : {i : ℕ} → code t i ≡ 0xFEFF → PrefixRow t i (next t i) []
   line_row : {i j : ℕ} {cs : List CommentValue} → Row t i j cs → PrefixRow t i j cs
 
--- the note of blank lines before an offset, as it is found from a floor on
+-- the note of blank lines before an offset, from a floor on
 pub record FloorNote (t : List ℕ) (floor at : ℕ) (b : Bool) : Type 0 where
   pub since : (code t at ≡ 10 → code t (at - 1) ≢ 13) → (floor < at → Blank t floor) → NotedSince t floor at b
 

@@ -11,7 +11,7 @@ use Rattle.yf_events.specs.Reading.{begins_leaf}
 use Rattle.yf_events.specs.declared.event.Span.{Span}
 use Rattle.yf_stream.specs.ReadingOf.{is_on_line}
 
--- the parts of the text that the leaves with characters have, in the order of the events
+-- the spans of the leaves with characters, in the order of the events
 abbrev pub span_in : Bool → Option Span → List Span
 span_in true (Some span) = span ∷ []
 span_in true None = []
@@ -31,13 +31,13 @@ abbrev pub end_on_line : List Line → Option ℕ → ℕ → Bool
 end_on_line ls None offset = false
 end_on_line ls (Some end) offset = list_any (is_on_line end offset) ls
 
--- the nodes of the events begin in the order of the text, none before an offset
+-- the nodes of the events begin in text order, none before an offset
 pub data BeginInOrder : ℕ → List EventInText → Type 0 where
   no_events : {i : ℕ} → BeginInOrder i []
   no_place : {i : ℕ} {e : EventInText} {es : List EventInText} → e.span ≡ None → BeginInOrder i es → BeginInOrder i (e ∷ es)
   begins : {i : ℕ} {e : EventInText} {es : List EventInText} (s : Span) → e.span ≡ Some s → i ≤ s.start → BeginInOrder s.start es → BeginInOrder i (e ∷ es)
 
--- the comments too
+-- so do the comments
 pub data CommentsInOrder : ℕ → List CommentValue → Type 0 where
   no_comments : {i : ℕ} → CommentsInOrder i []
   comment_is_at : {i : ℕ} {c : CommentValue} {cs : List CommentValue} → i ≤ c.offset → CommentsInOrder c.offset cs → CommentsInOrder i (c ∷ cs)

@@ -15,7 +15,7 @@ use Rattle.yf_stream.specs.declared.documents.Parts.{Parts}
 use Rattle.yf_stream.specs.declared.stream.Refusal.{Refusal}
 use Rattle.yf_stream.specs.declared.stream.Refusal.TheVariants as Refusals
 
--- the lists of parts, with their resolved tags and the notes of their comments; nothing is breached in them
+-- the lists of parts without breaches, with their resolved tags and the notes of their comments
 pub record MadeOf (t : List ℕ) (r : Lists) : Type 0 where
   pub parts : Parts
   pub noted : ListsOf t parts r

@@ -42,7 +42,7 @@ abbrev pub floor_at : ℕ → ℕ → List EventInText → ℕ
 floor_at offset floor [] = floor
 floor_at offset floor (e ∷ es) = floor_at offset (end_before offset floor (floor_after_event floor e e.event)) es
 
--- the comments, with the note whether a blank line is before each
+-- the comments, each with the note whether a blank line is before it
 pub data NotedComments (t : List ℕ) (es : List EventInText) : List CommentValue → List CommentValue → Type 0 where
   no_comment : NotedComments t es [] []
   one_comment : {c : CommentValue} {cs noted : List CommentValue} {b : Bool} → NotedSince t (floor_at c.offset 0 es) c.offset b

@@ -14,7 +14,7 @@ use Rattle.yf_events.specs.Event.{EventInText}
 use Rattle.yf_grammar.specs.Productions.Grammar.{BlockNode, Derives}
 use Rattle.yf_grammar.specs.Productions.Meaning.{Meaning, empty_node, noting}
 
--- a parameter of a directive of another name than YAML and TAG; it does not begin with #, which begins a comment
+-- a parameter of a directive with another name than YAML and TAG; it does not begin with #, which begins a comment
 pub data ReservedParameter (t : List ℕ) : ℕ → ℕ → List (List ℕ) → Type 0 where
   reserved_parameter : {i k j : ℕ} → SeparateInLine t i k → code t k ≢ 35 → Run (One t is_ns_char) k j
       → ReservedParameter t i j (slice_range t k j ∷ [])
@@ -127,14 +127,14 @@ pub data StreamRest (t : List ℕ) : ℕ → ℕ → Documents → Type 0 where
   past_explicit : {h g i j : ℕ} {x : Meaning} {rest : Documents} → ExplicitNode t h i j x → StreamRest t g j rest
       → StreamRest t (max h g) i (with_document x.comments (document_of i true [] x) rest)
 
--- l-yaml-stream: all of the text
+-- l-yaml-stream: the whole text
 pub data Stream (t : List ℕ) : ℕ → Documents → Type 0 where
   begins_with_document : {h g i j : ℕ} {cs ds : List CommentValue} {d : Document} {x : Documents} → Prefixes t 0 i cs
       → AnyDocument t h i j d ds → StreamRest t g j x → Stream t (max h g) (with_document (cs ++ ds) d x)
   without_document : {h i : ℕ} {cs : List CommentValue} {x : Documents} → Prefixes t 0 i cs → StreamRest t h i x
       → Stream t h (with_comments cs x)
 
--- whether `...` is written at the end of a document: the next forbidden line after it is one
+-- whether `...` is written at the end of a document: the next forbidden line after it is a `...`
 pub data EndIsMarked (t : List ℕ) (i : ℕ) : Bool → Type 0 where
   marked_end : {j : ℕ} {cs : List CommentValue} → Prefixes t i j cs → ForbiddenLine t j → code t j ≡ 46 → EndIsMarked t i true
   unmarked_end : ((j : ℕ) (cs : List CommentValue) → Prefixes t i j cs → ForbiddenLine t j → code t j ≡ 46 → ⊥) → EndIsMarked t i false

@@ -40,11 +40,12 @@ pub data StreamFault (t : List ℕ) : Fault → Type 0 where
   breached : {x : Documents} {b : Breach} {place : Position} {fault : Fault} → Shapes t x → IsFirst (breaches x.documents) b
       → IsPlaceOf t b.offset place → fault ≡ fault_of b.kind place → StreamFault t fault
 
--- the reading of a text, and the only one
+-- the only reading of a text
 pub record TheReading (t : List ℕ) (r : Lists) : Type 0 where
   pub reads : ReadingOf t r
   pub only : (other : Lists) → ReadingOf t other → other ≡ r
 
--- read_stream: a text is accepted with its only reading, and refused only for the causes of `StreamFault`
+-- the contract of `read_stream`: it returns a text's only reading, and refuses a text only for the causes of
+-- `StreamFault`
 abbrev pub ReadsStream : List ℕ → Result Lists Fault → Type 0
 ReadsStream t answer = MatchResult answer (TheReading t) (StreamFault t)

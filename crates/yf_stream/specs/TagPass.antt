@@ -39,7 +39,7 @@ abbrev pub starts_document : EventValue → Bool
 starts_document (document_starts marked) = true
 starts_document _ = false
 
--- the directives of the first of the documents that follow, and the others
+-- the directives of the first document that follows, and the other documents
 abbrev pub next_directives : List Doc → List Directive
 next_directives [] = []
 next_directives (d ∷ docs) = d.directives
@@ -86,14 +86,15 @@ pub record IsNameless (v : EventValue) : Type 0 where
   pub props : props_of v ≡ no_props
   pub alias : alias_of v ≡ None
 
--- the tag of an event has been added, and kept as a breach if it is one and the first
+-- the tag of an event has been added, and its breach kept if it is the first
 pub record TagAdded (ds : List Declaration) (e : EventInText) (before after : Option Breach) (a b : List (Option (List ℕ))) : Type 0 where
   pub finds : FirstOfBoth before after (breach_if (is_unknown ds (props_of e.event).tag) UnknownHandle (offset_or 0 e.tag_offset))
   pub tag : Option (List ℕ)
   pub is_there : is_unknown ds (props_of e.event).tag ≡ false → TagOf ds (props_of e.event).tag tag
   pub list : b ≡ a ++ tag ∷ []
 
--- an event has been gone past, with these declarations: the first of its breaches has been kept, its anchor has occurred, and its tag has been added
+-- an event has been passed, with these declarations: the first of its breaches has been kept, and its anchor and its
+-- tag have been added
 pub record EventPassed (ds : List Declaration) (e : EventInText) (before after : Option Breach) (names others : List (List ℕ)) (a b : List (Option (List ℕ))) : Type 0 where
   pub finds : FirstOfBoth before after (own_breaches ds names e)
   pub same : SameNames others (with_name (props_of e.event).anchor names)
@@ -101,7 +102,7 @@ pub record EventPassed (ds : List Declaration) (e : EventInText) (before after :
   pub is_there : is_unknown ds (props_of e.event).tag ≡ false → TagOf ds (props_of e.event).tag tag
   pub list : b ≡ a ++ tag ∷ []
 
--- all events from i up to j have been gone past
+-- all events from i up to j have been passed
 pub record AllPassed (es : List EventInText) (ds : List Declaration) (i j : ℕ) (before after : Option Breach) (names others : List (List ℕ))
     (a b : List (Option (List ℕ))) : Type 0 where
   pub found : List Breach

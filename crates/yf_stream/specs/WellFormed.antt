@@ -37,12 +37,12 @@ abbrev pub declaration_of : List (List ℕ) → Option Declaration
 declaration_of (name ∷ handle ∷ prefix ∷ []) = if bytes_eq name (codes "TAG") then Some (handle, prefix) else None
 declaration_of _ = None
 
--- the declarations after one more
+-- the declarations with one more, unless its handle is declared
 abbrev pub with_declaration : List Declaration → Option Declaration → List Declaration
 with_declaration ds None = ds
 with_declaration ds (Some d) = if is_declared ds d.0 then ds else ds ++ (d ∷ [])
 
--- a second version, and a version that is not 1; a second declaration
+-- the breaches of a second version, of a major version other than 1, and of a second declaration
 abbrev pub version_breaches : Bool → ℕ → Option (List ℕ) → List Breach
 version_breaches seen offset None = []
 version_breaches seen offset (Some version) =
@@ -94,8 +94,8 @@ abbrev pub alias_breaches : List (List ℕ) → ℕ → Option (List ℕ) → Li
 alias_breaches names offset None = []
 alias_breaches names offset (Some name) = breach_if (not (has_name names name)) UnknownAlias offset
 
--- the breaches of a document's events, with the declarations of its handles, after these anchors; an anchor has occurred
--- within its own node too
+-- the breaches of a document's events, with the declarations of its handles, after these anchors; an anchor has also
+-- occurred for the aliases within its own node
 abbrev pub event_breaches : List Declaration → List (List ℕ) → List EventInText → List Breach
 event_breaches ds names [] = []
 event_breaches ds names (e ∷ rest) =

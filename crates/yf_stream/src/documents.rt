@@ -54,7 +54,7 @@ pub(crate) struct StreamCursor {
 }
 
 impl StreamCursor {
-    // After a document's root node another document needs a `---`, or a `...` before it.
+    // Returns the cursor after a document's node. Another document needs a `---`, or a `...` before it.
     fn cursor_after(at: usize, floor: usize, reached: usize) -> StreamCursor
         ensures at { result.at ≡ at }
         ensures floor { result.floor ≡ floor }
@@ -84,7 +84,7 @@ pub(crate) enum StreamStep {
     Go(StreamCursor),
     /// No stream is derived; the reading went wrong at the byte offset.
     Syntax(usize),
-    /// The limit of open collections is passed at the byte offset.
+    /// The text passes the limit of open collections at the byte offset.
     TooDeep(usize),
 }
 

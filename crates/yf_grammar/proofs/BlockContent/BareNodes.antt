@@ -1,4 +1,4 @@
--- A flow node without properties in a block node is found as it is derived, and reached.
+-- The reader finds a flow node without properties in a block node as it is derived, and reaches its end.
 use Rattle.std.proofs.Common.{ℕ, ℤ, pos, ◌+ℤ◌, ◌<◌, ◌≤◌, false, List, Option, refl, sym, ◌∙◌, arith, true≢false}
 use Rattle.std.specs.Str.{IsUtf8}
 use Rattle.yf_chars.specs.declared.context.Ctx.{Ctx}

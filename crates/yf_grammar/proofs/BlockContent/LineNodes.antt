@@ -52,7 +52,7 @@ module _ {t : List ℕ} (u : IsUtf8 t) {p g : ℕ} {q : PropertiesValue} (line :
   node_far m f (in_key e s) = absurd (true≢false (sym e))
   node_far m f (in_node e s) = lines_far m f s
 
-  -- white space after them are the separation
+  -- white space after them is the separation
   pub gap_chosen : {k : ℕ} {w : List ℕ} (n : ℤ) → Many t is_white g k w → g < k → is_white (code t k) ≡ false → Chosen (Separate t n FlowOut g) k []
   gap_chosen n m l f = record {
     derived = in_node refl (in_line (by_whites m l));

@@ -67,7 +67,7 @@ module _ {t : List ℕ} (u : IsUtf8 t) where
   break_inside {g} b = ⊎_elim (λ (l : g < length t). l)
       (λ (l : length t ≤ g). let c = code-past t g l in ⊎_elim (λ (e : code t g ≡ 13). absurd (omega arith)) (λ (e : code t g ≡ 10). absurd (omega arith)) (break_char b)) (cases_lt g (length t))
 
-  -- a break in a row is its end
+  -- a break in a row ends it
   end_last : {e k g h : ℕ} → BreakOrEnd t e k → e ≤ g → Break t g h → k ≤ h
   end_last {e} {k} {g} {h} (by_break b) l d = ⊎_elim
       (λ (q : e ≡ g). let s = break_unique (subst (λ w. Break t w k) q b) d in omega arith)
@@ -83,7 +83,7 @@ module _ {t : List ℕ} (u : IsUtf8 t) where
       (λ (q : e.at ≤ g). end_last e.ends q d)
       (cases_lt g e.at)
 
--- rows by the last one
+-- rows, split before the last one
 data LastRow (t : List ℕ) (i k : ℕ) (x : List CommentValue) : Type 0 where
   no_row : i ≡ k → LastRow t i k x
   row_after : {j : ℕ} {y z : List CommentValue} → Chain (Row t) i j y → Row t j k z → LastRow t i k x

@@ -69,12 +69,12 @@ module _ {t : List ℕ} where
       (λ (n : j ≤ k). omega arith) (cases_lt k j))
       (cases_lt j k)
 
--- all may end at a line that begins with no `:` of an entry
+-- all nodes may end at a line that begins with no `:` of an entry
 pub allowed_all : {t : List ℕ} {j : ℕ} → ((w : ℕ) → ColonLine t w j → ⊥) → (ws : List ℕ) → NoColonAt t j ws
 allowed_all f [] = none_open
 allowed_all f (w ∷ ws) = one_open (f w) (allowed_all f ws)
 
--- a plain scalar by its last line
+-- a plain scalar, split before its last line
 data LastOf (t : List ℕ) (n : ℤ) (c : Ctx) (i l : ℕ) : Type 0 where
   on_first_line : {x : List ℕ} → PlainLine t c i l x → LastOf t n c i l
   on_next_line : {k : ℕ} {x z : List ℕ} → PlainText t n c i k x → PlainNext t n c k l z → LastOf t n c i l
@@ -96,7 +96,7 @@ pub colon_no_white : (c : ℕ) → c ≡ 58 → is_white c ≡ false
 unfolding is_white
 colon_no_white c e = ap is_white e
 
--- from the start of the last line on no line begins
+-- no line begins from the start of the last line on
 record LastStart (t : List ℕ) (n : ℤ) (c : Ctx) (k l : ℕ) : Type 0 where
   pub place : ℕ
   pub end : FoldEnd t n k place
@@ -275,7 +275,7 @@ module _ {t : List ℕ} (u : IsUtf8 t) {n : ℤ} {ws : List ℕ} {i : ℕ} where
         let m = plain_later p in
         subst (λ w. WithoutLast t n ws i w) (last_line_one (last_line u s (omega arith)) a) (made p s)
 
-  -- of one line
+  -- a scalar of one line
   pub plain_one_line : {l : ℕ} {y : List ℕ} → Chosen (Plain t n FlowOut i) l y → Stuck (MayEnd t ws l) → ((j : ℕ) → LastLine t i l j → ⊥) → Stuck (PlainPart t n ws i)
   plain_one_line {l} {y} d stuck none = go (last_of d.derived.text) where
     no_part : {j : ℕ} {x : List ℕ} {z : Meaning} → PlainLine t FlowOut i l x → PlainPart t n ws i j z → ⊥

@@ -54,7 +54,7 @@ pub three_after : (cs ps ds : List CommentValue) (x : Meaning) → meaning_after
 three_after cs ps ds x = after_after cs (ps ++ ds) x ∙ ap (λ w. meaning_after w x) (sym (append_assoc cs ps ds))
 
 module _ {t : List ℕ} where
-  -- a separation outside of keys, whatever the context
+  -- a separation outside of keys, in each context
   pub any_context : {n : ℤ} {i j : ℕ} {x : List CommentValue} (c d : Ctx) → is_key c ≡ false → is_key d ≡ false → Separate t n c i j x → Separate t n d i j x
   any_context c d e f s = in_node f (in_lines c e s)
 
@@ -74,7 +74,7 @@ module _ {t : List ℕ} (u : IsUtf8 t) where
   bar_no_key : {e k : ℕ} {n : ℤ} → is_bar_sign (code t k) ≡ true → NotKey t e n k
   bar_no_key b = record { none = λ r q. none_some (sym (no_flow_node b r)) }
 
-  -- properties before it are all that a flow node there has
+  -- a flow node there has only the properties before it
   only_properties : {e h g k : ℕ} {n : ℤ} {q : PropertiesValue} {ds : List CommentValue} {v : ParsedNode} → is_bar_sign (code t k) ≡ true → Visible t k → Separate t n FlowOut g k ds
       → PastProperties t e n FlowOut h g q (Some v) → v.end ≡ g
   only_properties {k = k} b w s (past_to_content m cs f c i r x) =

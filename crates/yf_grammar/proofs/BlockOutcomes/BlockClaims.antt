@@ -223,7 +223,7 @@ module _ {t : List ℕ} where
         (λ (y : m < l). let z = least_above s n c m q in absurd (f.shallow l p w (omega (arith, ints))))
         (λ (y : l ≤ m). y) (cases_lt m l)
 
-  -- compact entries are deeper than the node that they are
+  -- compact entries are deeper than the indentation of their node
   pub follow_compact : {v : Bool} {c : Ctx} {j : ℕ} (s : Bool) (m l : ℕ) → Follow t v (pos m) c j → FollowItems t v s (m + 1 + l) j
   follow_compact {c = c} s m l f = follow_inside s (m + 1 + l) (deeper_column s (pos m) c (m + 1 + l) (omega (arith, ints))) f
 

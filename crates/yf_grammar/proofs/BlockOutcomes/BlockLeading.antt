@@ -106,7 +106,7 @@ module _ {t : List ℕ} where
   separate_shed c q e l z (in_key f s) v = absurd (true≢false (sym f ∙ q))
   separate_shed c {i = i} {k = k} {cs = cs} q e l z (in_node f s) v = let r = lines_shed l z (subst (λ w. SeparateLines t w i k cs) e s) v in (in_node f (in_line r.0), r.1)
 
-  -- of comment lines before a node none need belong to it
+  -- comment lines before a node need not belong to it
   pub shed : {h i g j : ℕ} {n : ℤ} {c : Ctx} {es : List CommentValue} {x : Meaning} → (n +ℤ pos 1) ≡ pos 0 → LeadingLines t i g es → Stuck (Row t g) → Derives t h (BlockNode n c) i j x
       → Shed t h n c es x j g
   shed {c = c} {es = es} e l z (a_block_scalar {x = x} b s d) =

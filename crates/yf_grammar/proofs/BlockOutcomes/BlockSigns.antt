@@ -1,4 +1,4 @@
--- After the sign of an entry of a block mapping is white, a break or the end of the text.
+-- White space, a break or the end of the text follows the sign of an entry of a block mapping.
 use Rattle.std.proofs.Common.{◌≡◌, ℕ, ℤ, ◌+◌, ◌<◌, true, List, arith}
 use Rattle.std.specs.Str.{IsUtf8}
 use Rattle.yf_chars.specs.declared.context.Ctx.{Ctx}

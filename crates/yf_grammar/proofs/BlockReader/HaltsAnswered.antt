@@ -1,4 +1,4 @@
--- The relation of last halts has an outcome of each task: that cannot be refuted.
+-- The relation of last halts has an outcome for each task: that cannot be refuted.
 use Rattle.std.proofs.Common.{◌≡◌, ℕ, suc, zero, ◌+◌, ◌<◌, ◌≤◌, ℤ, pos, ◌+ℤ◌, Bool, true, false, ⊎_elim, List, [], ◌∷◌, Option, Some, None, refl, sym, ◌∙◌, arith}
 use Rattle.std.proofs.lemmas.Bool.{cases_Bool, cases_lt}
 use Rattle.std.specs.Str.{IsUtf8}

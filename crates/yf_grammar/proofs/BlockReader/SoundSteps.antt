@@ -51,7 +51,7 @@ parts_of j h b x e q =
     let s = some_found j h b x (sym q ∙ e) in
     record { end = ap (λ w. w.end) s; height = ap (λ w. w.height) s; meaning = ap (λ w. w.meaning) s }
 
--- how the reader came to the first character of a node that is awaited from i on
+-- the reader's way to the first character of a node that is awaited from i on
 pub data Sits (t : List ℕ) (b : Bool) (n : ℤ) (c : Ctx) (i p : ℕ) (cols : Columns) : List CommentValue → Type 0 where
   sits_on_line : {w : List ℕ} → Many t is_white i p w → i < p → Compact t b n i p cols → Sits t b n c i p cols []
   sits_below : {k m : ℕ} {cs : List CommentValue} → LineEnd t i k cs → LineText t k m p → Begins t n c i k m p → LineColumns n c k m p cols → Sits t b n c i p cols cs
@@ -65,7 +65,7 @@ column_is (column_not n) q = absurd (differ q) where
   differ e = cc
 
 module _ {t : List ℕ} where
-  -- at the first line that is read, its white space separate
+  -- at the first line that is read, its white space is the separation
   first_line : {i k m p : ℕ} {x : List CommentValue} → LineEnd t i k x → LineText t k m p → k ≡ i → (x ≡ []) × SeparateInLine t i p
   first_line {i} {k} {m} {p} d w e =
       let w' : LineText t i m p = subst (λ v. LineText t v m p) e w in
@@ -103,7 +103,7 @@ module _ {t : List ℕ} where
   any_properties c d a b (tag_first v s w) = tag_first v (any_context c d a b s) w
   any_properties c d a b (anchor_first v s w) = anchor_first v (any_context c d a b s) w
 
--- properties before others, which go together
+-- properties, and those after them, joined
 pub record Joined (t : List ℕ) (n : ℤ) (c : Ctx) (f g k : ℕ) (p q : PropertiesValue) (ds : List CommentValue) : Type 0 where
   pub value : PropertiesValue
   pub derived : Properties t n c f k value
@@ -119,7 +119,7 @@ join_anchor : (f h : ℕ) (tag : TagValue) (name : List ℕ) (ds : List CommentV
 unfolding both with_comments one_of
 join_anchor f h tag name ds g k = ap (λ w. Props (held (tag_with_anchor h tag name w) f k)) (append-nil ds)
 
--- two of one kind
+-- two anchors or two tags
 clash_tags : (v : PropertiesHeld) (q : PropertiesValue) (x y : TagValue) (ds : List CommentValue) → v.value.props.tag ≡ Some x → q.props.tag ≡ Some y → Clash (with_comments v ds) q
 unfolding with_comments
 clash_tags v q x y ds e f = tags_clash e f

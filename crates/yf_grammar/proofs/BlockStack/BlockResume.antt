@@ -1,5 +1,6 @@
--- A reader of block nodes with a stack after a node that was found whole: its entry ends, or the `:` after its key follows; then the
--- next entry of the innermost collection begins, or that collection ends, and with it perhaps some round it, or a deeper line breaks all.
+-- A reader of block nodes with a stack, after a whole node: its entry ends, or the `:` after its key follows. Then the
+-- next entry of the innermost collection begins; or that collection ends, and perhaps some round it; or a deeper line
+-- breaks all.
 use Rattle.std.proofs.Common.{◌≡◌, ℕ, suc, ◌+◌, Bool, true, List, [], ◌∷◌, Option, Some, None, refl, sym, ap, ◌∙◌, subst, arith}
 use Rattle.yf_grammar.specs.Productions.Grammar.{ColonLine}
 use Rattle.yf_grammar.specs.FlowReader.Parser.{ParsedNode, found}

@@ -33,7 +33,7 @@ unfolding made_or
 in_key_halt ls l i r o None k = refl
 in_key_halt ls l i r o (Some f) k = ap (λ s. Some (rounds ls (collection_made l (entry_made s f)))) (sym k)
 
--- how many collections are open
+-- the number of open collections
 pub room_left : {t : List ℕ} {d : ℕ} {root : BlockTask} {e : ℕ} {inner : BlockTask} {ls : List Layer} {r : Option ParsedNode} → Around t d root ls e inner r → length ls + e ≡ d
 room_left outermost = omega arith
 room_left (in_entry a n y s) = let b = room_left a in omega (arith, b)

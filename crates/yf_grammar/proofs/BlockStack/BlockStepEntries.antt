@@ -16,7 +16,7 @@ awaits_itself = record { some = λ g w. w; none = λ w. w }
 pub halts_itself : {t : List ℕ} {e : ℕ} {ws : List ℕ} {a : BlockTask} → TaskHalted t e ws a (λ f. f) None e ws a
 halts_itself = record { some = λ g h. h; none = λ h. h }
 
--- an outcome, whatever it is
+-- any outcome
 pub outcome_halted : {t : List ℕ} {e d : ℕ} {vs ws : List ℕ} {a b : BlockTask} {f : ParsedNode → ParsedNode} {o r : Option ParsedNode} → TaskHalted t e vs a f o d ws b
     → Halts t e vs a r → Halts t d ws b (made_or f o r)
 unfolding made_or

@@ -165,7 +165,7 @@ module _ {t : List ℕ} where
   pub scalar_ascends : {n : ℤ} {i j : ℕ} {x : Meaning} → BlockScalar t n i j x → Ascend t i x.comments j
   scalar_ascends (block_scalar h b l) = ascend_join (header_ascends h) (body_ascends b)
 
-  -- of all productions
+  -- for all productions
   pub derived_ascends : {h i j : ℕ} {p : Production} {x : Meaning} → Derives t h p i j x → Ascend t i x.comments j
   unfolding meaning_after noting ◌⊕◌ collection with_props entering scalar alias_to empty_node
   derived_ascends (flow_node d) = derived_ascends d

@@ -190,7 +190,7 @@ pub record ContentBefore (t : List ℕ) (k : ℕ) : Type 0 where
 pub after_byte : {t : List ℕ} (i : ℕ) {b : ℕ} → IsUtf8 t → code t i ≡ b → b < 128 → is_ns_char b ≡ true → ContentBefore t (i + 1)
 after_byte {t} i {b} u e l n = record { at = i; char = b; reads = reads_byte t i b u e l; ns = n }
 
--- after such a character no line begins
+-- no line begins after such a character
 pub no_start_past : {t : List ℕ} {k : ℕ} → IsUtf8 t → ContentBefore t k → LineStart t k → ⊥
 no_start_past {t} {k} u b s =
     let r = b.reads in
@@ -204,7 +204,7 @@ no_start_past {t} {k} u b s =
     (λ (e : w.1 ≡ 0xFEFF). true≢false (sym n ∙ ap is_ns_char e ∙ mark_no_ns)) o) w.3)
     (line_start_after u s)
 
--- after blanks no character of content ends
+-- no character of content ends after blanks
 pub blanks_after : {t : List ℕ} {i j : ℕ} {x : List ℕ} → IsUtf8 t → Many t is_blank i j x → (i ≡ j) ⊎ (is_ns_char (before t j) ≡ false)
 blanks_after u done = inl refl
 blanks_after {t} {j = j} u (step (one {i = i} e) c) =

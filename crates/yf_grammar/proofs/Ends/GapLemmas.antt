@@ -57,7 +57,7 @@ module _ {t : List ℕ} where
   pub visible_apparent : {k : ℕ} → Visible t k → Apparent t k
   visible_apparent v = record { white = not_white_at v; hash = v.no_hash; ends = no_end_at v }
 
-  -- no white space and no row begin there
+  -- neither white space nor a row begins there
   still_whites : {k m : ℕ} {w : List ℕ} → Visible t k → Many t is_white k m w → m ≡ k
   still_whites {k} {m} {w} v c =
       let l = (many_chosen t is_white (done {i = k}) (not_white_at v)).longest m w c in
@@ -125,7 +125,7 @@ module _ {t : List ℕ} {n : ℤ} {c : Ctx} where
       let a = apparent_last s (visible_apparent v) r in
       let b = apparent_last r (visible_apparent w) s in omega arith
 
--- one separation after another is one
+-- two separations in sequence are one
 module _ {t : List ℕ} where
   line_join : {i j k : ℕ} → SeparateInLine t i j → SeparateInLine t j k → SeparateInLine t i k
   line_join (at_start s) d = d
@@ -137,7 +137,7 @@ module _ {t : List ℕ} where
   rest_join s (whites r e) = whites (line_join s r) e
   rest_join s (comment r d e) = comment (line_join s r) d e
 
-  -- after a line's rest a line begins, or nothing is left
+  -- a line begins after a line's rest, or nothing is left
   pub rows_next : {i j : ℕ} {x : List CommentValue} → LineStart t i ⊎ (i ≡ length t) → Chain (Row t) i j x → LineStart t j ⊎ (j ≡ length t)
   rows_next s done = s
   rows_next s (step r c) = rows_next (rest_next r.rest) c

@@ -72,7 +72,7 @@ module _ (t : List ℕ) (u : IsUtf8 t) (floor : ℕ) where
   since_over_break (lone_lf {i = h} p q) i c v f =
       subst (λ k. BlankSince t floor k) (same_place t i h u (gap_below (code t i) v) (omega arith) (f ∙ sym (next_ascii t h (omega arith)))) c
 
-  -- going back over a break, and on over it
+  -- the walk back over a break, and further over it
   since_past_break : {h j : ℕ} → Break t h j → BlankSince t floor j → Blank t h ⊎ BlankSince t floor h
   since_past_break {h} b d = since_cases d
       (λ i c k. inl (subst (λ v. Blank t v) (start_unique t u k b) c))

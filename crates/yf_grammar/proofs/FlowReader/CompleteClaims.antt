@@ -27,7 +27,7 @@ use Rattle.yf_grammar.proofs.FlowReader.CompleteSteps.{end_visible, stop_of_colo
 abbrev pub Exactly : List ℕ → ℕ → Task → ℕ → ℕ → Meaning → Type 0
 Exactly t e task j h x = (o : Option ParsedNode) → Parses t e task o → (b : Bool) × (o ≡ found j h b x)
 
--- after `?` and a separation is a key or a value, which is found; or nothing
+-- a key or a value follows `?` and a separation, and is found; or nothing follows
 pub data ExplicitClaim (t : List ℕ) (m : ℤ) (d : Ctx) (s : ℕ) : ℕ → ℕ → ℕ → Meaning → Type 0 where
   entry_goes_on : {h i j : ℕ} {x : Meaning} → Visible t i → is_end (code t i) ≡ false
       → (Clear t i j → Ending t m d j → (e : ℕ) → h ≤ e → Exactly t e (AnExplicit m d s i) j h x) → ExplicitClaim t m d s h i j x

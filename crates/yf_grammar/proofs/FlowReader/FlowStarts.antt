@@ -111,13 +111,13 @@ pub record Starts (t : List ℕ) (i j : ℕ) : Type 0 where
   pub visible : Visible t i
   pub no_end : is_end (code t i) ≡ false
 
--- of a node: after a `:` or `?` at its start is a character that is safe
+-- for a node: a safe character follows a `:` or `?` at its start
 pub record NodeStarts (t : List ℕ) (c : Ctx) (i j : ℕ) : Type 0 where
   pub starts : Starts t i j
   pub colon : code t i ≡ 58 → is_plain_safe (code t (i + 1)) c ≡ true
   pub question : code t i ≡ 63 → is_plain_safe (code t (i + 1)) c ≡ true
 
--- of a quoted scalar or a flow collection
+-- for a quoted scalar or a flow collection
 pub record ContentStarts (t : List ℕ) (i j : ℕ) : Type 0 where
   pub later : i < j
   pub content : begins_content (code t i) ≡ true
@@ -249,7 +249,7 @@ module _ {t : List ℕ} where
   flow_starts (an_indented_node _) = tt
   flow_starts (nothing_indented _ _) = tt
 
--- after a character of content, before another one, nothing separates
+-- nothing separates two adjacent characters of content
 module _ {t : List ℕ} where
   no_whites_there : {k m : ℕ} {w : List ℕ} → is_ns_char (code t k) ≡ true → Many t is_white k m w → k < m → ⊥
   no_whites_there {k} {m} {w} n c l = let f = (many_chosen t is_white (done {i = k}) (ns_not_white (code t k) n)).longest m w c in omega arith

@@ -35,7 +35,7 @@ use Rattle.yf_grammar.proofs.FlowReader.Complete.{complete}
 use Rattle.yf_grammar.proofs.FlowReader.Sound.{found_is_derived}
 use Rattle.yf_props.proofs.NameOrder.{properties_forward}
 
--- the outcome is something that ends after j, or at j with that meaning
+-- the outcome is not `None`, and ends after j, or at j with that meaning
 pub record Longest (o : Option ParsedNode) (j : ℕ) (x : Meaning) : Type 0 where
   pub answer : ParsedNode
   pub is : o ≡ Some answer
@@ -145,7 +145,7 @@ module _ {t : List ℕ} (u : IsUtf8 t) {n : ℤ} {c : Ctx} (b : is_block c ≡ f
         let one = separate_is v (separated s) y in
         absurd ((subst (λ h. Stuck (Plain t n c h)) one.0 w).none j x (record { text = q; clear = a }))
 
-  -- whatever the outcome is, it reaches each node that is derived within the limit
+  -- each outcome reaches each node that is derived within the limit
   pub longest : {h e i j : ℕ} {json : Bool} {x : Meaning} {o : Option ParsedNode} → h ≤ e → Derives t h (NodeOf json n c) i j x → Clear t i j → Parses t e (ANode n c i) o → Longest o j x
   longest {i = i} {j = j} {x = x} l (an_alias y a) k r = exact_longest j 0 false x (node_alias a r)
   longest {i = i} {j = j} {x = x} {o = o} l (a_plain {x = y} p) k r =

@@ -51,7 +51,7 @@ module _ {X : Type 0} {P : ℕ → X → Type 0} {B : Type 0} where
   pub takes : Irrefutable (ChosenOrStuck P) → ((j : ℕ) (x : X) → Chosen P j x → Irrefutable B) → (Stuck P → Irrefutable B) → Irrefutable B
   takes a some none = then a (λ r. by_reach r some none)
 
--- how much is left of a task
+-- the weight of a task, by the length of the text that is left
 abbrev left : List ℕ → ℕ → ℕ
 left t i = 8 * (length t - i)
 
@@ -116,7 +116,7 @@ pub plain_else : (c : ℕ) → begins_alias c ≡ false → begins_properties c 
 unfolding begins_plain
 plain_else c a b d = rw (a, b, d) refl
 
--- a value always is found
+-- a value is always found
 value_found : {t : List ℕ} {e i : ℕ} {json : Bool} {n : ℤ} {c : Ctx} {o : Option ParsedNode} → Parses t e (AValue json n c i) o → None ≡ o → ⊥
 value_found (Parser.value_read s p) e = absurd (cc)
 value_found (Parser.value_empty {i = i} cs s p) e = none_found (i + 1) 0 false _ e

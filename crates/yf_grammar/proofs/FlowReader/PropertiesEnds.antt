@@ -277,12 +277,12 @@ module _ {t : List ℕ} {n : ℤ} {c : Ctx} where
       → Visible t m → is_stop (code t m) ≡ true → Chosen (Properties t n c i) k q → (k ≡ g) × (q ≡ p)
   properties_alone_before u d s v f best = chosen_from u (ended_alone u s v f) d best
 
-  -- and those after which a separation is that they cannot pass
+  -- and those before a separation that they cannot pass
   pub properties_before_line : {m : ℤ} {d : Ctx} {i g l k : ℕ} {p q : PropertiesValue} {x : List CommentValue} → IsUtf8 t → Properties t n c i g p → Separate t m d g l x
       → ((h : ℕ) (y : List CommentValue) → Separate t n c g h y → Visible t h → ⊥) → Chosen (Properties t n c i) k q → (k ≡ g) × (q ≡ p)
   properties_before_line u e s f best = chosen_from u (ended_line u s f) e best
 
-  -- none that are derived there end later
+  -- no properties that are derived there end later
   pub properties_upto : {i g m k : ℕ} {p q : PropertiesValue} {x : List CommentValue} → IsUtf8 t → Properties t n c i g p → Separate t n c g m x
       → Visible t m → begins_properties (code t m) ≡ false → Properties t n c i k q → k ≤ g
   properties_upto u d s v f e = longest u (ended_before u s v f) d e

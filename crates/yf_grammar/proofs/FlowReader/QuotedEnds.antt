@@ -82,7 +82,7 @@ module _ {t : List ℕ} where
   pub double_widened : {n m : ℤ} {c d : Ctx} {i j : ℕ} {x : List Piece} → IsUtf8 t → is_key c ≡ true → is_block d ≡ false → DoubleQuoted t n c i j x → DoubleQuoted t m d i j x
   double_widened u e b q = quoted_widened (double_kind t) u e b q
 
-  -- one that is shorter than another one ends before a quote
+  -- a quoted scalar that is shorter than another one ends before a quote
   pub single_before_quote : {n : ℤ} {c : Ctx} {i j k : ℕ} {x y : List ℕ} → is_block c ≡ false → SingleQuoted t n c i j x → SingleQuoted t n c i k y → j < k → code t j ≡ 39
   single_before_quote {n} {c} b p q l =
       let w = some_width n c b in

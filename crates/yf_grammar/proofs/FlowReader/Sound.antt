@@ -155,7 +155,7 @@ sound (Parser.value_adjacent {c = c} {f = f} s p) = λ q a.
 sound (Parser.value_adjacent_empty {c = c} s p) = λ q a. record { derived = Grammar.empty_value (inside_not_block c q) a.colon a.follows; within = omega arith }
 sound (Parser.value_missing {c = c} s) = λ q a. record { derived = Grammar.empty_value (inside_not_block c q) a.colon a.follows; within = omega arith }
 
--- a flow node that was found is derived, and opens no more collections than it may
+-- a flow node that was found is derived, and opens no more collections than the limit
 pub found_is_derived : {t : List ℕ} {e i : ℕ} {n : ℤ} {c : Ctx} {f : ParsedNode} → is_block c ≡ false → Parses t e (Parser.ANode n c i) (Some f)
     → Derives t f.height (Grammar.NodeOf f.json n c) i f.end f.meaning × (f.height ≤ e)
 found_is_derived b p = let m = sound p b in (m.derived, m.within)

@@ -13,7 +13,7 @@ use Rattle.yf_grammar.specs.FlowReader.Parser.{ParsedNode, Task, ColonAt, PairKe
 use Rattle.yf_grammar.specs.FlowReader.Parser as Parser
 use Rattle.yf_grammar.proofs.Ends.Ways.{Is, Never, Fork, Takes, Past, Finds, Limited, Somewhere, Flagged}
 
--- the outcomes of the tasks that a task calls for
+-- the outcomes of the tasks that a task calls
 abbrev pub Outcomes : Type 1
 Outcomes = ℕ → Task → Option ParsedNode → Type 0
 

@@ -19,7 +19,7 @@ use Rattle.yf_grammar.specs.FlowReader.Parser.{begins_content}
 use Rattle.yf_grammar.specs.Productions.SpellableTexts.{IsSpelled}
 use Rattle.yf_grammar.proofs.Ends.GapLemmas.{Visible}
 
--- a tag that is written with a character at least
+-- a tag with at least one written character
 pub data HasText : TagValue → Type 0 where
   verbatim_text : {text : List ℕ} → HasText (IsVerbatim text)
   short_text : {handle suffix : List ℕ} → 0 < length handle → HasText (IsShort handle suffix)

@@ -1,4 +1,4 @@
--- The trees that the parts of a production mean make up the tree that it means, with their nodes in order.
+-- The trees of a production's parts make up the tree of the production, with their nodes in order.
 use Rattle.std.proofs.Common.{◌≡◌, ℕ, ◌<◌, ◌≤◌, Bool, true, false, List, [], ◌∷◌, ◌++◌, Option, Some, None, refl, sym, ap, ◌∙◌, append_assoc, append-nil, arith}
 use Rattle.yf_comments.specs.Comment.{CommentValue}
 use Rattle.yf_props.specs.Props.{PropsValue, no_props}
@@ -57,7 +57,7 @@ pub record PairsAt (t : List ℕ) (i j : ℕ) (x : Meaning) : Type 0 where
   pub is_there : PairsStand t i x.finish pairs
   pub ends : x.finish ≤ j
 
--- by the kind of collection: true is a sequence
+-- for either kind of collection: true for a sequence
 pub data EntryAt (t : List ℕ) : Bool → ℕ → ℕ → Meaning → Type 0 where
   an_item : {i j : ℕ} {x : Meaning} → ItemAt t i j x → EntryAt t true i j x
   a_pair : {i j : ℕ} {x : Meaning} → PairAt t i j x → EntryAt t false i j x

@@ -1,4 +1,4 @@
--- The header of a block scalar and its lines are in a prefix as in the text.
+-- A prefix derives the header of a block scalar and its lines as the text does.
 use Rattle.std.proofs.Common.{◌≡◌, ◌≢◌, ℕ, ◌+◌, ◌-◌, ◌<◌, ◌≤◌, ℤ, ⊎_elim, Bool, false, Option, None, List, [], ◌++◌, get_or, length, replicate, refl, sym, ap, ◌∙◌, subst, arith}
 use Rattle.std.proofs.lemmas.Bool.{cases_eq, cases_lt}
 use Rattle.yf_chars.specs.Text.{code, next}
@@ -150,7 +150,7 @@ module _ {t s : List ℕ} {k : ℕ} (f : PrefixText t s k) where
         clear = λ q. d.clear (marker_line_there (alike_back f.alike) q l);
       }
 
-  -- nothing but the end is at the end
+  -- only the end is at the end
   nothing_at_end : (c m i : ℕ) → c < 0x110000 → k ≤ i → code s (i + m) ≡ c → ⊥
   nothing_at_end c m i l g e = let z = f.closed in let p = code-past s (i + m) (omega arith) in absurd (omega arith)
 

@@ -1,4 +1,4 @@
--- Aliases, anchors, tags and properties are in a prefix as in the text.
+-- A prefix derives aliases, anchors, tags and properties as the text does.
 use Rattle.std.proofs.Common.{◌≡◌, ℕ, ◌+◌, ◌<◌, ◌≤◌, ℤ, ⊎_elim, Bool, true, false, true≢false, List, refl, sym, ap, ◌∙◌, arith}
 use Rattle.std.proofs.lemmas.Bool.{cases_lt}
 use Rattle.yf_chars.specs.Text.{code, no_char}

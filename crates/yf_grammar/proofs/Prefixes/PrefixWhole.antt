@@ -125,7 +125,8 @@ module _ {t : List ℕ} (u : IsUtf8 t) {e i : ℕ} {n : ℤ} {c : Ctx} {f : Pars
   pub prefix_length : length (take f.end t) ≡ f.end
   prefix_length = length-take-le f.end t prefix_boundary.0
 
-  -- So whatever that reader finds in the prefix is the longest part of the text, with one meaning, and it finds a node there.
+  -- So each outcome of that reader in the prefix is the longest part of the text, with one meaning, and it finds a node
+  -- there.
   pub prefix_reads : {g : ParsedNode} {part : Part} → Whole (take f.end t) e (Awaited false n c Nothing i) (Some g) → Fills (take f.end t) g.meaning part
       → Chosen (BlockNodePart t e n c i) g.end part
   unfolding found

@@ -53,7 +53,7 @@ dashes_end = line_ends (feed 1 refl refl) (seen 2 refl refl)
 abbrev root : BlockTask
 root = Awaited false (negsuc 0) BlockIn Nothing 0
 
--- the outermost node is awaited, and is on the first line; before it nothing may end
+-- the outermost node is awaited on the first line; nothing may end before it
 dashes_awaited : NodeAt dashes 1 root [] 1 [] root None
 dashes_awaited = node_is_at outermost refl
 

@@ -1,4 +1,5 @@
--- Small block nodes with a key, a plain scalar and a block scalar, each with the outcome that the reader has there, written out by hand.
+-- Small block nodes with a key, a plain scalar and a block scalar, each with the reader's outcome there, written out by
+-- hand.
 use Rattle.std.proofs.Common.{◌≡◌, ℕ, ◌+◌, ◌<◌, ◌≤◌, pos, negsuc, true, false, List, [], ◌∷◌, Some, None, codes, refl, sym, ap, ◌∙◌, subst, arith, true≢false, ⊎_elim}
 use Rattle.std.proofs.lemmas.Bool.{cases_lt}
 use Rattle.std.specs.Str.{IsUtf8, chars}

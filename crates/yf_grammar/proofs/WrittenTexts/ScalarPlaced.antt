@@ -38,7 +38,7 @@ pub record ScalarNode (t : List ℕ) (n : ℤ) (h : Header) (ls : List (List ℕ
 abbrev event_of : ScalarStyle → List ℕ → List (List ℕ) → ℕ → ℕ → EventInText
 event_of style text lines i j = record { event = scalar_node no_props style text; span = from_to i j; tag_offset = None; entry = None; folded = lines }
 
--- how far it reaches, by its sign
+-- its reach, from its sign
 pub record Reaching (t : List ℕ) (c : Chomp) (lines tail i : ℕ) : Type 0 where
   pub end : ℕ
   pub between : LinesBetween t (reach c lines tail) i end

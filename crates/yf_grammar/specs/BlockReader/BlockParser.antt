@@ -19,7 +19,8 @@ use Rattle.yf_grammar.specs.Productions.Grammar.{characters_between, KEY_LIMIT, 
 use Rattle.yf_grammar.specs.Productions.Meaning.{Meaning, ◌⊕◌, meaning_after, noting, empty_node, collection, with_props, entering}
 use Rattle.yf_grammar.specs.FlowReader.Parser.{ParsedNode, found, Parses, ANode, OnOneLine, begins_alias, begins_properties}
 
--- the `-` of an entry, with no ns-char after it; a `?` or `:`, with white, a break or the end of the text after it
+-- the `-` of an entry, with no ns-char after it; a `?` or `:`, with white space, a break or the end of the text after
+-- it
 pub record DashAt (t : List ℕ) (i : ℕ) : Type 0 where
   pub dash : code t i ≡ 45
   pub follows : is_ns_char (code t (i + 1)) ≡ false
@@ -118,7 +119,7 @@ alone Nothing k ds = None
 alone (Indicator i) k ds = found k 0 false (noting (empty_node i) ds)
 alone (Props h) k ds = found k 0 false (noting (headed (Props h) (empty_node h.end)) ds)
 
--- properties of one line after those of lines before: no two of one kind
+-- properties of one line after those of earlier lines: at most one anchor and one tag
 unfoldable pub one_of : {A : Type 0} → Option A → Option A → Option A
 one_of None x = x
 one_of (Some a) x = Some a
@@ -148,8 +149,8 @@ pub record Apart (a : Ahead) (q : PropertiesValue) : Type 0 where
   pub is : a ≡ Props held
   pub clash : Clash held q
 
--- an implicit key of a block mapping: a flow node that was found from i on, outside of brackets, is on one line and not too
--- long, and white space follow and a `:` with white or the end after it
+-- an implicit key of a block mapping: a flow node that was found from i on, outside of brackets, is on one line and not
+-- too long; white space may follow it, and then a `:` with white space, a break or the end of the text after it
 pub record KeyBefore (t : List ℕ) (i : ℕ) (f : ParsedNode) (k : ℕ) : Type 0 where
   pub whites : List ℕ
   pub run : Many t is_white f.end k whites
@@ -161,12 +162,13 @@ pub data NoKey (t : List ℕ) (i : ℕ) : Option ParsedNode → Type 0 where
   key_missed : NoKey t i None
   key_unfit : {f : ParsedNode} → ((k : ℕ) → KeyBefore t i f k → ⊥) → NoKey t i (Some f)
 
--- no key begins there: the flow node is none, or the line ends after its properties
+-- no key begins there: no flow node there is one, or the line ends after its properties
 pub data Keyless (t : List ℕ) (e : ℕ) (n : ℤ) (i : ℕ) : Type 0 where
   node_unfit : {o : Option ParsedNode} → Parses t e (ANode n FlowOut i) o → NoKey t i o → Keyless t e n i
   properties_end_line : {g l : ℕ} {q : PropertiesValue} {ds : List CommentValue} → Chosen (Properties t (pos 0) FlowKey i) g q → LineEnd t g l ds → Keyless t e n i
 
--- the next entry of a collection of that kind and column is on the line; a line that is none, and not deeper
+-- the next entry of a collection of that kind and column is on the line; no such entry and no deeper line; a deeper
+-- line
 pub data NextEntry (t : List ℕ) : Bool → ℕ → ℕ → Type 0 where
   next_item : {m k p : ℕ} → LineText t k m p → DashAt t (k + m) → NextEntry t true m k
   next_pair : {m k p : ℕ} → LineText t k m p → NextEntry t false m k
@@ -202,7 +204,7 @@ pub data BlockTask : Type 0 where
   Below : ℤ → Ctx → Ahead → ℕ → BlockTask
   -- a node with its first character on the line at the offset
   Inline : ℤ → Ctx → Columns → Ahead → ℕ → BlockTask
-  -- a block scalar, or a flow node without properties, after which the line ends
+  -- a block scalar, or a flow node without properties at the end of a line
   Leaf : ℤ → Ahead → ℕ → BlockTask
   -- entries at a column, the first at the offset; one entry
   Items : Bool → ℕ → Origin → ℕ → BlockTask

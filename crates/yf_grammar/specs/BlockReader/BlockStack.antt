@@ -40,7 +40,7 @@ pub record Layer : Type 0 where
   pub known : Meaning
   pub stage : Stage
 
--- the collection that is made of the present entry and those after it
+-- the collection made of the present entry and those after it
 abbrev pub collection_made : Layer → ParsedNode → ParsedNode
 collection_made l g = as_after l.comments (as_collection l.ahead l.sequence l.first (after_entries l.high l.known g))
 
@@ -54,7 +54,7 @@ pub record EntriesIn (t : List ℕ) (e : ℕ) (ws : List ℕ) (l : Layer) (q : O
   pub awaited : TaskAwaited t e (Items l.sequence l.column q i) (collection_made l) (suc e) outer
   pub halted : TaskHalted t e ws (Items l.sequence l.column q i) (collection_made l) o (suc e) ws outer
 
--- the node of the present entry is awaited, and nothing of the entry after it; o is the last halt of the entry so far
+-- the node of the present entry is awaited, and nothing of the entry follows it; o is the last halt of the entry so far
 pub record EntryIn (t : List ℕ) (e : ℕ) (ws : List ℕ) (l : Layer) (q : Origin) (i : ℕ) (o : Option ParsedNode) (inner : BlockTask) : Type 0 where
   pub awaited : TaskAwaited t e inner (entry_made l.stage) e (Item l.sequence l.column q i)
   pub halted : TaskHalted t e ws inner (entry_made l.stage) o e ws (Item l.sequence l.column q i)

@@ -80,13 +80,14 @@ place_of (AtKey i) = i
 place_of (AtLoneValue i) = i
 place_of (AtValue i k f) = i
 
--- the comments that go before a node, and not to the properties ahead of it
+-- the comments that go before a node, and not to the properties of its `Ahead`
 abbrev pub outcome_before : Ahead → List CommentValue → List CommentValue
 outcome_before Nothing ds = ds
 outcome_before (Indicator i) ds = ds
 outcome_before (Props h) ds = []
 
--- the line at an offset, or the want of one, ends a collection after its present node; and several, the innermost first
+-- a collection ends after its present node, since of the line at an offset or without a line; several end, the
+-- innermost first
 pub record EndsHere (t : List ℕ) (at : ℕ) (l : Layer) : Type 0 where
   pub no_entry : NoEntry t l.sequence l.column at
   pub no_colon : asks l.stage ≡ true → ColonLine t l.column at → ⊥

@@ -44,7 +44,7 @@ pub data Alone (t : List ℕ) (ws : List ℕ) (a : Ahead) (i : ℕ) : Option Par
   alone_to : {k : ℕ} {ds : List CommentValue} → Chosen (MayEnd t ws i) k ds → Alone t ws a i (alone a k ds)
   alone_nowhere : Stuck (MayEnd t ws i) → Alone t ws a i None
 
--- nothing is found, or not that after it
+-- nothing is found, or P does not hold at its end
 pub data NoneAfter (P : ℕ → Type 0) : Option ParsedNode → Type 0 where
   not_found : NoneAfter P None
   not_after : {f : ParsedNode} → (P f.end → ⊥) → NoneAfter P (Some f)

@@ -28,7 +28,7 @@ pub record EntriesAwaited (t : List ℕ) (e : ℕ) (sequence : Bool) (n : ℤ) (
 pub record SeparationAwaited (t : List ℕ) (e : ℕ) (sequence : Bool) (n : ℤ) (c d : Ctx) (i h : ℕ) (x : Meaning) (at : ℕ) : Type 0 where
   pub past : (k : ℕ) (cs : List CommentValue) → Gap t n d at k cs → EntriesAwaited t e sequence n c d i h (noting x cs) k
 
--- an entry from s to j; its kind plays no part
+-- an entry from s to j, of either kind
 pub record IsEntry (t : List ℕ) (e : ℕ) (sequence : Bool) (n : ℤ) (d : Ctx) (s j h : ℕ) (x : Meaning) : Type 0 where
   pub json : Bool
   pub read : Parses t e (AnEntry sequence n d s) (Some (record { end = j; height = h; json = json; meaning = x }))
@@ -42,7 +42,7 @@ abbrev pub wrapped : Bool → ℕ → Meaning → Meaning
 wrapped false s x = x
 wrapped true s x = entering s None (collection false true s x.finish x)
 
--- after `?` and its separation, x is known of the entry that begins at s, and its rest is awaited at p
+-- after `?` and its separation: x is the part so far of the entry that begins at s, and the rest is awaited at p
 pub record RestAwaited (t : List ℕ) (e : ℕ) (sequence : Bool) (n : ℤ) (d : Ctx) (pair : Bool) (s : ℕ) (x : Meaning) (p : ℕ) : Type 0 where
   pub some : (f : ParsedNode) → Parses t e (AnExplicit n d s p) (Some f)
       → IsEntry t (with_pair pair e) sequence n d s f.end (with_pair pair f.height) (wrapped pair s (x ⊕ f.meaning))
@@ -71,7 +71,7 @@ pub record ValueNodeAwaited (t : List ℕ) (e : ℕ) (sequence : Bool) (n : ℤ)
 abbrev pub is_entry_end : ℕ → Bool
 is_entry_end c = (c == 44) || (c == 93) || (c == 125)
 
--- neither `?` with a separation nor a value is at the entry, so a node is awaited there
+-- the entry begins neither with `?` and a separation nor with a value, so a node is awaited there
 pub record ItemAwaited (t : List ℕ) (n : ℤ) (d : Ctx) (s : ℕ) : Type 0 where
   pub no_sign : code t s ≡ 63 → Stuck (Separate t n d (s + 1))
   pub no_value : ColonAt t false d s → ⊥

@@ -54,7 +54,7 @@ pub record ColonAt (t : List ℕ) (json : Bool) (c : Ctx) (i : ℕ) : Type 0 whe
   pub colon : code t i ≡ 58
   pub follows : MayBeColon json t (i + 1) c
 
--- a key of a single pair: on one line, and not too long; white space may be after it
+-- a key of a single pair: on one line, and not too long; white space may follow it
 pub record PairKey (t : List ℕ) (c : Ctx) (i : ℕ) (f : ParsedNode) (k : ℕ) : Type 0 where
   pub whites : List ℕ
   pub run : Many t is_white f.end k whites
@@ -105,7 +105,7 @@ paired s k f cs g = found g.end (max f.height g.height) false (noting (entering 
 unfoldable pub pair_entry : ℕ → ParsedNode → Option ParsedNode
 pair_entry i f = found f.end (suc f.height) false (entering i None (collection false true i f.meaning.finish f.meaning))
 
--- nothing but comments
+-- only comments
 unfoldable pub only : List CommentValue → ℕ → Meaning
 only cs finish = record { events = []; comments = cs; escapes = []; finish = finish }
 

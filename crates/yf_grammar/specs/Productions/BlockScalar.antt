@@ -23,7 +23,7 @@ abbrev pub kept_lines : Bool → List (List ℕ) → List (List ℕ)
 kept_lines true lines = lines
 kept_lines false lines = []
 
--- how many lines after its header the scalar reaches: to its last content line, or through its kept tail
+-- the number of lines after its header that the scalar reaches: to its last content line, or through its kept tail
 abbrev pub reach : Chomp → ℕ → ℕ → ℕ
 reach Strip lines tail = lines
 reach Clip lines tail = lines

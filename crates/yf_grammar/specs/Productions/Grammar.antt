@@ -79,7 +79,7 @@ pub data MaySeparateInLine (t : List ℕ) : ℕ → ℕ → Type 0 where
   unseparated_in_line : {i : ℕ} → MaySeparateInLine t i i
   separated_in_line : {i j : ℕ} → SeparateInLine t i j → MaySeparateInLine t i j
 
--- how many characters are between two offsets
+-- the number of characters between two offsets
 unfoldable pub characters_between : List ℕ → ℕ → ℕ → ℕ
 characters_between t i j = length (chars (take (j - i) (drop i t)))
 
@@ -103,7 +103,8 @@ abbrev pub least_column : Bool → ℤ → Ctx → ℤ
 least_column true n BlockOut = n
 least_column _ n _ = n +ℤ pos 1
 
--- an explicit entry's `:` is at the column m of the line that begins at j (s-indent, `:`, and white or the line's end)
+-- an explicit entry's `:` is at the column m of the line that begins at j (s-indent, `:`, and white space or the line's
+-- end)
 pub record ColonLine (t : List ℕ) (m j : ℕ) : Type 0 where
   pub indent : Spaces t j m
   pub colon : code t (j + m) ≡ 58

@@ -54,7 +54,7 @@ alias_to name i j = record { events = plain_event (alias_node name) (from_to i j
 unfoldable pub empty_node : ℕ → Meaning
 empty_node finish = record { events = plain_event (scalar_node no_props Plain []) None ∷ []; comments = []; escapes = []; finish = finish }
 
--- a collection's events round those of its entries: a sequence or a mapping, in flow style or not
+-- a collection's events around those of its entries: a sequence or a mapping, in flow style or not
 abbrev pub start_of : Bool → Bool → EventValue
 start_of true flow = sequence_starts flow no_props
 start_of false flow = mapping_starts flow no_props
@@ -89,7 +89,7 @@ first_with props tag i j (e ∷ es) =
 unfoldable pub with_props : PropsValue → Option ℕ → ℕ → ℕ → Meaning → Meaning
 with_props props tag i j x = record x { events = first_with props tag i j x.events }
 
--- the first event begins an entry; whether a blank line is before it is noted afterwards (`Noting`)
+-- the first event begins an entry; the note whether a blank line is before it is filled in later (`Noting`)
 abbrev pub first_entering : Entry → List EventInText → List EventInText
 first_entering entry [] = []
 first_entering entry (e ∷ es) = record e { entry = Some entry } ∷ es

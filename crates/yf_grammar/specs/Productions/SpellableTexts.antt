@@ -1,4 +1,4 @@
--- When a style of scalars can spell a text: some text has such a scalar.
+-- A style of scalars can spell a text if some text has such a scalar.
 use Rattle.std.specs.Prelude.{◌≡◌, ℕ, List, [], ◌∷◌}
 use Rattle.std.specs.Str.{IsUtf8}
 use Rattle.yf_events.specs.Event.{EventValue, sequence_starts, mapping_starts, scalar_node}

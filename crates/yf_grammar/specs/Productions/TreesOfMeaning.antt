@@ -29,7 +29,7 @@ pub record PairsMeant (ps : Pairs) (m : Meaning) : Type 0 where
   pub events : m.events ≡ flat_pairs pairs
   pub escapes : m.escapes ≡ []
 
--- how many collections are open at once in a node
+-- the number of collections open at once in a node
 abbrev mutual
   pub tall : Node → ℕ
   tall (scalar at props style text lines) = 0

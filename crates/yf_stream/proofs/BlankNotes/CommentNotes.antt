@@ -1,4 +1,4 @@
--- Comments of line ends, separations and properties: each is within them, and carries its note, whatever floor lies before them.
+-- Comments of line ends, separations and properties: each is within them, and has its note with each floor before them.
 use Rattle.std.proofs.Common.{◌≡◌, ℕ, ℤ, ◌<◌, ◌≤◌, Bool, true, false, List, [], ◌∷◌, ◌++◌, sym, subst, arith}
 use Rattle.std.specs.Str.{IsUtf8}
 use Rattle.yf_chars.specs.declared.context.Ctx.{Ctx}

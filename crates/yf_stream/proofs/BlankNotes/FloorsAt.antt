@@ -31,7 +31,7 @@ floor_late o f l m (one_element {x = e} {xs = es} (floor_set s q k a b) r) =
     ap (λ (z : ℕ). floor_at o z es) (end_taken o f (floor_after_event f e e.event) (omega (arith, same)))
     ∙ floor_late o (floor_after_event f e e.event) (omega (arith, same)) m r
 
--- the floor after them is one whatever was before, or they leave it
+-- the floor after them doesn't depend on the floor before, or they keep it
 pub floor_sets : {i j : ℕ} {es : List EventInText} → Each (FloorIn i j) es → ((f g : ℕ) → floor_of f es ≡ floor_of g es) ⊎ ((f : ℕ) → floor_of f es ≡ f)
 floor_sets no_element = inr (λ f. refl)
 floor_sets (one_element {x = e} {xs = es} (floor_kept k) r) =

@@ -1,4 +1,5 @@
--- Each comment of a block node carries whether a blank line is before it, seen from the floor that the node's block scalars before it set.
+-- Each comment of a block node notes whether a blank line is before it, from the floor that the node's block scalars
+-- before it set.
 use Rattle.std.proofs.Common.{◌≡◌, ℕ, ℤ, ◌<◌, ◌≤◌, Bool, true, false, List, [], ◌∷◌, ◌++◌, Option, None, refl, sym, ap, ◌∙◌, subst, arith}
 use Rattle.std.specs.Str.{IsUtf8}
 use Rattle.yf_chars.specs.declared.context.Ctx.{Ctx}

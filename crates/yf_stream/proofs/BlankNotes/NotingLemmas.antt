@@ -1,4 +1,5 @@
--- The notes of blank lines before the entries of events: of events one after the other, and with another floor before a visible character.
+-- The notes of blank lines before the entries of events: for events in sequence, and with another floor before a
+-- visible character.
 use Rattle.std.proofs.Common.{◌≡◌, ℕ, ◌<◌, ◌≤◌, Bool, false, ◌⊎◌, inl, ⊎_elim, List, [], ◌∷◌, ◌++◌, Option, Some, None, refl, sym, subst, arith}
 use Rattle.std.specs.Str.{IsUtf8}
 use Rattle.yf_chars.specs.Text.{code, no_char}

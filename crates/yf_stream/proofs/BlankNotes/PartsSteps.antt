@@ -177,7 +177,7 @@ module _ {t : List ℕ} (u : IsUtf8 t) where
       let after : EntriesAfter p y.events = subst (λ z. EntriesAfter p z) (sym a.events) (node_entries p (omega arith) a.is_there (none_after p a.no_entry)) in
       noting_over u p r s (inr (omega arith, o)) after n
 
-  -- one document more
+  -- one more document
   document_more : {k m at start : ℕ} {marked : Bool} {dirs : List Directive} {a b : Parts} {after : StreamCursor} {y : Meaning} (x : Documents) (cs : List CommentValue)
       (c : ClosedParts t k x.documents a) → Guard t (floor_of 0 c.derived) m → m ≤ at → k ≤ at → NodeParts t at start marked dirs a b after y
       → EventsRead t after (followed x (one_document cs (document_of start marked dirs y))) b
@@ -248,7 +248,7 @@ module _ {t : List ℕ} (u : IsUtf8 t) {cursor : StreamCursor} {x : Documents} {
       } in
       document_more u x y.comments parts s.guard (omega arith) (omega arith) (node_parts u d)
 
--- before anything has been read, but the start of the stream
+-- only the start of the stream has been read
 pub events_begin : {t : List ℕ} {a b : Parts} (cursor : StreamCursor) → cursor.at ≡ 0 → not cursor.may_be_bare ≡ false → a ≡ no_parts → b ≡ with_event a stream_starts
     → EventsRead t cursor (only_comments []) b
 events_begin {t} cursor k o e f =

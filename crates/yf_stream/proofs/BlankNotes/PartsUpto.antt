@@ -85,7 +85,7 @@ module _ {t : List ℕ} where
       let same = (stuck_unique prefix_functional (prefixes_rows d) (still (λ b. absurd (omega arith)) (dot_still e)) c (still m r)).0 in
       n (subst (λ z. ForbiddenLine t z) same f) (ap (code t) (sym same) ∙ e))
 
-  -- the end of the document that is open
+  -- the end of the open document
   pub parts_closed : {cursor : StreamCursor} {x : Documents} {p : Parts} (b : Bool)
       → ((j : ℕ) (cs : List CommentValue) → LineOrEnd t j → Chain (PrefixRow t) j cursor.at cs → EndIsMarked t j b) → EventsRead t cursor x p
       → ClosedParts t cursor.at x.documents (closed b (not cursor.may_be_bare) p)

@@ -1,4 +1,5 @@
--- The comments of a block scalar: its header's before its lines, and those after it, which carry whether a blank line is between.
+-- The comments of a block scalar: its header's before its lines, and those after it, which note whether a blank line is
+-- between.
 use Rattle.std.proofs.Common.{◌≡◌, ℕ, ◌+◌, ◌-◌, ◌<◌, ◌≤◌, Bool, true, false, nat_lt, ⊎_elim, List, ◌++◌, length, refl, sym, ap, ◌∙◌, subst, arith}
 use Rattle.std.proofs.lemmas.Bool.Decides.{nat_tests}
 use Rattle.std.specs.Str.{IsUtf8}

@@ -1,4 +1,4 @@
--- The last leaf before an offset is found from the end.
+-- The search for the last leaf before an offset goes backwards from the end.
 use Rattle.std.proofs.Common.{◌≡◌, ℕ, zero, suc, ◌+◌, ◌-◌, ◌<◌, ◌≤◌, Bool, true, false, List, ◌++◌, drop, length, map, Option, Some, None, refl, sym, ap, ◌∙◌, subst, inl, inr, arith, slice_get, nat_lt, if◌then◌else◌}
 use Rattle.std.proofs.lemmas.Bool.{cases_lt}
 use Rattle.std.proofs.lemmas.Bool.Decides.{nat_tests}
@@ -21,7 +21,7 @@ past_unleaved es i found o f n =
     let none : begins_leaf a.event.event rest ≡ false = sym (ap first_begins_leaf a.here) ∙ n in
     ap (λ z. last_end found o (leaf_spans z)) a.here ∙ ap (λ b. last_end found o (span_in b a.event.span ++ leaf_spans rest)) none
 
--- some end has been found up to an index
+-- an end has been found up to an index
 record Reaches (es : List EventInText) (i j : ℕ) (found : Option ℕ) (o : ℕ) : Type 0 where
   mid : Option ℕ
   same : last_end found o (leaf_spans (drop i es)) ≡ last_end mid o (leaf_spans (drop j es))
@@ -43,7 +43,7 @@ reaches (suc n) es i j found offset o e l h =
     let rest = reaches n es (i + 1) j one.mid offset o (omega (arith, e)) l (λ k m q. h k (omega (arith, m)) q) in
     record { mid = rest.mid; same = one.same ∙ rest.same }
 
--- from an index on no leaf is left
+-- no leaf is left from an index on
 pub record NoneFrom (es : List EventInText) (i j : ℕ) : Type 0 where
   pub none : (found : Option ℕ) (o : ℕ) → last_end found o (leaf_spans (drop i es)) ≡ last_end found o (leaf_spans (drop j es))
 
@@ -70,7 +70,7 @@ leaf_found {es} {i} {at} {j} {found} k {s} e l m f leaf n = record {
 pub no_leaf_found : {es : List EventInText} {i at j : ℕ} (found : Option ℕ) → at ≡ i → NoneFrom es at j → LastLeaf es i j found found
 no_leaf_found {es} {i} {at} {j} found e n = record { same = λ offset o h q. ap (λ z. last_end found o (leaf_spans (drop z es))) (sym e) ∙ n.none found o }
 
--- one event more that has begun
+-- one more event that has begun
 pub begun_more : {offset start at : ℕ} {es : List EventInText} → BegunAt offset es at → ((k : ℕ) → start ≤ k → k < at → BegunAt offset es k)
     → (k : ℕ) → start ≤ k → k < at + 1 → BegunAt offset es k
 begun_more {offset} {start} {at} {es} one before k l m = elim (cases_lt k at) [

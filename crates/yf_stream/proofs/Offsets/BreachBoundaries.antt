@@ -40,7 +40,7 @@ second_all : {X : Type 0} (P : X → Type 0) (xs ys : List X) → All P (xs ++ y
 second_all P [] ys a = a
 second_all P (x ∷ xs) ys a = second_all P xs ys (All-tail P x (xs ++ ys) a)
 
--- the parts of the text that events have begin with characters
+-- the spans of events begin with characters
 abbrev StartAt : List ℕ → Option Span → Type 0
 StartAt t None = Unit {0}
 StartAt t (Some s) = code t s.start < no_char

@@ -148,7 +148,7 @@ module _ {t : List ℕ} (u : IsUtf8 t) where
       let f = suffixes_forward s in let g = parts_forward p in document_is_at (document_after (omega arith) (document_at d)) (rest_is_at r)
   rest_is_at (past_explicit e r) = document_is_at (explicit_at e) (rest_is_at r)
 
-  -- of a stream
+  -- for a stream
   pub stream_is_at : {h : ℕ} {x : Documents} → Stream t h x → DocumentsStand t 0 x.documents
   unfolding with_comments with_document
   stream_is_at (begins_with_document p d r) = document_is_at (document_after (omega arith) (document_at d)) (rest_is_at r)

@@ -1,4 +1,5 @@
--- The comments of a stream, and those of a reading, are in the order of the text and within it, and each begins with its sign.
+-- The comments of a stream, and those of a reading, are in text order and within the text, and each begins with its
+-- sign.
 use Rattle.std.proofs.Common.{◌≡◌, ℕ, suc, zero, ◌+◌, ◌<◌, ◌≤◌, List, [], ◌∷◌, length, subst, ⊎_elim, arith}
 use Rattle.std.proofs.lemmas.Bool.{cases_lt}
 use Rattle.std.specs.Prelude.{slice_index_or}

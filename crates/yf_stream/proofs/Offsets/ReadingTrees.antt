@@ -44,7 +44,7 @@ record NotedTrees (t : List ℕ) (i : ℕ) (ds : List Document) (rest ys : List 
   is : ys ≡ flat_map flat_document trees ++ more
   noting : Noting t floor rest more
 
--- how the events of documents are joined
+-- the joined events of documents
 
 pub parted : (s e : EventInText) (root x rest : List EventInText) → (s ∷ (root ++ (e ∷ x))) ++ rest ≡ s ∷ (root ++ (e ∷ (x ++ rest)))
 parted s e root x rest = ap (λ z. s ∷ z) (append_assoc root (e ∷ x) rest)
@@ -90,7 +90,7 @@ module _ {t : List ℕ} where
         noting = follows.noting;
       }
 
--- the trees of the events of documents that are derived, with their notes filled in
+-- the trees of the events of derived documents, with their notes filled in
 pub record EventTrees (t : List ℕ) (ds : List Document) (noted : List EventInText) : Type 0 where
   pub trees : List DocumentTree
   pub events : noted ≡ flat_stream trees

@@ -1,4 +1,4 @@
--- Directives, as a reader finds them: each up to the end of its line, with all comment lines after it.
+-- Directives as a reader finds them: each up to the end of its line, with all comment lines after it.
 use Rattle.std.proofs.Common.{◌≡◌, ◌≢◌, ℕ, ◌+◌, ◌≤◌, List, [], ◌∷◌, ◌++◌, slice_range, false, refl, sym, ap, ◌∙◌, subst, arith, append_assoc, append-nil}
 use Rattle.std.proofs.lemmas.List.Elements.{All-append, All-cons, All-nil}
 use Rattle.std.proofs.lemmas.Bool.{true_from_ne_false}
@@ -26,7 +26,7 @@ use Rattle.yf_stream.proofs.Uniqueness.OneDirective.{no_end_before, parameters_o
 use Rattle.yf_stream.proofs.Uniqueness.OneTag.{tag_end}
 
 module _ {t : List ℕ} (u : IsUtf8 t) where
-  -- of words that end before the end of a line none are left
+  -- words that end before the end of a line leave no words over
   words_end : {i j k n : ℕ} {x y : List (List ℕ)} {b : List CommentValue} → ContentBefore t i → Chain (ReservedParameter t) i j x → Chain (ReservedParameter t) i k y → k ≤ j
       → LineEnd t k n b → k ≡ j
   words_end {i} {j} {k} {n} {x} {y} {b} h c d l e = go (chain_meet (reserved_functional u) c d) where

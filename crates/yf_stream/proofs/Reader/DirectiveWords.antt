@@ -1,4 +1,4 @@
--- The parameters of a directive, as a reader finds them: as long as they go, or none.
+-- The parameters of a directive as a reader finds them: as far as they go, or none.
 use Rattle.std.proofs.Common.{◌≡◌, ◌≢◌, ℕ, ◌+◌, Bool, false, List, [], ◌∷◌, ◌++◌, slice_range, codes, refl, sym, ap, ◌∙◌, subst, arith, true≢false, append_assoc, Option, Some, None, MatchOption}
 use Rattle.std.specs.Str.{IsUtf8}
 use Rattle.yf_chars.specs.Text.{code}
@@ -16,7 +16,7 @@ use Rattle.yf_stream.specs.Stream.ReservedParameter.{reserved_parameter}
 use Rattle.yf_stream.proofs.Uniqueness.OneDirective.{digit_ns, no_ns_white, run_first, yaml_no_tag}
 
 module _ {t : List ℕ} where
-  -- white space up to a character that is none
+  -- white space up to another character
   pub same_start : {i k l : ℕ} {w : List ℕ} → Many t is_white i k w → is_white (code t k) ≡ false → SeparateInLine t i l → is_white (code t l) ≡ false → l ≡ k
   same_start m e s f = (many_unique t is_white (separate_whites s).1 f m e).0
 

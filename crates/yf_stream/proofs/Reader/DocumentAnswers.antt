@@ -129,7 +129,7 @@ outcome_of t at before part i e f =
     subst (λ w. OutcomeTied t DEPTH (pos 0 -ℤ pos 1) BlockIn at before w part) f
     (subst (λ z. IfOk z (λ w. OutcomeTied t DEPTH (pos 0 -ℤ pos 1) BlockIn at before w part)) e i)
 
--- the documents after one more
+-- one more document
 pub documents_opened : (t : List ℕ) (a : Parts) {b : Parts} (start : ℕ) (marked : Bool) (ds : List Directive) → b ≡ opened start marked ds a → DocumentsAt t a.documents → DirectivesAt t ds
     → DocumentsAt t b.documents
 documents_opened t a start marked ds e d h =

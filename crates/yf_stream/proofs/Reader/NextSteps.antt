@@ -32,7 +32,7 @@ use Rattle.yf_stream.proofs.Reader.NodeSteps.{MarkedThrough, marked_at_dash, mar
 use Rattle.yf_stream.proofs.Reader.PathsThrough.{PathsThrough, no_second_bare}
 use Rattle.yf_stream.proofs.Reader.StreamUpto.{ReadUpto, followed, one_document, past_document, past_dots, past_marked_document, past_prefix, three_dashes}
 
--- the node of a document has been read, or an empty one, after the beginning of the document
+-- the node of a document, or an empty one, has been read after the start of the document
 pub data NodeDone (t : List ℕ) (at : ℕ) (a b : Parts) (after : StreamCursor) : Meaning → Type 0 where
   node_done : (n : NodeEnds t at a b after) → NodeDone t at a b after n.chosen.derived.meaning
   nothing_done : (n : NothingEnds t at a b after) → NodeDone t at a b after (noting (empty_node at) n.ends.comments)

@@ -45,7 +45,7 @@ pub record MarkedAt (t : List ℕ) (p : ℕ) : Type 0 where
   pub first_within : first ≤ DEPTH
   pub others_within : others ≤ DEPTH
 
--- each stream that is derived has one there
+-- each derived stream has one there
 pub record MarkedThrough (t : List ℕ) (p : ℕ) : Type 0 where
   pub path : (h : ℕ) (x : Documents) → Stream t h x → h ≤ DEPTH → MarkedAt t p
 
@@ -151,7 +151,7 @@ module _ {t : List ℕ} where
       let a = settled_here (percent_still c) (p.path h x d l) in
       nowhere (λ q ds cs r. no_end u e.percent e.none e.longest r) (at_percent c a.path)
 
-  -- after directives is a `---`
+  -- a `---` follows directives
   pub no_marker_there : {p : ℕ} → (ForbiddenLine t p → code t p ≡ 45 → ⊥) → MarkedThrough t p → NoStream t
   no_marker_there n m h x d l = let a = m.path h x d l in n a.marker a.dash
 

@@ -52,7 +52,7 @@ module _ {t : List ℕ} where
   content_not_at_end {k} e (content_at (by_whites (step (one w) c) l) n h) = let b = white_below (code t k) w in let g = end_code t e in absurd (omega arith)
   content_not_at_end {k} e (content_at (at_start s) n h) = let b = ns_below (code t k) n in let g = end_code t e in absurd (omega arith)
 
-  -- at the end of the text a path ends, and nothing is left on it
+  -- a path ends at the end of the text, with nothing left on it
   pub path_at_end : {b : Bool} {h k : ℕ} {x : Documents} → k ≡ length t → Path t b h k x → (h ≡ 0) × (x ≡ only_comments [])
   path_at_end e (path_ends q) = (refl, refl)
   path_at_end {k = k} e (path_mark m s p) = let n = end_code t e in absurd (omega arith)

@@ -30,7 +30,7 @@ pub record PathAfter (t : List ℕ) (b : Bool) (i : ℕ) : Type 0 where
   pub settled : Settled t i place comments
   pub goes : PathAt t b place
 
--- each stream that is derived has such a path there
+-- each derived stream has such a path there
 pub record PathsThrough (t : List ℕ) (b : Bool) (k : ℕ) : Type 0 where
   pub path : (h : ℕ) (x : Documents) → Stream t h x → h ≤ DEPTH → PathAfter t b k
 
@@ -66,7 +66,7 @@ module _ {t : List ℕ} where
   past_rows done p = p
   past_rows (step r c) p = past_rows c (past_row r p.settled.rows p.settled.last p.goes)
 
-  -- from the beginning of the text on, and after all that is before a document
+  -- from the beginning of the text on, and after all document prefixes
   pub paths_begin : IsUtf8 t → PathsThrough t true 0
   paths_begin u = record {
     path = λ h x d l.

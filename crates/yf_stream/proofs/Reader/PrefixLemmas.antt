@@ -1,4 +1,4 @@
--- The lines before a document, as a reader passes them, and the comments that it keeps.
+-- The lines before a document as a reader passes them, and the comments that it keeps.
 use Rattle.std.proofs.Common.{◌≡◌, ◌≢◌, ℕ, ◌+◌, ◌<◌, ◌≤◌, Bool, List, [], ◌∷◌, ◌++◌, length, map, drop, inl, ⊎_elim, refl, sym, ap, ◌∙◌, subst, arith, append_assoc, append-nil}
 use Rattle.std.proofs.lemmas.List.{drop_all, drop_more}
 use Rattle.std.specs.Prelude.{slice_index_or}
@@ -41,7 +41,7 @@ kept_join {a = a} k l = record {
   list = l.list ∙ ap (λ z. z ++ l.noted) k.list ∙ append_assoc a k.noted l.noted;
 }
 
--- of all comments some have been kept, and the others are left
+-- some of all comments have been kept, and the others are left
 pub record KeptUpto (t : List ℕ) (f : ℕ) (all a b left : List CommentValue) : Type 0 where
   pub some : List CommentValue
   pub kept : CommentsAdded t f some a b

@@ -27,7 +27,7 @@ use Rattle.yf_stream.specs.Stream.StreamRest.{past_explicit, past_prefix, past_s
 use Rattle.yf_stream.specs.Stream.Suffixes.{last_suffix, more_suffixes}
 use Rattle.yf_stream.specs.WellFormed.{ReadsWithoutBreach, Shapes}
 
--- no character is anywhere
+-- the text has no character
 no_code : (i : ℕ) → code [] i ≡ no_char
 no_code i = code-past [] i (omega arith)
 

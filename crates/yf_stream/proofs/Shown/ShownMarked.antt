@@ -1,5 +1,5 @@
--- The texts of a `---` line and a comment line, with a word after the marker and without: whoever takes the comment, and whether the
--- document counts as the first or as a further one, it is one stream.
+-- The texts of a `---` line and a comment line, with a word after the marker and without: whichever part takes the
+-- comment, and whether the document counts as the first or as a further one, it is one stream.
 use Rattle.std.proofs.Common.{◌≡◌, ℕ, ℤ, ◌+◌, ◌<◌, ◌≤◌, true, false, List, [], ◌∷◌, ◌++◌, refl, sym, ap, ◌∙◌, ◌⊎◌, inl, inr, arith, subst, append_assoc}
 use Rattle.std.proofs.lemmas.Bool.{true≢false}
 use Rattle.std.specs.Str.{chars}

@@ -214,7 +214,7 @@ module _ {t : List ℕ} {p e d : ℕ} {remark : CommentValue} (o : OneComment t 
   prefix_forward (step (order_mark f) c) = absurd (o.chars.mark _ f)
   prefix_forward (step (prefix_comment q) c) = let a = line_forward q in let b = prefix_forward c in omega arith
 
-  -- comment lines pass no character of content but of the comment
+  -- comment lines pass no character of content except the comment's
   module _ {r : ℕ} (content : is_ns_char (code t r) ≡ true) (apart : p ≤ r → e ≤ r) where
     pub separation_side : {i j : ℕ} → SeparateInLine t i j → i ≤ r → j ≤ r
     separation_side s l = whites_side t r content (separate_whites s).1 l

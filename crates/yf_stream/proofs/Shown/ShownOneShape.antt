@@ -1,4 +1,5 @@
--- The texts of one word and one comment line: whoever takes the comment, it is one stream, so each has one shape.
+-- The texts of one word and one comment line: whichever part takes the comment, it is one stream, so each has one
+-- shape.
 use Rattle.std.proofs.Common.{◌≡◌, ◌≢◌, ℕ, ℤ, pos, ◌+◌, ◌+ℤ◌, ◌-ℤ◌, ◌<◌, ◌≤◌, false, List, [], ◌∷◌, ◌++◌, refl, sym, ap, ◌∙◌, ◌⊎◌, inl, inr, ⊎_elim, arith, subst}
 use Rattle.std.proofs.lemmas.Bool.{cases_lt}
 use Rattle.std.specs.Str.{chars}

@@ -22,7 +22,7 @@ break_at (cr_lf p q) = inr (refl, (p, q))
 break_at (lone_cr p q) = inl (refl, inr p)
 break_at (lone_lf p q) = inl (refl, inl p)
 
--- a character of a gap takes one byte, or is a mark
+-- a character of a gap has one byte, or is a mark
 gap_at : (t : List ℕ) (i : ℕ) → is_gap (code t i) ≡ true → (next t i ≡ i + 1) ⊎ (code t i ≡ 0xFEFF)
 unfolding is_gap is_break_char
 gap_at t i e = ⊎_elim (λ (w : is_white (code t i) ≡ true). inl (next_ascii t i (white_below _ w))) others (cases_Bool (is_white (code t i))) where
@@ -34,7 +34,7 @@ gap_at t i e = ⊎_elim (λ (w : is_white (code t i) ≡ true). inl (next_ascii 
   others w = ⊎_elim (λ (b : (code t i == 10) || (code t i == 13) ≡ true). inl (breaks b))
       (λ (b : (code t i == 10) || (code t i == 13) ≡ false). inr (eqb-true (code t i) 0xFEFF (rw (w, b) at e))) (cases_Bool ((code t i == 10) || (code t i == 13)))
 
--- a comment at the start of the text, or after a line that ends with the character at p, which is none of a gap, and a line
+-- a comment at the start of the text, or after a line that ends with the character at p, which is no gap, and a line
 -- feed; no mark is near
 module _ (t : List ℕ) where
   at_front : {j : ℕ} → j ≡ 0 → BlankBefore t j → ⊥

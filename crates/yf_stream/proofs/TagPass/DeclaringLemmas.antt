@@ -1,4 +1,4 @@
--- The directives of a document, one after the other: the first breach in them, and the handles that they declare.
+-- The directives of a document in sequence: the first breach in them, and the handles that they declare.
 use Rattle.std.proofs.Common.{◌≡◌, ℕ, ◌+◌, ◌≤◌, Bool, false, ◌||◌, List, [], ◌∷◌, ◌++◌, drop, length, Option, Some, None, refl, sym, ap, ◌∙◌, subst, append_assoc, append-nil, is_some, not, slice_get}
 use Rattle.std.proofs.Math.ListN.{drop_of_length-le}
 use Rattle.yf_props.specs.Handles.{Declaration}

@@ -57,7 +57,7 @@ found_nothing {a} {b} {x} e p = go a (subst (λ z. FirstOfBoth a z x) e p) where
   go None p = (refl, p.first [] refl)
   go (Some b) p = some_none (p.first (b ∷ []) (alone b))
 
--- escapes, one after the other
+-- escapes in sequence
 pub escapes_join : (a b : List ℕ) → escape_breaches (a ++ b) ≡ escape_breaches a ++ escape_breaches b
 escapes_join [] b = refl
 escapes_join (x ∷ a) b = ap (λ z. record { offset = x; kind = EscapeValue } ∷ z) (escapes_join a b)

@@ -69,7 +69,7 @@ module _ {t : List ℕ} where
   no_percent_entries e (a_last_entry d) = no_percent_entry e d
   no_percent_entries e (an_entry_before d s r) = no_percent_entry e d
 
-  -- nothing but the start of a line ends there
+  -- only the start of a line ends there
   no_lines : {k l : ℕ} {x : List CommentValue} → code t k ≡ 37 → LineEnd t k l x → l ≡ k
   no_lines {k} e d = go (line_end_rows d) where
     go : {l : ℕ} {x : List CommentValue} → Chain (Row t) k l x → l ≡ k

@@ -1,4 +1,4 @@
--- The parameters of a TAG directive, as a reader finds them: as long as they go, or none.
+-- The parameters of a TAG directive as a reader finds them: as far as they go, or none.
 use Rattle.std.proofs.Common.{◌≡◌, ℕ, ◌+◌, ◌<◌, ◌≤◌, true, false, ⊎_elim, List, [], ◌∷◌, slice_range, codes, refl, sym, ap, ◌∙◌, subst, arith, true≢false}
 use Rattle.std.proofs.lemmas.Bool.{cases_lt}
 use Rattle.std.specs.Str.{IsUtf8}
@@ -112,7 +112,7 @@ module _ {t : List ℕ} (u : IsUtf8 t) where
               ∙ ap (λ w. slice_range t k h ∷ slice_range t w j ∷ []) (same_prefix v);
         }
 
-  -- a prefix that the end of a line follows is the longest one
+  -- a prefix before the end of a line is the longest one
   uris_end : {i j k n : ℕ} {x y : List ℕ} {b : List CommentValue} → ContentBefore t i → Chain (UriChar t) i j x → Chain (UriChar t) i k y → k ≤ j → LineEnd t k n b → k ≡ j
   uris_end {i} {j} {k} {n} {x} {y} {b} o c d l e = go (chain_meet (spelled_functional t is_uri_char percent_uri) c d) where
     stays : {k j : ℕ} {z : List ℕ} → ContentBefore t k → LineEnd t k n b → Chain (UriChar t) k j z → k ≡ j

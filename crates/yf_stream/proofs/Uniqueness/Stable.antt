@@ -35,7 +35,7 @@ abbrev number_of : Bool → ℕ
 number_of true = 1
 number_of false = 0
 
--- a type that can be written down in a stable one is stable
+-- a type that can be encoded in a stable one is stable
 module _ {A B : Type 0} (f : A → B) (g : B → A) (back : (a : A) → g (f a) ≡ a) where
   stable_by : Stable B → Stable A
   stable_by s = record { same = λ x y e. sym (back x) ∙ ap g (s.same (f x) (f y) (follows e (λ q. ap f q))) ∙ back y }
