@@ -48,7 +48,7 @@ FlowOutcomesAreOne = (t : List ℕ) (e : ℕ) (task : Task) (o p : Option Parsed
 abbrev pub FlowNodesHaveOutcomes : Type 0
 FlowNodesHaveOutcomes = (t : List ℕ) (e i : ℕ) (n : ℤ) (c : Ctx) → IsUtf8 t → is_flow c ≡ true → ((o : Option ParsedNode) → Parses t e (ANode n c i) o → ⊥) → ⊥
 
--- If the first call of the reader of block nodes finds a node, with an indentation of -1 or more, it is the longest
+-- If the outermost call of the reader of block nodes finds a node, with an indentation of -1 or more, it is the longest
 -- block node there that is derived within the limit of open collections and covers no forbidden line, and it has one
 -- meaning.
 abbrev pub WholeNodesAreChosen : Type 0
@@ -61,7 +61,7 @@ abbrev pub DerivedNodesAreWhole : Type 0
 DerivedNodesAreWhole = (t : List ℕ) (h e i j : ℕ) (n : ℤ) (c : Ctx) (x : Meaning) (o : Option ParsedNode) → IsUtf8 t → Derives t h (BlockNode n c) i j x → h ≤ e → Clear t i j
     → Stuck (Row t j) → LinesEnd t j → Whole t e (Awaited false n c Nothing i) o → o ≡ found j h false x
 
--- The first call of that reader has an outcome at each offset, within each limit: it cannot be that it has none.
+-- The outermost call of that reader has an outcome at each offset, within each limit: it cannot be that it has none.
 abbrev pub BlockNodesHaveOutcomes : Type 0
 BlockNodesHaveOutcomes = (t : List ℕ) (e i : ℕ) (n : ℤ) (c : Ctx) → IsUtf8 t → ((o : Option ParsedNode) → Whole t e (Awaited false n c Nothing i) o → ⊥) → ⊥
 
@@ -75,7 +75,7 @@ LastHaltsAreChosen = (t : List ℕ) (e i : ℕ) (n : ℤ) (c : Ctx) (f : ParsedN
 abbrev pub NoBlockNodeIsMissed : Type 0
 NoBlockNodeIsMissed = (t : List ℕ) (e i : ℕ) (n : ℤ) (c : Ctx) → IsUtf8 t → Halts t e [] (Awaited false n c Nothing i) None → Stuck (BlockNodePart t e n c i)
 
--- The first call has a last offset at which its node may end, or it has none, within each limit: it cannot be that
+-- The outermost call has a last offset at which its node may end, or it has none, within each limit: it cannot be that
 -- neither is so.
 abbrev pub LastHaltsHaveOutcomes : Type 0
 LastHaltsHaveOutcomes = (t : List ℕ) (e i : ℕ) (n : ℤ) (c : Ctx) → IsUtf8 t → ((o : Option ParsedNode) → Halts t e [] (Awaited false n c Nothing i) o → ⊥) → ⊥

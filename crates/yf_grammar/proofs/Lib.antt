@@ -4,7 +4,7 @@ pub mod LawsHold
 pub mod Laws
 -- the base of all others: ends, gaps, and the text after nodes
 pub mod Ends
--- the recursive reader of flow nodes: it has one outcome (`Outcome`), is sound and complete, and takes the longest node
+-- the recursive reader of flow nodes has one outcome (`Outcome`), is sound and complete, and takes the longest node
 pub mod FlowReader
 -- a flow collection that is read with a stack (`Tied` of yf_flow)
 pub mod FlowStack

@@ -1,4 +1,5 @@
--- The search for the last leaf before an offset: forwards to the first event that begins at it or after it, and back to a leaf.
+-- The search for the last leaf before an offset: forwards to the first event that begins at it or after it, and back to
+-- a leaf.
 use Rattle.std.specs.Prelude.{◌≡◌, ℕ, ◌<◌, ◌≤◌, List, drop, map, Option, Some, None, slice_get}
 use Rattle.yf_events.specs.Event.{EventInText}
 use Rattle.yf_events.specs.declared.event.Span.{Span}

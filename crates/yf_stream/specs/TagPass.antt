@@ -53,7 +53,8 @@ abbrev pub own_breaches : List Declaration → List (List ℕ) → EventInText �
 own_breaches ds names e = breach_if (is_unknown ds (props_of e.event).tag) UnknownHandle (offset_or 0 e.tag_offset)
     ++ alias_breaches names (start_or 0 e.span) (alias_of e.event)
 
--- the breaches of the events that follow in a document with these declarations, after these anchors, and of the documents that follow it
+-- the breaches of the events that follow in a document with these declarations, after these anchors, and of the
+-- documents that follow it
 abbrev pub pass_breaches : List Doc → List Declaration → List (List ℕ) → List EventInText → List Breach
 pass_breaches docs ds names [] = []
 pass_breaches docs ds names (e ∷ es) =

@@ -135,7 +135,7 @@ pub record IsFirst (bs : List Breach) (b : Breach) : Type 0 where
   pub among : Contains bs b
   pub all : All (IsEarlierBreach b) bs
 
--- the one shape of a text: it is derived as a stream within the limit of open collections, and so is nothing else
+-- the one shape of a text: the only stream that is derived from it within the limit of open collections
 pub record Shapes (t : List ℕ) (x : Documents) : Type 0 where
   pub height : ℕ
   pub derived : Stream t height x

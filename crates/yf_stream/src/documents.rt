@@ -48,8 +48,8 @@ pub(crate) struct StreamCursor {
     pub(crate) floor: usize,
     /// The furthest offset at which the reading of the last node went wrong, or the end of the node.
     pub(crate) reached: usize,
-    /// Whether a document may begin here without `---`, or with directives: the events have the end of each document
-    /// that has been read.
+    /// Whether a document may begin here without `---`, or with directives. It may if the events have the end of each
+    /// document that has been read.
     pub(crate) may_be_bare: bool,
 }
 

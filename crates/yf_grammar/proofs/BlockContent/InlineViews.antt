@@ -1,5 +1,5 @@
--- If no collection begins on a line, a leaf does, with or without properties. One lemma covers whole nodes and last
--- halts: R is one of the two relations, and Q is the goal for an outcome that is not `None`.
+-- If no collection begins on a line, a leaf does, with or without properties. The lemmas are stated once for whole
+-- nodes and last halts: R is one of the two relations, and Q is the goal for an outcome that is not `None`.
 use Rattle.std.proofs.Common.{◌≡◌, ℕ, ◌<◌, ℤ, pos, ◌+ℤ◌, false, List, Option, Some, None, refl, sym, ap, ◌∙◌, subst}
 use Rattle.yf_chars.specs.declared.context.Ctx.{Ctx}
 use Rattle.yf_chars.specs.declared.context.Ctx.TheVariants.{FlowOut, FlowKey}

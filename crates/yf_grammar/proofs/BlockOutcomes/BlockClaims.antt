@@ -1,6 +1,6 @@
--- The laws of the reader of block nodes, for each production. One induction proves two claims: a derived part, before
--- something that can follow it in a whole node, is exactly the reader's outcome (`Exact`); and wherever a derived node
--- may end, the reader's last halt is there or later (`HaltsReach`).
+-- The laws of the reader of block nodes, for each production. An induction proves each of two claims: a derived part,
+-- before something that can follow it in a whole node, is exactly the reader's outcome (`Exact`); and wherever a
+-- derived node may end, the reader's last halt is there or later (`HaltsReach`).
 use Rattle.std.proofs.Common.{◌≡◌, ◌≢◌, ℕ, suc, ◌+◌, ◌<◌, ◌≤◌, ℤ, pos, ◌+ℤ◌, ◌≤ℤ◌, Bool, true, false, ⊎_elim, List, [], ◌++◌, Option, refl, sym, ap, ◌∙◌, subst, arith, true≢false}
 use Rattle.std.proofs.lemmas.Bool.{cases_lt}
 use Rattle.std.proofs.lemmas.Int.{ints}

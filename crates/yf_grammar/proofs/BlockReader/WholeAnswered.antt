@@ -325,6 +325,6 @@ all_answered u (suc v) e task f w = task_answer u v (all_answered u v) e task f 
 pub block_task_answered : {t : List ℕ} → IsUtf8 t → (e : ℕ) (task : BlockTask) → Fit task → Irrefutable (Answer t e task)
 block_task_answered {t} u e task f = all_answered u (suc (weight t task)) e task f (omega arith)
 
--- so the first call of the reader has one
+-- so the outermost call of the reader has one
 pub whole_answered : {t : List ℕ} → IsUtf8 t → (e : ℕ) (n : ℤ) (c : Ctx) (a : Ahead) (i : ℕ) → Irrefutable (Answer t e (Awaited false n c a i))
 whole_answered u e n c a i = block_task_answered u e (Awaited false n c a i) without_column

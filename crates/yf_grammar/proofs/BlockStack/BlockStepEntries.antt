@@ -1,4 +1,5 @@
--- One entry of a block collection, from its awaited node: after `-`, after `:`, after a key, and after the `:` of a `?` entry.
+-- One entry of a block collection, from its awaited node: after `-`, after `:`, after a key, and after the `:` of a `?`
+-- entry.
 use Rattle.std.proofs.Common.{◌≡◌, ℕ, ◌+◌, ◌≤◌, pos, true, false, List, ◌∷◌, Option, Some, None, refl, subst}
 use Rattle.yf_chars.specs.declared.context.Ctx.TheVariants.{BlockOut, BlockIn, FlowOut}
 use Rattle.yf_grammar.specs.Productions.Grammar.{ColonLine}

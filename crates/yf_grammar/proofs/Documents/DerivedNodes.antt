@@ -1,5 +1,5 @@
--- If the reader of block nodes finds a node at its first call, whole or up to its last halt, the node is derived within
--- the limit and covers no forbidden line. So the last halt is the longest part.
+-- If the reader of block nodes finds a node at its outermost call, whole or up to its last halt, the node is derived
+-- within the limit and covers no forbidden line. So the last halt is the longest part.
 use Rattle.std.proofs.Common.{◌≡◌, ℕ, ◌≤◌, ℤ, true, false, List, [], Option, Some, None, refl, sym, true≢false}
 use Rattle.std.specs.Str.{IsUtf8}
 use Rattle.yf_chars.specs.declared.context.Ctx.{Ctx}

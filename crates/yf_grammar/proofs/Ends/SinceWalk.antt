@@ -17,8 +17,8 @@ use Rattle.yf_grammar.specs.Productions.ReadParts.NotedSince.{noted, not_noted}
 use Rattle.yf_grammar.proofs.Ends.SinceKnown.{since_before}
 use Rattle.yf_chars.proofs.CharFacts.{feed_no_white}
 
--- the rest of the walk back from an offset: a blank line, or the start of a line of which white space and a break
--- follow
+-- the walk back still has to find, from j on: a blank line, or, if white space and a break follow, a line that is blank
+-- up to j
 abbrev pub EndsSince : List ℕ → ℕ → ℕ → Bool → Type 0
 EndsSince t floor j true = Blank t j ⊎ BlankSince t floor j
 EndsSince t floor j false = BlankSince t floor j

@@ -131,7 +131,7 @@ module _ {t s : List ℕ} {k : ℕ} (a : Alike t s k) where
   marker_line_there (past_mark {i = i} e d) l =
       past_mark (char_there a i l e) (subst (λ j. MarkerLine s j) (alike_next a i l) (marker_line_there d (mark_inside i l e)))
 
--- parts that are in neither
+-- parts that are not in the text are not in the prefix
 module _ {t s : List ℕ} {k : ℕ} (f : PrefixText t s k) where
   other_in_prefix : {i : ℕ} → Other t i → i < k → Other s i
   other_in_prefix {i} d l = record {

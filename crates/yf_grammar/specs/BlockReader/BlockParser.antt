@@ -198,7 +198,7 @@ key_indent m Later = pos m +ℤ pos 1
 key_indent m (First n) = n +ℤ pos 1
 
 pub data BlockTask : Type 0 where
-  -- a node awaited after an indicator, or at the first call; the flag: a collection may begin on the line
+  -- a node awaited after an indicator, or at the outermost call; the flag: a collection may begin on the line
   Awaited : Bool → ℤ → Ctx → Ahead → ℕ → BlockTask
   -- a node awaited after the end of a line, which is read from the offset on
   Below : ℤ → Ctx → Ahead → ℕ → BlockTask

@@ -86,8 +86,8 @@ outcome_before Nothing ds = ds
 outcome_before (Indicator i) ds = ds
 outcome_before (Props h) ds = []
 
--- a collection ends after its present node, since of the line at an offset or without a line; several end, the
--- innermost first
+-- the line at an offset, or the end of the lines, ends a collection after its present node; or several, the innermost
+-- first
 pub record EndsHere (t : List ℕ) (at : ℕ) (l : Layer) : Type 0 where
   pub no_entry : NoEntry t l.sequence l.column at
   pub no_colon : asks l.stage ≡ true → ColonLine t l.column at → ⊥

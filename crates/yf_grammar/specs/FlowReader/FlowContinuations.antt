@@ -19,7 +19,8 @@ closed sequence i h x g =
 abbrev pub ended_at : Bool → ℕ → ℕ → Meaning → ℕ → ParsedNode
 ended_at sequence i h x k = record { end = k + 1; height = suc h; json = true; meaning = collection sequence true i (k + 1) x }
 
--- further entries of the collection are awaited at k, or its closing bracket; c is the context of the collection, d that within it
+-- further entries of the collection are awaited at k, or its closing bracket; c is the context of the collection, d
+-- that within it
 pub record EntriesAwaited (t : List ℕ) (e : ℕ) (sequence : Bool) (n : ℤ) (c d : Ctx) (i h : ℕ) (x : Meaning) (k : ℕ) : Type 0 where
   pub some : (g : ParsedNode) → Parses t e (TheEntries sequence n d k) (Some g) → Parses t (suc e) (AContent n c i) (Some (closed sequence i h x g))
   pub none : Parses t e (TheEntries sequence n d k) None → Parses t (suc e) (AContent n c i) None

@@ -1,4 +1,5 @@
--- Small texts with one comment, on a line of its own, and without other signs than dashes: each part takes the comments that begin in it.
+-- Small texts with one comment, on a line of its own, and without other signs than dashes: each part takes the comments
+-- that begin in it.
 use Rattle.std.proofs.Common.{◌≡◌, ◌≢◌, ℕ, ℤ, ◌+◌, ◌<◌, ◌≤◌, Bool, true, false, not, ◌&&◌, ◌||◌, ◌==◌, List, [], ◌∷◌, ◌++◌, length, refl, sym, ap, ◌∙◌, ⊎_elim, arith, subst, append_assoc}
 use Rattle.std.proofs.lemmas.Bool.{true≢false, cases_lt, lt-ltb, le-ltb, ltb-true, and_parts, eqb-true, eq-eqb}
 use Rattle.std.specs.Prelude.{if◌then◌else◌, nat_lt}

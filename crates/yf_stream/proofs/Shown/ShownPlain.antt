@@ -22,7 +22,8 @@ use Rattle.yf_stream.specs.Stream.DirectiveLines.{last_directive, more_directive
 use Rattle.yf_stream.specs.Stream.ExplicitNode.{marked_node, marked_nothing}
 use Rattle.yf_stream.specs.Stream.Suffixes.{last_suffix, more_suffixes}
 
--- the characters that begin pairs, block scalars, quoted scalars, flow collections, aliases, properties, directives and `...`
+-- the characters that begin pairs, block scalars, quoted scalars, flow collections, aliases, properties, directives and
+-- `...`
 unfoldable pub is_sign : ℕ → Bool
 is_sign c = (c == 63) || (c == 58) || (c == 124) || (c == 62) || (c == 91) || (c == 123) || (c == 39) || (c == 34) || (c == 42) || (c == 38) || (c == 33) || (c == 37) || (c == 46)
 
