@@ -67,7 +67,7 @@ pub record NothingEnds (t : List ℕ) (at : ℕ) (a b : Parts) (after : StreamCu
 pub record SomethingBegins (t : List ℕ) (at : ℕ) : Type 0 where
   pub none : (j : ℕ) (cs : List CommentValue) → Chosen (LineEnd t at) j cs → LinesEnd t j → ⊥
 
--- likewise for the end of a line, and the parts that are added for an empty node
+-- a line ends at `end`, at which `LinesEnd` holds; an empty node and its comments have been added
 pub record NothingAt (t : List ℕ) (at end : ℕ) (cs : List CommentValue) : Type 0 where
   pub line : Chosen (LineEnd t at) end cs
   pub last : LinesEnd t end

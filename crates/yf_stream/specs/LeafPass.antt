@@ -57,7 +57,7 @@ pub data NextLine (t : List ℕ) (at : ℕ) : ℕ → Type 0 where
   after_break : {h j : ℕ} → at ≤ h → NoBreakFrom t at h → Break t h j → NextLine t at j
   at_text_end : NoBreakFrom t at (length t) → NextLine t at (length t)
 
--- the first of these events has a span from an offset on or later, or the list is empty
+-- the first of these events has a span that begins at an offset or after it, or the list is empty
 pub data StopsAt (offset : ℕ) : List EventInText → Type 0 where
   none_left : StopsAt offset []
   stops : {e : EventInText} {es : List EventInText} (s : Span) → e.span ≡ Some s → offset ≤ s.start → StopsAt offset (e ∷ es)

@@ -1,4 +1,4 @@
--- The offsets in the parts of a stream are between characters of the text.
+-- The escapes and directives in the parts of a stream begin between characters of the text.
 use Rattle.std.specs.Prelude.{ℕ, List}
 use Rattle.std.specs.List.{All}
 use Rattle.std.specs.Str.{IsCharBoundary}

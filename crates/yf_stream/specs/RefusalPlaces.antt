@@ -1,4 +1,4 @@
--- The offset of a refusal is between characters of the text.
+-- The offset of a refusal that is no breach is between characters of the text.
 use Rattle.std.specs.Prelude.{ℕ, List}
 use Rattle.std.specs.List.{All}
 use Rattle.std.specs.Str.{IsCharBoundary}
@@ -20,7 +20,7 @@ offset_of (Refusals.Syntax offset) = offset
 offset_of (Refusals.TooDeep offset) = offset
 offset_of (Refusals.Breach breach) = breach.offset
 
--- the offset of a refusal is between characters if no stream is derived, or none within the limit
+-- the offset of a refusal for the syntax or the depth is between characters
 abbrev pub RefusalAt : List ℕ → Refusal → Type 0
 RefusalAt t (Refusals.Syntax offset) = IsCharBoundary t offset
 RefusalAt t (Refusals.TooDeep offset) = IsCharBoundary t offset

@@ -12,7 +12,7 @@ use Rattle.yf_grammar.specs.BlockReader.Halts.{Halts}
 abbrev pub after_entries : ℕ → Meaning → ParsedNode → ParsedNode
 after_entries h x g = record { end = g.end; height = max h g.height; json = false; meaning = x ⊕ g.meaning }
 
--- the last part that may end, if the last part of a further entry is the second
+-- the last halt of all entries: that of the further ones, with the entries before them, or o if they have none
 unfoldable pub kept_halt : ℕ → Meaning → Option ParsedNode → Option ParsedNode → Option ParsedNode
 kept_halt h x o None = o
 kept_halt h x o (Some g) = Some (after_entries h x g)

@@ -18,7 +18,7 @@ pub record TaskHalted (t : List ℕ) (e : ℕ) (vs : List ℕ) (inner : BlockTas
   pub some : (g : ParsedNode) → Halts t e vs inner (Some g) → Halts t d ws outer (Some (made g))
   pub none : Halts t e vs inner None → Halts t d ws outer o
 
--- an outcome after `made`, or the last halt o before it
+-- `made` of an outcome, or o if the outcome is `None`
 unfoldable pub made_or : (ParsedNode → ParsedNode) → Option ParsedNode → Option ParsedNode → Option ParsedNode
 made_or made o None = o
 made_or made o (Some g) = Some (made g)

@@ -49,7 +49,7 @@ pub data NoneAfter (P : ℕ → Type 0) : Option ParsedNode → Type 0 where
   not_found : NoneAfter P None
   not_after : {f : ParsedNode} → (P f.end → ⊥) → NoneAfter P (Some f)
 
--- an outcome after f, or `None`
+-- `f` of an outcome, or `None` if the outcome is `None`
 unfoldable pub then_found : (ParsedNode → Option ParsedNode) → Option ParsedNode → Option ParsedNode
 then_found f None = None
 then_found f (Some x) = f x

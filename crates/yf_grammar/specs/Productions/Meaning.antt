@@ -39,7 +39,7 @@ plain_event event span = record { event = event; span = span; tag_offset = None;
 unfoldable pub from_to : ℕ → ℕ → Option Span
 from_to i j = Some (record { start = i; end = j })
 
--- a scalar without properties, an alias, and an empty node that has no offsets of its own
+-- a scalar without properties, an alias, and an empty node, which has no span
 unfoldable pub scalar : ScalarStyle → List ℕ → List ℕ → ℕ → ℕ → Meaning
 scalar style text escapes i j = record {
   events = plain_event (scalar_node no_props style text) (from_to i j) ∷ [];
