@@ -40,8 +40,8 @@ IsFirstBreach p (Refusals.TooDeep offset) = ⊥
 abbrev pub ListsOrRefusal : List ℕ → Parts → Result Lists Refusal → Type 0
 ListsOrRefusal t p r = MatchResult r (ListsOf t p) (IsFirstBreach p)
 
--- the fault is `Memory`, or that of the refusal: `Syntax` at the position of the offset's diagnosis, or another one at the
--- position of the offset
+-- the fault is `Memory`, or that of the refusal: `Syntax` at the position of the offset's diagnosis, or another one at
+-- the position of the offset
 pub data FaultAt (t : List ℕ) : Refusal → Fault → Type 0 where
   for_memory : {refusal : Refusal} → FaultAt t refusal Memory
   no_stream : {offset : ℕ} {place : Position} {what : Bor (List ℕ)} (told : Told) → IsDiagnosis t offset told → IsPlaceOf t told.at place
