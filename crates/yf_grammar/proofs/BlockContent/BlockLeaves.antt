@@ -1,5 +1,5 @@
--- If the reader finds a node at a character on a line, it finds it when it awaits a node before it, with the comments
--- of the separation.
+-- If the reader finds a node at a character on a line, it also finds the node when it is awaited before that character,
+-- with the comments of the separation.
 use Rattle.std.proofs.Common.{◌≡◌, ℕ, ℤ, pos, ◌+ℤ◌, ◌<◌, Bool, false, inr, List, [], Option, Some, None, refl, sym, ap, ◌∙◌, subst}
 use Rattle.yf_chars.specs.declared.context.Ctx.{Ctx}
 use Rattle.yf_lines.specs.Basic.{is_key, Clear}
