@@ -1,4 +1,4 @@
--- the same of leaves, properties and flow nodes in a block node, with the ends of their lines
+-- leaves, properties and flow nodes in a block node, with the ends of their lines
 pub mod BareNodes
 pub mod BlockLeaves
 pub mod BlockScalars

@@ -1,4 +1,4 @@
--- the recursive reader of block nodes: what it finds of entries and collections, what it reaches, and which is its last halt
+-- the recursive reader of block nodes: its outcomes for entries and collections, how far it reaches, and its last halt
 pub mod OutcomeEnds
 pub mod OutcomeMade
 pub mod OneScalars

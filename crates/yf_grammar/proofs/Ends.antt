@@ -1,4 +1,4 @@
--- what all others rest on: ends, gaps, and what follows nodes
+-- the base of all others: ends, gaps, and the text after nodes
 pub mod Forward
 pub mod Irrefutable
 pub mod Ways

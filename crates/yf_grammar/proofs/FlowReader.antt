@@ -1,4 +1,4 @@
--- the recursive reader of flow nodes: one outcome (`Outcome`), sound, complete, the longest; and that it has an outcome
+-- the recursive reader of flow nodes has one outcome (`Outcome`), is sound and complete, and takes the longest node
 pub mod ParserLemmas
 pub mod TaskWays
 pub mod Outcome

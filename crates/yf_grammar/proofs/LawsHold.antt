@@ -38,7 +38,7 @@ wide (negsuc (suc m)) l = absurd (omega (arith, ints))
 pub last_halts_are_chosen : LastHaltsAreChosen
 last_halts_are_chosen t e i n c f part u b l r p = last_halt_is_chosen u b (wide n l) r p.events p.comments p.escapes
 
--- what is found whole is its own last halt
+-- a whole node is its own last halt
 pub whole_nodes_are_chosen : WholeNodesAreChosen
 whole_nodes_are_chosen t e i n c f part u b l r p = last_halts_are_chosen t e i n c f part u b l (whole_halts (plain_is_whole u) r refl none_open) p
 

@@ -1,4 +1,4 @@
--- at which offsets the nodes of a reading are (`NodeLaws` and `PlaceLaws` of yf_stream)
+-- the offsets of the nodes of a reading (`NodeLaws` and `PlaceLaws` of yf_stream)
 pub mod MeantLemmas
 pub mod FinishLater
 pub mod NodePlaces

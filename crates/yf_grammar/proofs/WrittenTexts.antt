@@ -1,4 +1,4 @@
--- what is written is read again (the laws of layouts of yf_laws)
+-- a written text is read again (the laws of layouts of yf_laws)
 pub mod LeafBack
 pub mod FlowBack
 pub mod PairsBack

@@ -1,4 +1,4 @@
--- the recursive reader of block nodes, where a broken one may end, and what is left to do of one with a stack
+-- the recursive reader of block nodes, the last halts of broken nodes, and the rest of a task for a reader with a stack
 pub mod BlockParser
 pub mod Halts
 pub mod BlockAwaits

@@ -1,3 +1,3 @@
--- the recursive reader of flow nodes, and what is left to do of one with a stack
+-- the recursive reader of flow nodes, and the rest of a node for a reader with a stack
 pub mod Parser
 pub mod FlowContinuations

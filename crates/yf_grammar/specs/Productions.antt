@@ -1,4 +1,4 @@
--- the productions of flow and block nodes as one relation, and what they mean
+-- the productions of flow and block nodes as one relation, and their meanings
 pub mod BlockScalar
 pub mod Grammar
 pub mod Meaning

@@ -1,4 +1,4 @@
--- A well-formed text has a reading: what `ReadingOf` adds to its derivation exists.
+-- A well-formed text has a reading: the notes that `ReadingOf` adds to its derivation exist.
 use Rattle.std.proofs.Common.{◌≡◌, ℕ, ◌+◌, Bool, true, false, List, [], ◌∷◌, ◌++◌, map, flat_map, Option, Some, None, is_none, refl, sym, ◌∙◌, true≢false, ⊎_elim}
 use Rattle.std.proofs.lemmas.Bool.{cases_Bool}
 use Rattle.std.proofs.lemmas.Str.{IsUtf8-from_is_utf8, is_utf8-from_IsUtf8}
@@ -128,7 +128,7 @@ module _ {t : List ℕ} (u : IsUtf8 t) where
       let n = note_since_known t (floor_at c.offset 0 es) c.offset u in
       (_, one_comment n.1 rest.1)
 
--- All of it.
+-- The whole reading.
 pub well_formed_texts_have_readings : WellFormedTextsHaveReadings
 well_formed_texts_have_readings t x u reads =
     let s = reads.shapes in

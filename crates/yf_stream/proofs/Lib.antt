@@ -1,4 +1,4 @@
--- The lemmas, a folder for each theorem or for what several rest on.
+-- The lemmas, a folder for each theorem or for the base of several.
 -- the laws of streams and readings hold
 pub mod LawsHold
 pub mod NodeLawsHold
@@ -12,13 +12,13 @@ pub mod ReaderLaws
 pub mod Uniqueness
 -- a well-formed text has a reading (`HasReading`)
 pub mod Existence
--- at which offsets documents, nodes, comments and directives are (`NodeLaws`, `PlaceLaws`, `CommentLaws`)
+-- the offsets of documents, nodes, comments and directives (`NodeLaws`, `PlaceLaws`, `CommentLaws`)
 pub mod Offsets
 -- the pass over the events: tags, handles, anchors and the first breach
 pub mod TagPass
 -- the comments that are on the lines of leaves
 pub mod LeafPass
--- what `read_stream` is to answer (`StreamReader`): a stream step by step, from directives to the last document
+-- the contract of `read_stream` (`StreamReader`): a stream step by step, from directives to the last document
 pub mod Reader
 -- the notes on blank lines in a stream that is read step by step
 pub mod BlankNotes

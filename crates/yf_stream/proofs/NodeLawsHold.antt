@@ -1,4 +1,4 @@
--- The laws of where the nodes of a reading are hold.
+-- The laws of the offsets of a reading's nodes hold.
 use Rattle.std.proofs.Common.{◌≡◌, ℕ, List, flat_map, Some, refl, sym, subst}
 use Rattle.yf_events.specs.Event.{document_starts, document_ends, stream_starts, stream_ends}
 use Rattle.yf_events.proofs.TreeLemmas.{trees_unique}
@@ -19,7 +19,7 @@ module _ {t : List ℕ} where
       events_join (event_is_at (unplaced_is_at (document_starts tree.marked) refl)
       (events_join (node_events a) (event_is_at (unplaced_is_at (document_ends tree.closed) refl) no_events_stand))) (trees_events b)
 
-  -- of a reading
+  -- for a reading
   pub reading_events : {ds : List Document} {r : Lists} → ReadingIsAt t ds r → EventsStand t r.events
   reading_events {r = r} a =
       let all : EventsStand t (flat_stream a.trees) =

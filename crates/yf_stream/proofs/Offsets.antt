@@ -1,4 +1,4 @@
--- at which offsets documents, nodes, comments and directives are (`NodeLaws`, `PlaceLaws`, `CommentLaws`)
+-- the offsets of documents, nodes, comments and directives (`NodeLaws`, `PlaceLaws`, `CommentLaws`)
 pub mod DirectiveOrder
 pub mod BrokenEnds
 pub mod DocumentPlaces

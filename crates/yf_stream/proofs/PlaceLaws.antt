@@ -1,4 +1,4 @@
--- Laws of where the parts of a reading are, each with the plain sentence that it says. `proofs/PlaceLawsHold.antt` proves them.
+-- Laws of the offsets of a reading's parts, each under a plain sentence. `proofs/PlaceLawsHold.antt` proves them.
 use Rattle.std.specs.Prelude.{◌≡◌, ℕ, ◌<◌, List, length, slice_index_or}
 use Rattle.yf_chars.specs.Text.{code}
 use Rattle.yf_comments.specs.Comment.{CommentValue}
@@ -6,12 +6,13 @@ use Rattle.yf_events.specs.WellPlaced.{WellPlaced}
 use Rattle.yf_events.specs.declared.lists.Lists.{Lists}
 use Rattle.yf_stream.specs.ReadingOf.{ReadingOf}
 
--- No two comments of a reading begin at one place: each begins after the one before it.
+-- No two comments of a reading begin at one offset: each begins after the one before it.
 abbrev pub CommentsOfReadingsAscendStrictly : Type 0
 CommentsOfReadingsAscendStrictly = (t : List ℕ) (r : Lists) → ReadingOf t r → (i j : ℕ) (d : CommentValue) → i < j
     → j < length r.comments → (slice_index_or r.comments i d).offset < (slice_index_or r.comments j d).offset
 
--- The events of a reading have no place and no lines but those that its trees have, and as many documents are listed as begin.
+-- The events of a reading have only the spans and lines of its trees, and the list of documents has one for each that
+-- begins.
 abbrev pub ReadingsAreWellPlaced : Type 0
 ReadingsAreWellPlaced = (t : List ℕ) (r : Lists) → ReadingOf t r → WellPlaced r
 

@@ -1,4 +1,4 @@
--- The laws of where the parts of a reading are hold.
+-- The laws of the offsets of a reading's parts hold.
 use Rattle.yf_events.proofs.TreesExist.{trees_well_placed}
 use Rattle.yf_stream.proofs.PlaceLaws.{CommentsOfReadingsAscendStrictly, CommentsOfReadingsHaveSigns, ReadingsAreWellPlaced}
 use Rattle.yf_stream.proofs.Offsets.ReadingOrder.{ascend_strictly, comments_at, reading_ascends}

@@ -1,4 +1,4 @@
--- what `read_stream` is to answer (`StreamReader`): a stream step by step, from directives to the last document
+-- the contract of `read_stream` (`StreamReader`): a stream step by step, from directives to the last document
 pub mod DirectiveLaws
 pub mod DirectiveLineLemmas
 pub mod DirectiveWords

@@ -1,4 +1,4 @@
--- What the parts of a stream are before anything has been read.
+-- The parts of a stream before anything has been read.
 use Rattle.std.specs.Prelude.{[]}
 use Rattle.yf_stream.specs.declared.documents.Parts.{Parts}
 

@@ -1,4 +1,5 @@
--- What the reader of all documents answers: the one shape of the text with its parts, or that it has none; and what the lists are that are made of them.
+-- The results of the reader of all documents: the text's one shape with its parts, or that it has none; and the lists
+-- that are made of them.
 use Rattle.std.specs.Prelude.{ℕ, ◌<◌, List, Option, Result, MatchOption, MatchResult}
 use Rattle.std.specs.Str.{IsCharBoundary}
 use Rattle.yf_events.specs.declared.lists.Lists.{Lists}
@@ -13,13 +14,13 @@ use Rattle.yf_stream.specs.declared.documents.Parts.{Parts}
 use Rattle.yf_stream.specs.declared.stream.Refusal.{Refusal}
 use Rattle.yf_stream.specs.declared.stream.Refusal.TheVariants as Refusals
 
--- none is derived; as too deep a text is refused only if it has more openers than the limit
+-- no stream is derived; a text is refused as too deep only if it also has more openers than the limit
 abbrev pub NotDerived : List ℕ → Refusal → Type 0
 NotDerived t (Refusals.Syntax offset) = NoStream t
 NotDerived t (Refusals.TooDeep offset) = NoStream t × (DEPTH < openers t)
 NotDerived t (Refusals.Breach b) = ⊥
 
--- the one shape, with the parts of it
+-- the one shape, with its parts
 pub record ShapeRead (t : List ℕ) (p : Parts) : Type 0 where
   pub documents : Documents
   pub shapes : Shapes t documents

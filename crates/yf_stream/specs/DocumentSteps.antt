@@ -1,5 +1,5 @@
--- What the reader of a stream answers of the next document, or of a `...`: what the parts have more and where it goes on, or that no stream is
--- derived.
+-- The results of the reader of a stream for the next document, or for a `...`: the parts that it adds and the offset at
+-- which it goes on, or that no stream is derived.
 use Rattle.std.specs.Prelude.{◌≡◌, ◌≢◌, ℕ, ◌+◌, ◌<◌, pos, ◌-ℤ◌, true, false, not, List, [], ◌++◌, Some, None}
 use Rattle.yf_chars.specs.declared.context.Ctx.TheVariants.{BlockIn}
 use Rattle.yf_chars.specs.Text.{code}
@@ -28,13 +28,14 @@ use Rattle.yf_stream.specs.declared.documents.StreamStep.TheVariants.{Go, Syntax
 use Rattle.yf_stream.specs.declared.documents.Parts.{Parts}
 use Rattle.yf_stream.specs.declared.documents.StreamCursor.{StreamCursor}
 
--- no node of a stream's document is there: none is derived, none is found, or one after which the stream does not go on
+-- no node of a stream's document is there: none is derived, none is found, or the stream does not go on after the found
+-- one
 pub data NoNode (t : List ℕ) (at : ℕ) : Type 0 where
   none_derived : Stuck (BlockNodePart t DEPTH (pos 0 -ℤ pos 1) BlockIn at) → NoNode t at
   none_found : Whole t DEPTH (Awaited false (pos 0 -ℤ pos 1) BlockIn Nothing at) None → NoNode t at
   line_left : {f : ParsedNode} → Whole t DEPTH (Awaited false (pos 0 -ℤ pos 1) BlockIn Nothing at) (Some f) → (LinesEnd t f.end → ⊥) → Stuck (Row t f.end) → NoNode t at
 
--- a part after what the parts had
+-- a part added to the parts
 abbrev pub grown : Part → Parts → Parts
 grown part p = record p {
   part = record {
@@ -52,13 +53,13 @@ pub record NodeEnds (t : List ℕ) (at : ℕ) (a b : Parts) (after : StreamCurso
   pub floor : after.floor ≡ floor_after 0 part.events
   pub parts : b ≡ grown part a
 
--- what is read of a document's node
+-- the result for a document's node
 pub data RootRead (t : List ℕ) (at : ℕ) (a b : Parts) : StreamStep → Type 0 where
   root_read : {after : StreamCursor} → NodeEnds t at a b after → RootRead t at a b (Go after)
   no_root : {place : ℕ} → NoNode t at → RootRead t at a b (Syntax place)
   root_too_deep : {place : ℕ} → NoNode t at → DEPTH < openers t → RootRead t at a b (TooDeep place)
 
--- after a `---` the line ends, and after it and its comment lines is what ends all nodes; or that is not so
+-- after a `---` the line ends, and `LinesEnd` holds after it and its comment lines; or that is not so
 pub record NothingEnds (t : List ℕ) (at : ℕ) (a b : Parts) (after : StreamCursor) : Type 0 where
   pub ends : EmptyEnds t at a b after
   pub last : LinesEnd t after.at
@@ -66,7 +67,7 @@ pub record NothingEnds (t : List ℕ) (at : ℕ) (a b : Parts) (after : StreamCu
 pub record SomethingBegins (t : List ℕ) (at : ℕ) : Type 0 where
   pub none : (j : ℕ) (cs : List CommentValue) → Chosen (LineEnd t at) j cs → LinesEnd t j → ⊥
 
--- the same of the end of a line, and what is added for an empty node
+-- a line ends at `end`, at which `LinesEnd` holds; an empty node and its comments have been added
 pub record NothingAt (t : List ℕ) (at end : ℕ) (cs : List CommentValue) : Type 0 where
   pub line : Chosen (LineEnd t at) end cs
   pub last : LinesEnd t end
@@ -83,7 +84,8 @@ EmptyAdded end cs a b (Go after) = EmptyTo end cs a b after
 EmptyAdded end cs a b (Syntax place) = ⊥
 EmptyAdded end cs a b (TooDeep place) = ⊥
 
--- a node was found: the reading goes on after it where nothing went wrong; else it went wrong there, as too deep or not
+-- a node was found: the reading goes on after it if nothing went wrong; otherwise it went wrong there, as too deep or
+-- not
 pub record FoundTo (f : FoundNode) (after : StreamCursor) : Type 0 where
   pub whole : f.whole ≡ true
   pub at : after.at ≡ f.end
@@ -114,7 +116,7 @@ pub data BareRead (t : List ℕ) (at : ℕ) (a b : Parts) : StreamStep → Type 
 abbrev pub with_comments_read : List CommentValue → Parts → Parts
 with_comments_read cs p = record p { part = record p.part { comments = cs } }
 
--- what begins at a cursor where no comment line and no byte order mark does
+-- the result at a cursor at which neither a comment line nor a byte order mark begins
 pub data NextRead (t : List ℕ) (cursor : StreamCursor) (a b : Parts) : StreamStep → Type 0 where
   at_dots : {next : StreamStep} → ForbiddenLine t cursor.at → code t cursor.at ≡ 46 → SuffixRead t cursor a b next → NextRead t cursor a b next
   at_dashes : {next : StreamStep} → ForbiddenLine t cursor.at → code t cursor.at ≡ 45 → MarkedRead t cursor.at [] (closed false (not cursor.may_be_bare) a) b next → NextRead t cursor a b next

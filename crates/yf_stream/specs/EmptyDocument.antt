@@ -1,4 +1,4 @@
--- What the reader of a stream answers of a `---` after which no node is.
+-- The result of the reader of a stream for a `---` without a node after it.
 use Rattle.std.specs.Prelude.{◌≡◌, ℕ, false, List, []}
 use Rattle.yf_chars.specs.Chain.{Chosen}
 use Rattle.yf_comments.specs.Comment.{CommentValue}
@@ -10,7 +10,7 @@ use Rattle.yf_stream.specs.DocumentReaders.{commented, with_event}
 use Rattle.yf_stream.specs.declared.documents.Parts.{Parts}
 use Rattle.yf_stream.specs.declared.documents.StreamCursor.{StreamCursor}
 
--- the line ends at an offset with the comment lines after it, and an empty node stands for the document
+-- the line ends at an offset with the comment lines after it, and the document has an empty node
 pub record EmptyEnds (t : List ℕ) (at : ℕ) (a b : Parts) (after : StreamCursor) : Type 0 where
   pub comments : List CommentValue
   pub line : Chosen (LineEnd t at) after.at comments

@@ -6,6 +6,7 @@ use Rattle.yf_stream.specs.ReadingOf.{ReadingOf}
 use Rattle.yf_stream.specs.Stream.{Documents}
 use Rattle.yf_stream.specs.WellFormed.{ReadsWithoutBreach}
 
--- Where a text has one meaning within the limit of open collections, and breaches nothing that must hold besides its grammar, it has a reading.
+-- If a text has one meaning within the limit of open collections, and breaks none of the rules besides its grammar, it
+-- has a reading.
 abbrev pub WellFormedTextsHaveReadings : Type 0
 WellFormedTextsHaveReadings = (t : List ℕ) (x : Documents) → IsUtf8 t → ReadsWithoutBreach t x → (r : Lists) × ReadingOf t r

@@ -1,5 +1,6 @@
--- What the reader of streams answers, by the parts that it has read: the lists that are made of them, or the first breach in them. Where they are
--- those of the one shape of the text, the lists are its reading, and the breach is the first one in it.
+-- The results of the reader of streams from the parts that it has read: the lists that are made of them, or the first
+-- breach in them. If the parts are those of the text's one shape, the lists are its reading, and the breach is the
+-- first one in it.
 use Rattle.std.specs.Prelude.{ℕ, List, Result, MatchResult}
 use Rattle.std.specs.Str.{IsCharBoundary}
 use Rattle.yf_events.specs.declared.lists.Lists.{Lists}
@@ -14,13 +15,13 @@ use Rattle.yf_stream.specs.declared.documents.Parts.{Parts}
 use Rattle.yf_stream.specs.declared.stream.Refusal.{Refusal}
 use Rattle.yf_stream.specs.declared.stream.Refusal.TheVariants as Refusals
 
--- the lists of parts, with their resolved tags and the notes of their comments; nothing is breached in them
+-- the lists of parts without breaches, with their resolved tags and the notes of their comments
 pub record MadeOf (t : List ℕ) (r : Lists) : Type 0 where
   pub parts : Parts
   pub noted : ListsOf t parts r
   pub reading : (x : Documents) → Shapes t x → PartsOf t x parts → TheReading t r
 
--- the first breach in parts, between characters where they are those of the text
+-- the first breach in parts, between characters if the parts are those of the text
 pub record BreachIn (t : List ℕ) (b : Breach) : Type 0 where
   pub parts : Parts
   pub first : IsFirst (stream_breaches parts.documents parts.part.events parts.part.escapes) b
@@ -32,7 +33,7 @@ RefusalIn t (Refusals.Breach b) = BreachIn t b
 RefusalIn t (Refusals.Syntax offset) = Unit {0}
 RefusalIn t (Refusals.TooDeep offset) = Unit {0}
 
--- no breach is told of before all parts have been read
+-- no breach is reported before all parts have been read
 abbrev pub NoBreach : Refusal → Type 0
 NoBreach (Refusals.Breach b) = ⊥
 NoBreach (Refusals.Syntax offset) = Unit {0}

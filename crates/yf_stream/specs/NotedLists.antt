@@ -1,4 +1,4 @@
--- What is made of the parts of a stream, once all of it has been read: its lists, or its first breach.
+-- The result made of the parts of a stream, once all of it has been read: its lists, or its first breach.
 use Rattle.std.specs.Prelude.{◌≡◌, ℕ, List, [], map, None, Result, MatchResult}
 use Rattle.std.specs.Borrow.{Bor}
 use Rattle.yf_lines.specs.FaultPlaces.{IsPlaceOf}
@@ -19,8 +19,8 @@ use Rattle.yf_stream.specs.declared.stream.Refusal.TheVariants as Refusals
 use Rattle.yf_diagnose.specs.declared.diagnosis.Diagnosis.{Diagnosis as Told}
 use Rattle.yf_diagnose.specs.SecondReadings.{IsDiagnosis}
 
--- nothing is breached in the parts, and the lists hold them with their resolved tags; and where events and comments are in order, with the
--- notes which comments are on the lines of leaves
+-- the parts have no breach, and the lists hold them with their resolved tags; and, if events and comments are in order,
+-- with the notes which comments are on the lines of leaves
 pub record ListsOf (t : List ℕ) (p : Parts) (r : Lists) : Type 0 where
   pub quiet : stream_breaches p.documents p.part.events p.part.escapes ≡ []
   pub tags : PassTags p.documents [] p.part.events r.resolved
@@ -40,8 +40,8 @@ IsFirstBreach p (Refusals.TooDeep offset) = ⊥
 abbrev pub ListsOrRefusal : List ℕ → Parts → Result Lists Refusal → Type 0
 ListsOrRefusal t p r = MatchResult r (ListsOf t p) (IsFirstBreach p)
 
--- the fault is for memory, or tells why the text is refused: that it is no stream, at the place of what is told of the offset; else at the place
--- of the offset
+-- the fault is `Memory`, or that of the refusal: `Syntax` at the position of the offset's diagnosis, or another one at
+-- the position of the offset
 pub data FaultAt (t : List ℕ) : Refusal → Fault → Type 0 where
   for_memory : {refusal : Refusal} → FaultAt t refusal Memory
   no_stream : {offset : ℕ} {place : Position} {what : Bor (List ℕ)} (told : Told) → IsDiagnosis t offset told → IsPlaceOf t told.at place

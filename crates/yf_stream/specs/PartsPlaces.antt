@@ -1,4 +1,4 @@
--- Where what the parts of a stream hold is: between characters of the text.
+-- The escapes and directives in the parts of a stream begin between characters of the text.
 use Rattle.std.specs.Prelude.{ℕ, List}
 use Rattle.std.specs.List.{All}
 use Rattle.std.specs.Str.{IsCharBoundary}

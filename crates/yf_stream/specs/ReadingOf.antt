@@ -1,5 +1,5 @@
--- When lists are the reading of a text: they hold what its one derivation means, with the notes that are no part of a derivation
--- filled in: blank lines, comments on the line of a leaf, ends of documents and resolved tags.
+-- Lists that are the reading of a text: they hold the meaning of its one derivation, with the notes that no derivation
+-- has: blank lines, comments on the line of a leaf, ends of documents and resolved tags.
 use Rattle.std.specs.Prelude.{◌≡◌, ℕ, Bool, false, ◌&&◌, nat_lt, nat_le, if◌then◌else◌, List, [], ◌∷◌, ◌++◌, map, flat_map, Option, Some, None}
 use Rattle.std.specs.List.{list_any}
 use Rattle.yf_lines.specs.Lines.{AreLines}
@@ -25,7 +25,7 @@ pub data EventTags (ds : List Declaration) : List EventInText → List (Option (
   tagged : {e : EventInText} {es : List EventInText} {tags : List (Option (List ℕ))} {tag : TagValue} {text : List ℕ}
       → (props_of e.event).tag ≡ Some tag → TagText ds tag text → EventTags ds es tags → EventTags ds (e ∷ es) (Some text ∷ tags)
 
--- the events of documents, and their tags; a document's end is marked where the next forbidden line after it is a `...`
+-- the events of documents, and their tags; a document's end is marked if the next forbidden line after it is a `...`
 pub data DocumentEvents (t : List ℕ) : List Document → List EventInText → List (Option (List ℕ)) → Type 0 where
   no_document : DocumentEvents t [] [] []
   one_document : {d : Document} {ds : List Document} {x : List EventInText} {tags more : List (Option (List ℕ))} {closed : Bool} {j : ℕ}
@@ -42,7 +42,7 @@ abbrev pub floor_at : ℕ → ℕ → List EventInText → ℕ
 floor_at offset floor [] = floor
 floor_at offset floor (e ∷ es) = floor_at offset (end_before offset floor (floor_after_event floor e e.event)) es
 
--- the comments, with the note whether a blank line is before each
+-- the comments, each with the note whether a blank line is before it
 pub data NotedComments (t : List ℕ) (es : List EventInText) : List CommentValue → List CommentValue → Type 0 where
   no_comment : NotedComments t es [] []
   one_comment : {c : CommentValue} {cs noted : List CommentValue} {b : Bool} → NotedSince t (floor_at c.offset 0 es) c.offset b

@@ -1,4 +1,4 @@
--- Why a text is refused: for want of memory, or with a place in the text.
+-- Why a text is refused: for want of memory, or for another cause, with a position in the text.
 use Rattle.std.specs.Prelude.{ℕ, List}
 use Rattle.yf_lines.specs.declared.fault.Fault.{Fault}
 use Rattle.yf_lines.specs.declared.fault.Fault.TheVariants.{Syntax, TooDeep, UnknownHandle, UnknownAlias, RepeatedDirective, BadVersion, EscapeValue, Memory}

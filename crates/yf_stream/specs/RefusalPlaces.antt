@@ -1,4 +1,4 @@
--- Where a text is refused: between characters of the text.
+-- The offset of a refusal that is no breach is between characters of the text.
 use Rattle.std.specs.Prelude.{ℕ, List}
 use Rattle.std.specs.List.{All}
 use Rattle.std.specs.Str.{IsCharBoundary}
@@ -7,20 +7,20 @@ use Rattle.yf_events.specs.declared.document.Doc.{Doc}
 use Rattle.yf_stream.specs.declared.stream.Refusal.{Refusal}
 use Rattle.yf_stream.specs.declared.stream.Refusal.TheVariants as Refusals
 
--- each directive begins between characters; so does each of each document
+-- each directive begins between characters; likewise for all documents
 abbrev pub DirectivesAt : List ℕ → List Directive → Type 0
 DirectivesAt t ds = All (λ (d : Directive). IsCharBoundary t d.offset) ds
 
 abbrev pub DocumentsAt : List ℕ → List Doc → Type 0
 DocumentsAt t ds = All (λ (d : Doc). DirectivesAt t d.directives) ds
 
--- the offset that a refusal tells of
+-- the offset of a refusal
 abbrev pub offset_of : Refusal → ℕ
 offset_of (Refusals.Syntax offset) = offset
 offset_of (Refusals.TooDeep offset) = offset
 offset_of (Refusals.Breach breach) = breach.offset
 
--- that no stream is derived, or none within the limit, is told of between characters
+-- the offset of a refusal for the syntax or the depth is between characters
 abbrev pub RefusalAt : List ℕ → Refusal → Type 0
 RefusalAt t (Refusals.Syntax offset) = IsCharBoundary t offset
 RefusalAt t (Refusals.TooDeep offset) = IsCharBoundary t offset

@@ -1,5 +1,5 @@
--- Streams (YAML 1.2.2, sections 6.8 and 9) as relations between byte offsets of a text t: what is from i to j is
--- derived with the meaning x. The most collections that are open at once are h.
+-- Streams (YAML 1.2.2, sections 6.8 and 9) as relations between byte offsets of a text t: the text from i to j is
+-- derived with the meaning x, and at most h collections are open at once.
 use Rattle.std.specs.Prelude.{◌≡◌, ◌≢◌, ℕ, max, ◌+◌, pos, ◌-ℤ◌, Bool, true, false, List, [], ◌∷◌, ◌++◌, length, slice_range, codes}
 use Rattle.yf_chars.specs.declared.context.Ctx.TheVariants.{BlockIn}
 use Rattle.yf_chars.specs.Text.{code, next}
@@ -14,7 +14,7 @@ use Rattle.yf_events.specs.Event.{EventInText}
 use Rattle.yf_grammar.specs.Productions.Grammar.{BlockNode, Derives}
 use Rattle.yf_grammar.specs.Productions.Meaning.{Meaning, empty_node, noting}
 
--- a parameter of a directive of another name than YAML and TAG; it does not begin with #, which begins a comment
+-- a parameter of a directive with another name than YAML and TAG; it does not begin with #, which begins a comment
 pub data ReservedParameter (t : List ℕ) : ℕ → ℕ → List (List ℕ) → Type 0 where
   reserved_parameter : {i k j : ℕ} → SeparateInLine t i k → code t k ≢ 35 → Run (One t is_ns_char) k j
       → ReservedParameter t i j (slice_range t k j ∷ [])
@@ -41,8 +41,8 @@ pub data DirectiveLines (t : List ℕ) : ℕ → ℕ → Directives → Type 0 w
   more_directives : {i k j : ℕ} {x y : Directives} → DirectiveLines t i k x → DirectiveLines t k j y
       → DirectiveLines t i j (record { directives = x.directives ++ y.directives; comments = x.comments ++ y.comments })
 
--- a document: where it begins, whether `---` is written, its directives, and what its node means but for comments. A
--- comment line may be taken by a document's node, by its directives or by what is between documents; a stream has one
+-- a document: its start, whether `---` is written, its directives, and the meaning of its node without comments. A
+-- comment line may belong to a document's node, to its directives or to the text between documents; so a stream has one
 -- list of comments, and a document has none
 pub record Document : Type 0 where
   pub start : ℕ
@@ -100,7 +100,7 @@ pub data Suffixes (t : List ℕ) : ℕ → ℕ → List CommentValue → Type 0 
   more_suffixes : {i k j : ℕ} {cs ds : List CommentValue} → is_three t i 46 ≡ true → LineEnd t (i + 3) k cs → Suffixes t k j ds
       → Suffixes t i j (cs ++ ds)
 
--- what a part of a stream holds: documents, and all comments in order of the text
+-- the parts of a stretch of a stream: documents, and all comments in text order
 pub record Documents : Type 0 where
   pub documents : List Document
   pub comments : List CommentValue
@@ -108,7 +108,7 @@ pub record Documents : Type 0 where
 abbrev pub only_comments : List CommentValue → Documents
 only_comments cs = record { documents = []; comments = cs }
 
--- a document, the comments before it and in it, and what follows
+-- a document, the comments before it and in it, and the rest
 unfoldable pub with_document : List CommentValue → Document → Documents → Documents
 with_document cs d rest = record { documents = d ∷ rest.documents; comments = cs ++ rest.comments }
 
@@ -127,14 +127,14 @@ pub data StreamRest (t : List ℕ) : ℕ → ℕ → Documents → Type 0 where
   past_explicit : {h g i j : ℕ} {x : Meaning} {rest : Documents} → ExplicitNode t h i j x → StreamRest t g j rest
       → StreamRest t (max h g) i (with_document x.comments (document_of i true [] x) rest)
 
--- l-yaml-stream: all of the text
+-- l-yaml-stream: the whole text
 pub data Stream (t : List ℕ) : ℕ → Documents → Type 0 where
   begins_with_document : {h g i j : ℕ} {cs ds : List CommentValue} {d : Document} {x : Documents} → Prefixes t 0 i cs
       → AnyDocument t h i j d ds → StreamRest t g j x → Stream t (max h g) (with_document (cs ++ ds) d x)
   without_document : {h i : ℕ} {cs : List CommentValue} {x : Documents} → Prefixes t 0 i cs → StreamRest t h i x
       → Stream t h (with_comments cs x)
 
--- whether `...` is written at the end of a document: the next forbidden line after it is one
+-- whether `...` is written at the end of a document: the next forbidden line after it is a `...`
 pub data EndIsMarked (t : List ℕ) (i : ℕ) : Bool → Type 0 where
   marked_end : {j : ℕ} {cs : List CommentValue} → Prefixes t i j cs → ForbiddenLine t j → code t j ≡ 46 → EndIsMarked t i true
   unmarked_end : ((j : ℕ) (cs : List CommentValue) → Prefixes t i j cs → ForbiddenLine t j → code t j ≡ 46 → ⊥) → EndIsMarked t i false

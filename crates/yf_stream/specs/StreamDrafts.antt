@@ -1,4 +1,4 @@
--- What is drafted of a stream: nothing yet, or the lists of its reading, or why there is none.
+-- The draft of a stream: nothing yet, or the lists of its reading, or the refusal.
 use Rattle.std.specs.Prelude.{[], Option, Some, None, Result, Ok, Err}
 use Rattle.yf_events.specs.declared.lists.Lists.{Lists}
 use Rattle.yf_stream.specs.DerivedParts.{no_parts}

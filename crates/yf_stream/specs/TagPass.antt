@@ -1,4 +1,5 @@
--- What a pass over the events of a stream finds, document by document: the tags that they stand for, and the first of all breaches.
+-- The results of a pass over the events of a stream, document by document: their resolved tags, and the first of all
+-- breaches.
 use Rattle.std.specs.Prelude.{◌≡◌, ℕ, Bool, true, false, if◌then◌else◌, List, [], ◌∷◌, ◌++◌, drop, slice_get, Option, Some, None}
 use Rattle.std.specs.Borrow.{Bor}
 use Rattle.yf_props.specs.Handles.{Declaration, TagText, declared_prefix}
@@ -10,23 +11,23 @@ use Rattle.yf_stream.specs.WellFormed.{IsFirst, alias_breaches, alias_of, breach
 use Rattle.yf_stream.specs.declared.breaches.Breach.{Breach}
 use Rattle.yf_stream.specs.declared.breaches.BreachKind.TheVariants.{UnknownHandle}
 
--- the first of these breaches, or none where there is none
+-- the first of these breaches, or none
 abbrev pub FirstOf : List Breach → Option Breach → Type 0
 FirstOf bs None = bs ≡ []
 FirstOf bs (Some b) = IsFirst bs b
 
--- what was the first of some breaches before is the first of them and of these afterwards
+-- `before` is the first of some breaches, and `after` is the first of them and of these
 pub record FirstOfBoth (before after : Option Breach) (bs : List Breach) : Type 0 where
   pub first : (done : List Breach) → FirstOf done before → FirstOf (done ++ bs) after
 
--- two lists of names, and two lists of declarations, in which the same is found
+-- two lists of names, and two lists of declarations, with equal look-ups
 pub record SameNames (a b : List (List ℕ)) : Type 0 where
   pub each : (name : List ℕ) → has_name a name ≡ has_name b name
 
 pub record SameDeclarations (a b : List Declaration) : Type 0 where
   pub each : (handle : List ℕ) → declared_prefix a handle ≡ declared_prefix b handle
 
--- what the tag of an event stands for
+-- the resolved tag of an event
 abbrev pub TagOf : List Declaration → Option TagValue → Option (List ℕ) → Type 0
 TagOf ds None None = Unit {0}
 TagOf ds None (Some text) = ⊥
@@ -38,7 +39,7 @@ abbrev pub starts_document : EventValue → Bool
 starts_document (document_starts marked) = true
 starts_document _ = false
 
--- the directives of the first of the documents that follow, and the others
+-- the directives of the first document that follows, and the other documents
 abbrev pub next_directives : List Doc → List Directive
 next_directives [] = []
 next_directives (d ∷ docs) = d.directives
@@ -52,7 +53,8 @@ abbrev pub own_breaches : List Declaration → List (List ℕ) → EventInText �
 own_breaches ds names e = breach_if (is_unknown ds (props_of e.event).tag) UnknownHandle (offset_or 0 e.tag_offset)
     ++ alias_breaches names (start_or 0 e.span) (alias_of e.event)
 
--- the breaches of the events that follow in a document with these declarations, after these anchors, and of the documents that follow it
+-- the breaches of the events that follow in a document with these declarations, after these anchors, and of the
+-- documents that follow it
 abbrev pub pass_breaches : List Doc → List Declaration → List (List ℕ) → List EventInText → List Breach
 pass_breaches docs ds names [] = []
 pass_breaches docs ds names (e ∷ es) =
@@ -74,7 +76,7 @@ pub data PassTags : List Doc → List Declaration → List EventInText → List 
       {tags : List (Option (List ℕ))} → starts_document e.event ≡ false → TagOf ds (props_of e.event).tag tag → PassTags docs ds es tags
       → PassTags docs ds (e ∷ es) (tag ∷ tags)
 
--- an event of which this holds is the one at an index
+-- the event at an index has this property
 pub record EventAt (es : List EventInText) (i : ℕ) (P : EventInText → Type 0) : Type 0 where
   pub event : EventInText
   pub there : slice_get es i ≡ Some event
@@ -85,14 +87,15 @@ pub record IsNameless (v : EventValue) : Type 0 where
   pub props : props_of v ≡ no_props
   pub alias : alias_of v ≡ None
 
--- the tag of an event has been added, and kept as a breach if it is one and the first
+-- the tag of an event has been added, and its breach kept if it is the first
 pub record TagAdded (ds : List Declaration) (e : EventInText) (before after : Option Breach) (a b : List (Option (List ℕ))) : Type 0 where
   pub finds : FirstOfBoth before after (breach_if (is_unknown ds (props_of e.event).tag) UnknownHandle (offset_or 0 e.tag_offset))
   pub tag : Option (List ℕ)
   pub is_there : is_unknown ds (props_of e.event).tag ≡ false → TagOf ds (props_of e.event).tag tag
   pub list : b ≡ a ++ tag ∷ []
 
--- an event has been gone past, with these declarations: the first of its breaches has been kept, its anchor has occurred, and its tag has been added
+-- an event has been passed, with these declarations: the first of its breaches has been kept, and its anchor and its
+-- tag have been added
 pub record EventPassed (ds : List Declaration) (e : EventInText) (before after : Option Breach) (names others : List (List ℕ)) (a b : List (Option (List ℕ))) : Type 0 where
   pub finds : FirstOfBoth before after (own_breaches ds names e)
   pub same : SameNames others (with_name (props_of e.event).anchor names)
@@ -100,7 +103,7 @@ pub record EventPassed (ds : List Declaration) (e : EventInText) (before after :
   pub is_there : is_unknown ds (props_of e.event).tag ≡ false → TagOf ds (props_of e.event).tag tag
   pub list : b ≡ a ++ tag ∷ []
 
--- all events from i up to j have been gone past
+-- all events from i up to j have been passed
 pub record AllPassed (es : List EventInText) (ds : List Declaration) (i j : ℕ) (before after : Option Breach) (names others : List (List ℕ))
     (a b : List (Option (List ℕ))) : Type 0 where
   pub found : List Breach
@@ -116,13 +119,13 @@ abbrev pub directives_of : Option (Bor Doc) → List Directive
 directives_of None = []
 directives_of (Some d) = d.now.directives
 
--- the first of the events starts a document, or there is none
+-- the first of the events starts a document, or the list is empty
 abbrev pub StartsDocument : List EventInText → Type 0
 StartsDocument [] = Unit {0}
 StartsDocument (e ∷ es) = starts_document e.event ≡ true
 
--- the events from i up to j, where a document starts or the events end, are those of a document with these directives: their first breach has
--- been kept, and their tags have been added
+-- the events from i up to j, at which a document starts or the events end, are those of a document with these
+-- directives: the first of their breaches has been kept, and their tags have been added
 pub record TagsResolved (es : List EventInText) (directives : List Directive) (i j : ℕ) (before after : Option Breach) (a b : List (Option (List ℕ))) : Type 0 where
   pub found : List Breach
   pub finds : FirstOfBoth before after found

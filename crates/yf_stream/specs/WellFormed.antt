@@ -1,4 +1,4 @@
--- What must hold in each document besides its grammar (YAML 1.2.2, sections 5.7, 6.8, 6.9 and 7.1), and where it does not.
+-- The rules for each document besides its grammar (YAML 1.2.2, sections 5.7, 6.8, 6.9 and 7.1), and their breaches.
 use Rattle.std.specs.Prelude.{◌≡◌, ◌<◌, ◌≤◌, ℕ, Bool, true, false, ◌==◌, ◌&&◌, ◌||◌, not, List, [], ◌∷◌, ◌++◌, Option, Some, None, codes, is_none, is_some, if◌then◌else◌}
 use Rattle.std.specs.List.{All, Contains}
 use Rattle.std.specs.Str.{bytes_eq}
@@ -14,7 +14,7 @@ use Rattle.yf_stream.specs.declared.breaches.Breach.{Breach}
 use Rattle.yf_stream.specs.declared.breaches.BreachKind.{BreachKind}
 use Rattle.yf_stream.specs.declared.breaches.BreachKind.TheVariants.{UnknownHandle, UnknownAlias, RepeatedDirective, BadVersion, EscapeValue}
 
--- the breach, where the test holds
+-- the breach, if the test holds
 abbrev pub breach_if : Bool → BreachKind → ℕ → List Breach
 breach_if true kind offset = record { offset = offset; kind = kind } ∷ []
 breach_if false kind offset = []
@@ -37,12 +37,12 @@ abbrev pub declaration_of : List (List ℕ) → Option Declaration
 declaration_of (name ∷ handle ∷ prefix ∷ []) = if bytes_eq name (codes "TAG") then Some (handle, prefix) else None
 declaration_of _ = None
 
--- the declarations after one more
+-- the declarations with one more, unless its handle is declared
 abbrev pub with_declaration : List Declaration → Option Declaration → List Declaration
 with_declaration ds None = ds
 with_declaration ds (Some d) = if is_declared ds d.0 then ds else ds ++ (d ∷ [])
 
--- a second version, and a version that is not 1; a second declaration
+-- the breaches of a second version, of a major version other than 1, and of a second declaration
 abbrev pub version_breaches : Bool → ℕ → Option (List ℕ) → List Breach
 version_breaches seen offset None = []
 version_breaches seen offset (Some version) =
@@ -94,8 +94,8 @@ abbrev pub alias_breaches : List (List ℕ) → ℕ → Option (List ℕ) → Li
 alias_breaches names offset None = []
 alias_breaches names offset (Some name) = breach_if (not (has_name names name)) UnknownAlias offset
 
--- the breaches of a document's events, with the declarations of its handles, after these anchors; an anchor has occurred
--- within its own node too
+-- the breaches of a document's events, with the declarations of its handles, after these anchors; an anchor has also
+-- occurred for the aliases within its own node
 abbrev pub event_breaches : List Declaration → List (List ℕ) → List EventInText → List Breach
 event_breaches ds names [] = []
 event_breaches ds names (e ∷ rest) =
@@ -108,7 +108,7 @@ abbrev pub escape_breaches : List ℕ → List Breach
 escape_breaches [] = []
 escape_breaches (i ∷ rest) = record { offset = i; kind = EscapeValue } ∷ escape_breaches rest
 
--- which of two breaches at one place comes first
+-- the rank of a breach among those at its offset; the lowest comes first
 abbrev pub rank : BreachKind → ℕ
 rank UnknownHandle = 4
 rank UnknownAlias = 5
@@ -116,7 +116,7 @@ rank RepeatedDirective = 6
 rank BadVersion = 7
 rank EscapeValue = 8
 
--- the first breach: none is before it in the text, and none at its place has a lower rank
+-- the first breach: none is before it in the text, and none at its offset has a lower rank
 pub data IsEarlierBreach (a b : Breach) : Type 0 where
   earlier_place : a.offset < b.offset → IsEarlierBreach a b
   same_place : a.offset ≡ b.offset → rank a.kind ≤ rank b.kind → IsEarlierBreach a b
@@ -135,14 +135,14 @@ pub record IsFirst (bs : List Breach) (b : Breach) : Type 0 where
   pub among : Contains bs b
   pub all : All (IsEarlierBreach b) bs
 
--- the one shape of a text: what is derived of it as a stream within the limit of open collections, and all that is so derived is that
+-- the one shape of a text: the only stream that is derived from it within the limit of open collections
 pub record Shapes (t : List ℕ) (x : Documents) : Type 0 where
   pub height : ℕ
   pub derived : Stream t height x
   pub within : height ≤ DEPTH
   pub only : (h : ℕ) (y : Documents) → Stream t h y → h ≤ DEPTH → y ≡ x
 
--- the same where nothing is breached
+-- the one shape of a text without breaches
 pub record ReadsWithoutBreach (t : List ℕ) (x : Documents) : Type 0 where
   pub shapes : Shapes t x
   pub well_formed : breaches x.documents ≡ []

@@ -1,4 +1,4 @@
--- Within a line: between characters of the text, and where no line begins.
+-- Within a line: between characters of the text, and not at the start of a line.
 use Rattle.std.specs.Prelude.{ℕ, List}
 use Rattle.std.specs.Str.{IsCharBoundary}
 use Rattle.yf_lines.specs.Basic.{LineStart}

@@ -1,5 +1,5 @@
--- When the parts that were read are those of a stream: its events with their notes, its comments with theirs, its documents and escapes.
--- Of tags nothing is said: they are resolved afterwards.
+-- The parts that were read are those of a stream: its events with their notes, its comments with theirs, its documents
+-- and escapes. They have no tags, which are resolved afterwards.
 use Rattle.std.specs.Prelude.{◌≡◌, ℕ, Bool, List, [], ◌∷◌, ◌++◌, map, flat_map}
 use Rattle.yf_comments.specs.Comment.{CommentValue}
 use Rattle.yf_comments.specs.Comments.{LineEnd}
@@ -10,7 +10,7 @@ use Rattle.yf_stream.specs.ReadingOf.{NotedComments, doc_of}
 use Rattle.yf_stream.specs.Stream.{Document, Documents, EndIsMarked}
 use Rattle.yf_stream.specs.declared.documents.Parts.{Parts}
 
--- the events of documents; a document's end is marked where the next forbidden line after it is a `...`
+-- the events of documents; a document's end is marked if the next forbidden line after it is a `...`
 pub data DocumentsWritten (t : List ℕ) : List Document → List EventInText → Type 0 where
   nothing_written : DocumentsWritten t [] []
   document_written : {d : Document} {ds : List Document} {x : List EventInText} {closed : Bool} {j : ℕ} {cs : List CommentValue}

@@ -8,11 +8,11 @@ use std::alloc::{AllocError, Global};
 use std::collections::BTreeSet;
 use std::marker::Model;
 
-/// How many anchors are found by their hashes.
+/// The maximum number of anchors that are found by their hashes.
 const FEW: usize = 64;
 
-/// The anchors that have occurred in a document. The first of them are found by their hashes, as most documents have few, and
-/// the others in order, since names may be chosen so that their hashes are alike. In a contract it is a list of them.
+/// The anchors that have occurred in a document. The first ones are in a hash table, as most documents have few. The
+/// others are in a tree, since names can be chosen to have equal hashes. In a contract, they are a list.
 #[derive(Drop)]
 pub(crate) struct Anchors<'a> {
     few: IndexSet<&'a str>,

@@ -1,4 +1,4 @@
-//! What is between the documents of a stream (YAML 1.2.2, section 9.1): byte order marks and comment lines, and `...`.
+//! The text between the documents of a stream (YAML 1.2.2, section 9.1): byte order marks, comment lines, and `...`.
 ghost use Rattle.std.specs.Prelude.{◌≡◌, ◌+◌, ◌≤◌, IfOk};
 ghost use Rattle.std.specs.Str.{IsCharBoundary};
 ghost use Rattle.yf_chars.specs.Boundary.{BoundaryFrom};
@@ -15,7 +15,8 @@ use yf_comments::lines::line_end;
 use yf_lines::basic::is_mark_at;
 
 #[tactic(auto, using(crate::proofs::Uniqueness::Forward::line_end_forward))]
-/// Goes past the byte order marks and comment lines that are at the offset (l-document-prefix, production 202).
+/// Passes the byte order marks and comment lines at the offset (l-document-prefix, production 202), and keeps the
+/// comments.
 pub(crate) fn skip_prefix<'a>(
     alloc: Global,
     text: &'a str,
@@ -49,7 +50,7 @@ pub(crate) fn skip_prefix<'a>(
     }
 }
 
-// Adds comments, with the note whether a blank line is before each that is no line of a block scalar.
+// Adds comments, and notes for each whether a blank line that is no line of a block scalar is before it.
 fn keep_comments<'a>(
     text: &'a str,
     floor: usize,

@@ -1,11 +1,12 @@
-//! What must hold in each document besides its grammar: the handles of its tags are declared (YAML 1.2.2, section 6.9.1),
-//! each alias names an anchor before it (section 7.1), no directive is repeated and the version is 1 (section 6.8), and
-//! each escape is a character (section 5.7). Of all breaches the first is told.
+//! The rules for each document besides its grammar: the handles of its tags are declared (YAML 1.2.2, section 6.9.1),
+//! each alias names an anchor before it (section 7.1), no YAML directive and no TAG directive for one handle is
+//! repeated and the major version is 1 (section 6.8), and each escape is a character (section 5.7). Only the first
+//! breach is reported.
 ghost use Rattle.std.specs.Prelude.{◌≡◌, [], ◌∷◌, MatchBool};
 ghost use Rattle.yf_stream.specs.TagPass.{FirstOfBoth};
 ghost use Rattle.yf_stream.specs.WellFormed.{IsEarlierBreach, breach_if, escape_breaches, rank};
 
-/// What does not hold.
+/// The rule that is broken.
 #[derive(Clone, Copy)]
 pub(crate) enum BreachKind {
     UnknownHandle,
@@ -15,14 +16,14 @@ pub(crate) enum BreachKind {
     EscapeValue,
 }
 
-/// The byte offset of a tag, an alias, a directive or an escape, and what does not hold of it.
+/// The byte offset of a tag, an alias, a directive or an escape, and the rule that it breaks.
 #[derive(Clone, Copy)]
 pub(crate) struct Breach {
     pub(crate) offset: usize,
     pub(crate) kind: BreachKind,
 }
 
-/// Keeps a breach if it is the first so far: by its place in the text, and of two at one place by what does not hold.
+/// Keeps a breach if the test holds and the breach is the first so far: by its offset, and at one offset by its kind.
 pub(crate) fn keep_if(first: &mut Option<Breach>, test: bool, kind: BreachKind, offset: usize)
     ensures { FirstOfBoth first.old first.new (breach_if test kind offset) }
 {
@@ -40,7 +41,7 @@ pub(crate) fn keep_escapes(first: &mut Option<Breach>, escapes: &[usize])
     }
 }
 
-// The first of what was found before and one more breach.
+// Returns the earlier one of the first breach so far and another one.
 fn earlier(first: Option<Breach>, found: Breach) -> Breach
     ensures { FirstOfBoth first (Some result) (found ∷ []) }
 {
@@ -55,7 +56,7 @@ fn earlier(first: Option<Breach>, found: Breach) -> Breach
     }
 }
 
-// Whether the one breach comes before the other, or is the same.
+// Returns whether the breach `a` comes before `b`, or both have one offset and one kind.
 fn precedes(a: Breach, b: Breach) -> bool
     ensures { MatchBool result (IsEarlierBreach a b) (IsEarlierBreach b a) }
 {
@@ -68,7 +69,7 @@ fn precedes(a: Breach, b: Breach) -> bool
     order_of(a.kind) <= order_of(b.kind)
 }
 
-// Which of two breaches at one place comes first.
+// Returns the rank of a breach among those at its offset; the lowest comes first.
 fn order_of(kind: BreachKind) -> u8
     ensures { result ≡ rank kind }
 {

@@ -9,7 +9,8 @@ use crate::prefixes::Prefixes;
 use std::alloc::AllocError;
 use yf_events::directive::Directive;
 
-/// Declares the handles of a document, and finds the first directive that is repeated or has another version than 1.
+/// Declares the handles of a document, and keeps the first breach: a repeated directive, or a major version other than
+/// 1.
 pub(crate) fn declare_all<'a>(
     directives: &[Directive<'a>],
     handles: &mut Prefixes<'a>,
@@ -25,7 +26,7 @@ pub(crate) fn declare_all<'a>(
     Ok(())
 }
 
-// Declares the handle of one directive, and answers whether a version has been named.
+// Declares the handle of one directive, and returns whether a version has been named so far.
 fn declare<'a>(
     directive: &Directive<'a>,
     has_version: bool,
@@ -57,7 +58,7 @@ fn declare<'a>(
     Ok(has_version)
 }
 
-// The version that a YAML directive names.
+// Returns the version that a YAML directive names.
 fn version_of<'a>(words: &[&'a str]) -> Option<&'a str>
     ensures { MatchOption result (WellFormed.version_of (map (λ word. word.now) words.now) ≡ None)
         (λ version. WellFormed.version_of (map (λ word. word.now) words.now) ≡ Some version.now) }
@@ -73,7 +74,7 @@ fn version_of<'a>(words: &[&'a str]) -> Option<&'a str>
     }
 }
 
-// The handle that a TAG directive declares, and its prefix.
+// Returns the handle that a TAG directive declares, and its prefix.
 fn declaration_of<'a>(words: &[&'a str]) -> Option<(&'a str, &'a str)>
     ensures { MatchOption result (WellFormed.declaration_of (map (λ word. word.now) words.now) ≡ None)
         (λ d. WellFormed.declaration_of (map (λ word. word.now) words.now) ≡ Some (d.0.now, d.1.now)) }
@@ -89,7 +90,7 @@ fn declaration_of<'a>(words: &[&'a str]) -> Option<(&'a str, &'a str)>
     }
 }
 
-// Whether the number before the dot is 1.
+// Returns whether the number before the dot is 1.
 fn is_version_one(version: &str) -> bool
     ensures { result ≡ WellFormed.is_version_one version.now }
 {
@@ -104,7 +105,7 @@ fn is_version_one(version: &str) -> bool
     false
 }
 
-// Whether the digit is 1, and a dot follows it.
+// Returns whether the digit is 1, and a dot follows it.
 fn is_one(digit: u8, rest: &[u8]) -> bool
     ensures { result ≡ WellFormed.is_one digit rest.now }
 {

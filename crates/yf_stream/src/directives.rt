@@ -33,8 +33,8 @@ struct DirectiveLine<'a> {
     end: usize,
 }
 
-/// Reads all directives that begin at the offset, with their comments. `Err` with the offset of the first one that is
-/// none.
+/// Reads all directives that begin at the offset, with their comments. Returns `Err` with the offset of the first `%`
+/// that begins no directive.
 pub(crate) fn read_directives<'a>(
     alloc: Global,
     text: &'a str,
@@ -102,7 +102,7 @@ fn read_directive<'a>(
     }
 }
 
-// Reads the parameters of a directive with that name, and gives the offset after them.
+// Reads the parameters of a directive with that name, and returns the offset after them.
 fn read_parameters<'a>(
     text: &'a str,
     name: &str,
@@ -121,7 +121,7 @@ fn read_parameters<'a>(
     }
 }
 
-// The parameter of a YAML directive (ns-yaml-directive, production 86): two numbers with a dot between.
+// Reads the parameter of a YAML directive (ns-yaml-directive, production 86): two numbers with a dot between.
 fn read_version<'a>(
     text: &'a str,
     at: usize,
@@ -151,7 +151,7 @@ fn read_version<'a>(
     Ok(Some(end))
 }
 
-// The parameters of a TAG directive (ns-tag-directive, production 88): a handle and a prefix.
+// Reads the parameters of a TAG directive (ns-tag-directive, production 88): a handle and a prefix.
 fn read_tag_parameters<'a>(
     text: &'a str,
     at: usize,
@@ -181,7 +181,7 @@ fn read_tag_parameters<'a>(
     Ok(Some(end))
 }
 
-// The parameters of a directive with another name (ns-reserved-directive, production 83). None begins with `#`.
+// Reads the parameters of a directive with another name (ns-reserved-directive, production 83). None begins with `#`.
 fn read_reserved<'a>(
     text: &'a str,
     at: usize,

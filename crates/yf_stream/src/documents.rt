@@ -1,4 +1,4 @@
-//! The documents of a stream (YAML 1.2.2, section 9.1): what begins one, and what ends it. Offsets count bytes.
+//! The documents of a stream (YAML 1.2.2, section 9.1): their starts and their ends. Offsets count bytes.
 ghost use Rattle.std.specs.Prelude.{◌≡◌, ◌+◌, ◌<◌, ◌≤◌, ◌^◌, [], true, false, length, not, IfOk, IfSome, MatchBool, MatchOption};
 ghost use Rattle.std.specs.Str.{IsCharBoundary};
 ghost use Rattle.yf_events.specs.Event.{new_event_value};
@@ -32,7 +32,7 @@ use yf_lines::basic::{is_forbidden_at, skip_whites};
 use yf_lines::text::Text;
 use yf_props::props::Props;
 
-/// What is read, and in which memory what is made of it is.
+/// The text that is read, and the allocator for its parts.
 #[derive(Clone, Copy)]
 pub(crate) struct StreamContext<'a> {
     pub(crate) alloc: Global,
@@ -46,15 +46,15 @@ pub(crate) struct StreamCursor {
     pub(crate) at: usize,
     /// The lines of a block scalar before this offset are no blank lines.
     pub(crate) floor: usize,
-    /// The furthest offset at which the last node's reading went wrong, or where the node ends.
+    /// The furthest offset at which the reading of the last node went wrong, or the end of the node.
     pub(crate) reached: usize,
-    /// Whether a document may begin here without `---`, or with directives: where none has been read whose end is not yet
-    /// among the events.
+    /// Whether a document may begin here without `---`, or with directives. It may if the events have the end of each
+    /// document that has been read.
     pub(crate) may_be_bare: bool,
 }
 
 impl StreamCursor {
-    // After a document's root node another document needs a `---`, or a `...` before it.
+    // Returns the cursor after a document's node. Another document needs a `---`, or a `...` before it.
     fn cursor_after(at: usize, floor: usize, reached: usize) -> StreamCursor
         ensures at { result.at ≡ at }
         ensures floor { result.floor ≡ floor }
@@ -70,7 +70,7 @@ impl StreamCursor {
     }
 }
 
-/// What has been read of a stream so far, in order of the text.
+/// The parts of a stream that have been read so far, in text order.
 #[derive(Drop)]
 pub(crate) struct Parts<'a> {
     /// The events and comments of the stream, and its escapes that are no character.
@@ -78,13 +78,13 @@ pub(crate) struct Parts<'a> {
     pub(crate) documents: Documents<'a>,
 }
 
-/// What comes next.
+/// The result of a step of the reader.
 #[derive(Clone, Copy)]
 pub(crate) enum StreamStep {
     Go(StreamCursor),
-    /// No stream is derived; the text goes wrong at the byte offset.
+    /// No stream is derived; the reading went wrong at the byte offset.
     Syntax(usize),
-    /// The limit of open collections is passed at the byte offset.
+    /// The text passes the limit of open collections at the byte offset.
     TooDeep(usize),
 }
 
@@ -113,7 +113,7 @@ impl<'a> Parts<'a> {
         }
     }
 
-    /// Adds an event that stands for no text.
+    /// Adds an event without a span.
     pub(crate) fn push_unplaced(
         &mut self,
         alloc: Global,
@@ -132,7 +132,7 @@ impl<'a> Parts<'a> {
         })
     }
 
-    /// Adds the end of the document that is open, if there is one.
+    /// Adds the end of the open document, if one is open.
     pub(crate) fn close(
         &mut self,
         alloc: Global,
@@ -164,8 +164,8 @@ impl<'a> Parts<'a> {
         self.documents.push(Doc { start, directives })
     }
 
-    /// Reads what begins at the offset, which is no comment line and not the end of the text: a document with its directives,
-    /// or a `...`.
+    /// Reads the document with its directives, or the `...`, at the offset. The caller has passed all comment lines
+    /// before it, and the text does not end there.
     pub(crate) fn read_next(
         &mut self,
         source: StreamContext<'a>,
@@ -252,7 +252,7 @@ impl<'a> Parts<'a> {
         self.root_node(source, at + 3)
     }
 
-    // Adds the empty node of a document after whose `---` the line ends, with its comments.
+    // Adds the empty node of a document with nothing after its `---`, and its comments.
     fn empty_document(
         &mut self,
         alloc: Global,
@@ -276,7 +276,8 @@ impl<'a> Parts<'a> {
         Ok(StreamStep::Go(StreamCursor::cursor_after(end, 0, end)))
     }
 
-    // Reads the node of a document. Where it was found, and its reading did not go wrong after it, the next line follows.
+    // Reads the node of a document. If it is found and nothing goes wrong after it, the reader goes on at the next
+    // line.
     fn root_node(&mut self, source: StreamContext<'a>, at: usize) -> Result<StreamStep, AllocError>
         requires boundary { IsCharBoundary source.text.now at }
         requires parts { PartsAt source.text.now self.old }
@@ -294,7 +295,7 @@ impl<'a> Parts<'a> {
     }
 }
 
-// The document marker at the start of a line that begins at the offset.
+// Returns the document marker at the start of a line that begins at the offset.
 fn marker_at(text: &str, at: usize) -> Option<Marker>
     requires { IsCharBoundary text.now at }
     ensures marker { IsMarker text.now at result }
@@ -311,7 +312,7 @@ fn marker_at(text: &str, at: usize) -> Option<Marker>
     None
 }
 
-// Whether a `---` is at the start of a line that begins at the offset.
+// Returns whether a `---` is at the start of a line that begins at the offset.
 fn has_dashes(text: &str, at: usize) -> bool
     requires { IsCharBoundary text.now at }
     ensures marker { MatchBool result (ForbiddenLine text.now at × (code text.now at ≡ 45))
@@ -327,8 +328,8 @@ fn has_dashes(text: &str, at: usize) -> bool
     false
 }
 
-// What is left of the line of a `---`, with the comment lines after it, where no node is after them: the text ends there, or a
-// byte order mark or a document marker is.
+// Returns the rest of the line of a `---`, with the comment lines after it, if no node follows: the text ends there, or
+// a byte order mark or a document marker is there.
 fn empty_end<'a>(source: StreamContext<'a>, at: usize) -> Result<Option<Separation<'a>>, AllocError>
     requires { IsCharBoundary source.text.now at }
     ensures reads { IfOk result (λ o. MatchOption o (SomethingBegins source.entry.text.now at)
@@ -347,7 +348,7 @@ fn empty_end<'a>(source: StreamContext<'a>, at: usize) -> Result<Option<Separati
     }
 }
 
-// What comes after a node that was found: the next line, if its reading did not go wrong after it.
+// Returns the step after a node that was found: to the next line, if nothing went wrong after the node.
 fn after_found(found: FoundBlock) -> StreamStep
     ensures { FoundRead found result }
 {

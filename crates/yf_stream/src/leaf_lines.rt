@@ -1,4 +1,4 @@
-//! Which comments are on the line on which a leaf ends. A leaf is a scalar, an alias or an empty collection.
+//! Notes which comments are on the line on which a leaf ends. A leaf is a scalar, an alias or an empty collection.
 ghost use Rattle.std.specs.Prelude.{◌≡◌, ℕ, ◌<◌, ◌≤◌, [], List, None, drop, length, map, IfOk, MatchBool};
 ghost use Rattle.yf_comments.specs.Comment.{comment_value};
 ghost use Rattle.yf_lines.specs.Lines.{AreLines};
@@ -14,14 +14,14 @@ use yf_events::leaves::begins_leaf;
 use yf_events::values::Values;
 use yf_lines::basic::{break_ends, line_break};
 
-// How many events have been looked at, and where the last leaf with characters among them ends.
+// The number of events that have been passed, and the end of the last leaf with characters among them.
 #[derive(Clone, Copy)]
 struct Seen {
     events: usize,
     leaf_end: Option<usize>,
 }
 
-/// For each comment, whether it is on the line on which the last leaf with characters that begins before it ends.
+/// Notes for each comment whether it is on the line on which the last leaf with characters that begins before it ends.
 pub(crate) fn on_leaf_lines(
     text: &str,
     events: &Events,
@@ -45,7 +45,7 @@ pub(crate) fn on_leaf_lines(
     Ok(())
 }
 
-// Goes on to the last leaf that begins before the offset.
+// Advances to the last leaf that begins before the offset.
 fn leaves_before(events: &Events, offset: usize, seen: Seen) -> Seen
     ensures passed { (o : ℕ) → offset ≤ o → last_end seen.leaf_end o (leaf_spans (drop seen.events events.now))
         ≡ last_end result.leaf_end o (leaf_spans (drop result.events events.now)) }
@@ -59,7 +59,7 @@ fn leaves_before(events: &Events, offset: usize, seen: Seen) -> Seen
     }
 }
 
-// Goes past the events that begin before the offset, and past those without a place.
+// Passes the events that begin before the offset, and those without a span.
 #[inline(always)]
 fn begun_before(events: &Events, offset: usize, start: usize) -> usize
     ensures later { start ≤ result }
@@ -87,8 +87,8 @@ fn has_begun(events: &Events, at: usize, offset: usize) -> bool
     }
 }
 
-// Where the last leaf with characters ends among these events, which is looked for from their end; the end that was found before, where
-// there is none.
+// Returns the end of the last leaf with characters among these events, or `found` if none is among them. The search
+// goes backwards.
 #[inline(always)]
 fn last_leaf(events: &Events, start: usize, end: usize, found: Option<usize>) -> Option<usize>
     requires order { start ≤ end }
@@ -108,7 +108,7 @@ fn last_leaf(events: &Events, start: usize, end: usize, found: Option<usize>) ->
     found
 }
 
-// Whether the last character before the end is on the comment's line.
+// Returns whether the last character before the leaf's end is on the comment's line.
 fn ends_on_line(text: &str, leaf_end: Option<usize>, comment: &Comment) -> bool
     ensures { (ls : List Line) → AreLines text.now ls → IsInLine text.now (comment_value comment.now)
         → result ≡ end_on_line ls leaf_end comment.now.offset }
@@ -126,7 +126,7 @@ fn ends_on_line(text: &str, leaf_end: Option<usize>, comment: &Comment) -> bool
     }
 }
 
-// The start of the line on which the offset is.
+// Returns the start of the line that holds the offset.
 fn line_start(text: &str, at: usize) -> usize
     ensures { BeginsLine text.now at result }
 {
@@ -140,7 +140,7 @@ fn line_start(text: &str, at: usize) -> usize
     0
 }
 
-// The start of the line after the offset, or the end of the text.
+// Returns the start of the line after the offset, or the end of the text.
 fn next_line(text: &str, at: usize) -> usize
     ensures { NextLine text.now at result }
 {

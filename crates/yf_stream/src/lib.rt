@@ -1,4 +1,4 @@
-//! Whole streams (YAML 1.2.2, chapter 9): documents, their markers and directives, and what must hold in each of them.
+//! Whole streams (YAML 1.2.2, chapter 9): documents, their markers and directives, and the rules for each document.
 #![tactic(auto)]
 
 mod anchors;

@@ -14,12 +14,12 @@ use yf_props::handles::Handles;
 use yf_props::props::Tag;
 use yf_props::resolved::ResolvedTag;
 
-/// How many handles are found by their hashes.
+/// The maximum number of handles that are looked up by their hashes.
 const FEW: usize = 64;
 
-/// The tag handles that are declared in a document. The first of them are found by their hashes, as most documents have few,
-/// and the others in order, since names may be chosen so that their hashes are alike. In a contract it is a list of the
-/// declarations, each a handle and its prefix.
+/// The tag handles that are declared in a document. Up to `FEW` handles are looked up by their hashes, as most
+/// documents have few. If there are more, all are looked up in a tree, since names can be chosen to have equal hashes.
+/// In a contract, they are a list of declarations, each a handle and its prefix.
 #[derive(Drop)]
 pub(crate) struct Prefixes<'a> {
     few: Handles<'a>,
@@ -48,7 +48,7 @@ impl<'a> Prefixes<'a> {
         }
     }
 
-    /// Declares a handle's prefix, and answers whether it was not declared before; where it was, its prefix stays.
+    /// Declares a handle's prefix, and returns true if the handle was not declared before. Otherwise its prefix stays.
     pub(crate) fn declare(&mut self, handle: &'a str, prefix: &'a str) -> Result<bool, AllocError>
         ensures fresh { IfOk result (λ fresh. fresh ≡ not (is_declared self.old handle.entry.now)) }
         ensures declared { IfOk result (λ _. SameDeclarations self.new
@@ -72,8 +72,8 @@ impl<'a> Prefixes<'a> {
         Err(AllocError)
     }
 
-    /// What a tag stands for, or why it has no meaning, as `Handles::resolve` tells it. The place of a refusal is told once the
-    /// first of them is known.
+    /// Returns the resolved tag, or the fault of `Handles::resolve`. An `UnknownHandle` has line 1 and column 1: the
+    /// position is computed later, for the first breach only.
     pub(crate) fn resolve(&self, alloc: Global, tag: &Tag<'a>) -> Result<ResolvedTag<'a>, Fault>
         ensures text { IfOk result (λ text. TagText self.now (tag_value tag.now) text) }
         ensures refused { IfErr result (λ fault. (fault ≡ Fault.Memory)
@@ -93,7 +93,7 @@ impl<'a> Prefixes<'a> {
     }
 }
 
-// What a tag stands for where one handle is declared.
+// Resolves a tag with only one declared handle.
 fn resolve_alone<'a>(
     alloc: Global,
     handle: &'a str,

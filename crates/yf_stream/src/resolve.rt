@@ -21,7 +21,7 @@ use yf_lines::fault::Fault;
 use yf_props::props::{Props, Tag};
 use yf_props::resolved::ResolvedTag;
 
-/// For each event the resolved tag of the node that it begins; and the first breach, if there is one.
+/// The resolved tag of the node that each event begins, and the first breach, if any.
 #[derive(Drop)]
 pub(crate) struct Resolved<'a> {
     pub(crate) tags: Tags<'a>,
@@ -52,8 +52,8 @@ pub(crate) fn resolve<'a>(
     Ok(())
 }
 
-// Resolves the tags of the events from an index on, in a document with these directives, up to where the next one starts, and gives the
-// index of that.
+// Resolves the tags of the events from an index on, in a document with these directives, up to the start of the next
+// document. Returns the index of that start, or of the end.
 fn resolve_events<'e, 'a>(
     alloc: Global,
     events: &'e Events<'a>,
@@ -80,7 +80,7 @@ fn resolve_events<'e, 'a>(
     )
 }
 
-// The same with the names of the document, of which there are none yet. Most events have nothing that is to be noted.
+// Does the work of `resolve_events`, with no handles and no anchors yet. It skips runs of events that name nothing.
 fn resolve_from<'e, 'a>(
     alloc: Global,
     events: &'e Events<'a>,
@@ -116,7 +116,7 @@ fn resolve_from<'e, 'a>(
     Ok(at)
 }
 
-// Goes past the events that name nothing, up to the next one that may, or the end.
+// Passes the events that name nothing, up to the next one that may name something, or the end.
 #[inline(always)]
 fn pass_bare(events: &Events, at: usize, tags: &mut Tags) -> Result<usize, AllocError>
     requires { at ≤ length events.now }
@@ -128,7 +128,7 @@ fn pass_bare(events: &Events, at: usize, tags: &mut Tags) -> Result<usize, Alloc
     Ok(end)
 }
 
-// Whether a document starts at an index.
+// Returns whether a document starts at an index.
 #[inline(always)]
 fn document_starts(events: &Events, at: usize) -> bool
     requires { at < length events.now }
@@ -144,7 +144,7 @@ fn starts_document(event: &Event) -> bool
     matches!(event, Event::DocStart { .. })
 }
 
-// Adds what the tag of an event stands for.
+// Adds the resolved tag of an event.
 fn add_tag<'a>(
     alloc: Global,
     events: &Events<'a>,
@@ -173,7 +173,7 @@ fn tag_offset(events: &Events, at: usize) -> Option<usize>
     events.at(at).tag_offset
 }
 
-// Where the node or alias begins, or 0 where it has no place.
+// Returns the start of the node or alias, or 0 if the event has no span.
 fn start_of(events: &Events, at: usize) -> usize
     requires { at < length events.now }
     ensures { EventAt events.now at (λ e. result ≡ start_or 0 e.span) }
@@ -199,7 +199,8 @@ fn declare_handles<'a>(
     }
 }
 
-// The anchor of the node that the event begins has occurred from now on; an alias at the offset names one that has.
+// Adds the anchor of the node that the event begins, and keeps a breach if the event is an alias of no anchor before
+// it.
 fn note_event<'e>(
     event: Event<'e>,
     offset: usize,
@@ -236,7 +237,7 @@ fn note_anchor<'a>(props: Props<'a>, anchors: &mut Anchors<'a>) -> Result<(), Al
     Ok(())
 }
 
-// What the tag stands for.
+// Resolves the tag, and keeps a breach if its handle is unknown.
 fn resolve_tag<'a>(
     alloc: Global,
     tag: Option<Tag<'a>>,

@@ -29,7 +29,7 @@ use yf_lines::fault::Fault;
 use yf_lines::place::Position;
 use yf_lines::table::LineTable;
 
-// Why a text is no stream, at a byte offset.
+// Why a text is refused, with a byte offset.
 #[derive(Clone, Copy)]
 enum Refusal {
     Syntax(usize),
@@ -37,7 +37,7 @@ enum Refusal {
     Breach(Breach),
 }
 
-// What is made of a text: the parts that are read of it, and what is noted of them.
+// The reading in progress: the parts that have been read of a text, and the notes on them.
 #[derive(Drop)]
 struct Draft<'a> {
     parts: Parts<'a>,
@@ -45,19 +45,19 @@ struct Draft<'a> {
     on_leaf_line: Values<bool>,
 }
 
-/// Reads a whole stream (l-yaml-stream, production 211): its documents with their events, comments and places.
+/// Reads a whole stream (l-yaml-stream, production 211): its documents with their events, comments and offsets.
 ///
 /// # Errors
 ///
-/// `Fault::Syntax` where the text is no stream, and `Fault::TooDeep` where it is none with at most `DEPTH` collections open
-/// at once. Else the first in the text of: a tag whose handle is not declared (`UnknownHandle`), an alias without an
-/// anchor of its name before it in its document (`UnknownAlias`), a second YAML directive or a second TAG directive for one
-/// handle in a document (`RepeatedDirective`), another major version than 1 (`BadVersion`), an escape that is no character
-/// (`EscapeValue`). `Fault::Memory` may come in the place of each answer, where a growth of memory was refused; a text of more than `LONGEST`
-/// bytes is always answered so.
+/// Fails with `Fault::Syntax` if the text is no stream with at most `DEPTH` collections open at once. If such a text
+/// has more than `DEPTH` openers, the fault may be `Fault::TooDeep`. Otherwise fails with the first in the text of: a
+/// tag whose handle is not declared (`UnknownHandle`), an alias without an anchor of its name before it in its document
+/// (`UnknownAlias`), a second YAML directive or a second TAG directive for one handle in a document
+/// (`RepeatedDirective`), a major version other than 1 (`BadVersion`), an escape that is no character (`EscapeValue`).
+/// Fails with `Fault::Memory` if a growth of memory is refused, and always if the text has more than `LONGEST` bytes
+/// (`long`).
 ///
-/// A reading is the text's and its only one, and a fault comes only for its cause (`reads`). So a reading is given of texts of `LONGEST` bytes at
-/// most (`long`).
+/// A reading that is returned is the only one of the text, and each fault has its cause (`reads`).
 pub fn read_stream<'a>(alloc: Global, text: &'a str) -> Result<Reading<'a>, Fault>
     ensures reads { StreamReader.ReadsStream text.now result }
     ensures long { 2 ^ 30 < length text.now → result ≡ Err Fault.Memory }
@@ -111,7 +111,7 @@ fn into_lists<'a>(draft: Draft<'a>) -> Lists<'a>
     }
 }
 
-// The fault with its place.
+// Returns the fault of a refusal with its position, or `Fault::Memory`.
 fn fault_at(alloc: Global, text: &str, refusal: Refusal) -> Fault
     requires { IsCharBoundary text.now (offset_of refusal) }
     ensures { FaultAt text.now refusal result }
@@ -134,7 +134,7 @@ fn fault_at(alloc: Global, text: &str, refusal: Refusal) -> Fault
     }
 }
 
-// The fault that tells of a breach.
+// Returns the fault for a breach.
 fn fault_of(breach: Breach, place: Position) -> Fault
     ensures { result ≡ StreamReader.fault_of breach.kind place }
 {
@@ -147,7 +147,7 @@ fn fault_of(breach: Breach, place: Position) -> Fault
     }
 }
 
-// Drafts the stream's reading, or says why there is none.
+// Fills the draft with the stream's reading, or returns why the text has none.
 fn fill<'a>(
     alloc: Global,
     text: &'a str,
@@ -164,7 +164,7 @@ fn fill<'a>(
     note(alloc, text, draft)
 }
 
-// Resolves the tags of the parts and notes which comments are on the lines of leaves, or tells of the first breach.
+// Resolves the tags of the parts and notes which comments are on the lines of leaves, or returns the first breach.
 fn note<'a>(
     alloc: Global,
     text: &'a str,
@@ -193,7 +193,7 @@ fn note<'a>(
     Ok(None)
 }
 
-// Reads all documents, or says why the text is no stream.
+// Reads all documents, or returns why the text is no stream.
 fn read_documents<'a>(
     alloc: Global,
     text: &'a str,

@@ -1,4 +1,4 @@
--- A flow node without properties in a block node is found as it is derived, and reached.
+-- The reader finds a flow node without properties in a block node as it is derived, and reaches its end.
 use Rattle.std.proofs.Common.{ℕ, ℤ, pos, ◌+ℤ◌, ◌<◌, ◌≤◌, false, List, Option, refl, sym, ◌∙◌, arith, true≢false}
 use Rattle.std.specs.Str.{IsUtf8}
 use Rattle.yf_chars.specs.declared.context.Ctx.{Ctx}
@@ -35,7 +35,7 @@ module _ {t : List ℕ} where
   no_properties_there : {n m : ℤ} {c : Ctx} {h k l g : ℕ} {x : Meaning} {q : PropertiesValue} → BareNode t n h k l x → Chosen (Properties t m c k) g q → ⊥
   no_properties_there b d = true≢false (sym (properties_begin d.derived) ∙ bare_no_properties b)
 
-  -- it is there as a leaf
+  -- it is a leaf there
   pub bare_view : {R : Reader} {n m : ℤ} {c : Ctx} {h k l : ℕ} {a : Ahead} {x : Meaning} {o : Option ParsedNode} → BareNode t m h k l x → InlineView t R n c a k o → R (Leaf n a k) o
   bare_view b (view_leaf s r) = r
   bare_view b (view_below d e j r) = absurd (no_properties_there b d)

@@ -1,4 +1,5 @@
--- What is found at a character on a line is found where a node is awaited before it, with the comments of what separates.
+-- If the reader finds a node at a character on a line, it also finds the node when it is awaited before that character,
+-- with the comments of the separation.
 use Rattle.std.proofs.Common.{◌≡◌, ℕ, ℤ, pos, ◌+ℤ◌, ◌<◌, Bool, false, inr, List, [], Option, Some, None, refl, sym, ap, ◌∙◌, subst}
 use Rattle.yf_chars.specs.declared.context.Ctx.{Ctx}
 use Rattle.yf_lines.specs.Basic.{is_key, Clear}
@@ -18,11 +19,11 @@ use Rattle.yf_grammar.proofs.BlockOutcomes.BlockItems.{longest_of, longest_some}
 use Rattle.yf_grammar.proofs.BlockOutcomes.OutcomeMade.{told_exact, told_longest, headed_unheld, found_moved, longest_moved}
 use Rattle.yf_grammar.proofs.FlowStack.AwaitEntries.{found_is}
 
--- what is found at a place reaches it
+-- a node found at an offset reaches it
 pub longest_found : {o : Option ParsedNode} {j h : ℕ} {x : Meaning} → IsFound o j h x → Longest o j x
 longest_found {o} {j} {h} {x} f = longest_of (record { end = j; height = h; json = false; meaning = x }) (f.is ∙ found_is j h false x) (inr (refl, refl))
 
--- after what is ahead and keeps no comments
+-- after an `Ahead` that keeps no comments
 plainly : {a : Ahead} {cs : List CommentValue} (x : Meaning) → Unheld a → cs ≡ [] → headed a x ≡ meaning_after cs x
 plainly x n e = headed_unheld x n ∙ sym (after_nothing x) ∙ ap (λ w. meaning_after w x) (sym e)
 

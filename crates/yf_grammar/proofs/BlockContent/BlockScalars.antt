@@ -1,5 +1,5 @@
--- A block scalar in a block node is found as it is derived, and reached: it has one end and one meaning, and nothing else begins
--- with its sign.
+-- The reader finds a block scalar in a block node as it is derived, and reaches its end: it has one end and one
+-- meaning, and nothing else begins with its sign.
 use Rattle.std.proofs.Common.{◌≡◌, ◌≢◌, ℕ, ℤ, pos, ◌+ℤ◌, Bool, true, false, ◌||◌, ◌==◌, List, [], Option, None, refl, sym, ap, ◌∙◌, arith, true≢false}
 use Rattle.std.proofs.lemmas.Bool.Decides.{nat_tests}
 use Rattle.std.proofs.Math.Bool.{and-false}
@@ -119,7 +119,7 @@ module _ {t : List ℕ} where
   sign_no_properties {i = i} q d = (sign_begins (code t i) q).1 (properties_begin d.derived)
 
 module _ {t : List ℕ} (u : IsUtf8 t) where
-  -- a leaf, and what is on a line
+  -- a leaf, and the content of a line
   pub scalar_leaf : {e p j : ℕ} {n : ℤ} {a : Ahead} {x : Meaning} {o : Option ParsedNode} → BlockScalar t n p j x → Whole t e (Leaf n a p) o → IsFound o j 0 (headed a x)
   scalar_leaf {a = a} d (scalar_read b) = same_leaf a (scalar_one u d b.derived)
   scalar_leaf {j = j} {x = x} d (leaf_read s m r l) = absurd (s.none j x d)

@@ -1,5 +1,5 @@
--- A flow node without properties on a line of a block node: an alias, a plain scalar, a quoted scalar or a flow collection. It is no
--- key where the line ends after it, and where it is as a leaf the reader finds it.
+-- A flow node without properties on a line of a block node: an alias, a plain scalar, a quoted scalar or a flow
+-- collection. If the line ends after it, it is no key. If it is a leaf there, the reader finds it.
 use Rattle.std.proofs.Common.{◌≡◌, ℕ, ℤ, pos, ◌+ℤ◌, ◌≤◌, ◌≤ℤ◌, Bool, true, false, List, [], Option, Some, refl, sym, ap, ◌∙◌, subst, arith, encode_utf8_all}
 use Rattle.std.proofs.lemmas.Bool.Decides.{nat_tests}
 use Rattle.std.specs.Str.{IsUtf8}
@@ -51,7 +51,7 @@ plain_begins_no_alias : (c : ℕ) → begins_plain c ≡ true → begins_alias c
 unfolding begins_plain begins_content begins_alias begins_properties
 plain_begins_no_alias c e = grind (arith, nat_tests)
 
--- from what an outcome is to its end
+-- the end, the height and the meaning of an outcome
 pub record SameFound (f : ParsedNode) (l h : ℕ) (x : Meaning) : Type 0 where
   pub end : f.end ≡ l
   pub height : f.height ≡ h
@@ -82,7 +82,7 @@ module _ {t : List ℕ} where
   pub plain_begins : {n : ℤ} {k l : ℕ} {y : List ℕ} → PlainText t n FlowOut k l y → begins_plain (code t k) ≡ true
   plain_begins {k = k} p = no_bar_plain (code t k) (first_no_bar t FlowOut k (plain_leaps p).0)
 
-  -- it may be a leaf where nothing or an indicator is ahead, and, unless it is an alias, where properties are
+  -- it may be a leaf after nothing or an indicator and, unless it is an alias, after properties
   pub may_leaf : {n : ℤ} {h k l : ℕ} {x : Meaning} {a : Ahead} → Unheld a → BareNode t n h k l x → MayLeaf t a k
   may_leaf nothing_ahead b = record { no_props = bare_no_properties b; no_alias = λ e. cc }
   may_leaf indicator_ahead b = record { no_props = bare_no_properties b; no_alias = λ e. cc }
@@ -94,7 +94,7 @@ module _ {t : List ℕ} where
   content_may_leaf {k = k} a d = record { no_props = bare_no_properties (bare_content d); no_alias = λ e. content_no_alias (code t k) (flow_starts d refl).content }
 
 module _ {t : List ℕ} (u : IsUtf8 t) where
-  -- content before the end of a line is found as it is derived
+  -- the reader finds content before the end of a line as it is derived
   pub content_outcome : {n : ℤ} {e h k l j : ℕ} {x : Meaning} {ds : List CommentValue} {o : Option ParsedNode} → Derives t h (JsonContent n FlowOut) k l x → Clear t k l → h ≤ e → LineEnd t l j ds
       → Parses t e (ANode n FlowOut k) o → o ≡ found l h true x
   content_outcome {n} {e} {h} {l = l} {x = x} {ds = ds} {o = o} d c m w r =
@@ -104,7 +104,7 @@ module _ {t : List ℕ} (u : IsUtf8 t) where
       go (reaches z) = z
       go (passes f z g y) = absurd (no_end_there u (content_after u d) (ap is_ns_char y ∙ quote_ns) w)
 
-  -- what is found there, before a line that is not deep enough for a plain scalar to go on
+  -- the outcome there, before a line that is not deep enough to continue a plain scalar
   pub bare_outcome : {n : ℤ} {e h i l j : ℕ} {x : Meaning} {ds : List CommentValue} {o : Option ParsedNode} → BareNode t n h i l x → Clear t i l → h ≤ e → LineEnd t l j ds → Stuck (Row t j)
       → ((m p : ℕ) → LineText t j m p → n ≤ℤ pos m → ⊥) → Parses t e (ANode n FlowOut i) o → (b : Bool) × (o ≡ found l h b x)
   bare_outcome (bare_alias a) c m d s f r = (false, node_alias a r)

@@ -1,4 +1,5 @@
--- Flow nodes with properties as block nodes, and so all of them: what the reader finds of each, and what it reaches.
+-- Flow nodes with properties, and so all flow nodes, as block nodes: the reader's outcomes for them, and how far it
+-- reaches.
 use Rattle.std.proofs.Common.{◌≡◌, ℕ, ◌<◌, ◌≤◌, ℤ, pos, ◌+ℤ◌, Bool, true, false, List, ◌++◌, Option, refl, sym, ap, ◌∙◌, arith, append_assoc}
 use Rattle.std.specs.Str.{IsUtf8}
 use Rattle.yf_chars.specs.declared.context.Ctx.{Ctx}
@@ -54,7 +55,7 @@ held_alone p f g = record {
   means = λ k ds. refl;
 }
 
--- a bare node that may be after properties, with which it is a node
+-- a bare node that may follow properties, and is a node with them
 record Propertied (t : List ℕ) (n : ℤ) (h g m l : ℕ) (x : Meaning) : Type 0 where
   bare : BareNode t n h m l x
   may : (v : PropertiesHeld) → MayLeaf t (Props v) m

@@ -1,4 +1,4 @@
--- After a separation the reader of last halts comes to the character that is separated, as the reader of whole nodes does.
+-- After a separation, the reader of last halts reaches the next character, as the reader of whole nodes does.
 use Rattle.std.proofs.Common.{◌≡◌, ℕ, ◌<◌, ◌≤◌, ℤ, pos, ◌+ℤ◌, Bool, false, List, [], Option, Some, None, refl, sym, ap, ◌∙◌, subst, arith, true≢false}
 use Rattle.yf_chars.specs.declared.context.Ctx.{Ctx}
 use Rattle.yf_chars.specs.Class.{is_white}
@@ -22,7 +22,8 @@ use Rattle.yf_grammar.proofs.Ends.GapLemmas.{Visible}
 use Rattle.yf_grammar.proofs.BlockOutcomes.BlockClaims.{line_unique, visible_white}
 use Rattle.yf_grammar.proofs.BlockOutcomes.BlockGaps.{whites_order, rows_order, line_in, ended_here, line_chosen, prefix_at_least}
 
--- what is at the line that begins at h, where a node is awaited: the node, or nothing, where what is ahead may end
+-- the outcome at the line that begins at h, when a node is awaited: the node, or only the `Ahead` if the node has no
+-- end
 pub data HaltsBelow (t : List ℕ) (e : ℕ) (ws : List ℕ) (n : ℤ) (c : Ctx) (a : Ahead) (i h m k : ℕ) (cs : List CommentValue) (o : Option ParsedNode) : Type 0 where
   halts_there : {cols : Columns} {f : ParsedNode} → LineColumns n c h m k cols → Halts t e ws (Inline n c cols (past a cs) k) (Some f) → o ≡ outcome_after a cs (Some f)
       → HaltsBelow t e ws n c a i h m k cs o
@@ -36,7 +37,7 @@ pub data HaltsCame (t : List ℕ) (e : ℕ) (ws : List ℕ) (b : Bool) (n : ℤ)
       → HaltsCame t e ws b n c a i k cs o
 
 module _ {t : List ℕ} where
-  -- the first character of a line is where the reader is
+  -- the reader is at the first character of a line
   moved_columns : {n : ℤ} {c : Ctx} {h z m l k p : ℕ} {cols : Columns} → LineText t h m k → z ≡ h → LineText t z l p → LineColumns n c z l p cols
       → LineColumns n c h m k cols × (p ≡ k)
   moved_columns {n} {c} {h} {z} {m} {l} {k} {p} {cols} w e v y =
@@ -109,7 +110,7 @@ module _ {t : List ℕ} where
       let x = line_in m.1 v (λ s. z.none h y (omega arith) s) in
       come_below d x.1 (line_indented (prefix_at_least f x.1)) r
 
-  -- after a separation the reader comes to the character
+  -- after a separation the reader reaches the next character
   pub gap_halts : {e i k j : ℕ} {ws : List ℕ} {b : Bool} {n : ℤ} {c : Ctx} {a : Ahead} {cs : List CommentValue} {o : Option ParsedNode} (d : Ctx) → is_key d ≡ false
       → Separate t (n +ℤ pos 1) d i k cs → Visible t k → Clear t i j → k < j → Halts t e ws (Awaited b n c a i) o → HaltsCame t e ws b n c a i k cs o
   gap_halts d n (in_key e s) v z q r = absurd (true≢false (sym e ∙ n))

@@ -1,5 +1,5 @@
--- Where no collection begins on a line, there is a leaf, with or without properties. What the reader does there is said once for
--- whole nodes and for last halts: R is one of the two, and Q what is to be shown of the outcome, which is something.
+-- If no collection begins on a line, a leaf does, with or without properties. The lemmas are stated once for whole
+-- nodes and last halts: R is one of the two relations, and Q is the goal for an outcome that is not `None`.
 use Rattle.std.proofs.Common.{◌≡◌, ℕ, ◌<◌, ℤ, pos, ◌+ℤ◌, false, List, Option, Some, None, refl, sym, ap, ◌∙◌, subst}
 use Rattle.yf_chars.specs.declared.context.Ctx.{Ctx}
 use Rattle.yf_chars.specs.declared.context.Ctx.TheVariants.{FlowOut, FlowKey}
@@ -31,7 +31,7 @@ pub record NoSignAt (t : List ℕ) (p : ℕ) : Type 0 where
 abbrev pub Reader : Type 1
 Reader = BlockTask → Option ParsedNode → Type 0
 
--- what is read of a line on which no collection begins
+-- the outcome on a line on which no collection begins
 pub data InlineView (t : List ℕ) (R : Reader) (n : ℤ) (c : Ctx) (a : Ahead) (p : ℕ) (o : Option ParsedNode) : Type 0 where
   view_leaf : Stuck (Properties t (pos 0) FlowKey p) → R (Leaf n a p) o → InlineView t R n c a p o
   view_below : {g k : ℕ} {q : PropertiesValue} {ds : List CommentValue} {z : Ahead} → Chosen (Properties t (pos 0) FlowKey p) g q → Chosen (LineEnd t g) k ds → Joins a q p g z
@@ -76,7 +76,8 @@ module _ {t : List ℕ} where
   halts_view s k (Halting.halts_properties_apart y z q d j) = view_apart q j refl
   halts_view s k (Halting.halts_leaf y z q r) = view_leaf q r
 
--- what both readers have: the view of a line, and that they come to a line after the end of that of properties
+-- the common facts of both readers: the view of a line, and that they reach the line after properties that end their
+-- line
 pub record Reads (t : List ℕ) (e : ℕ) (R : Reader) (Q : Option ParsedNode → Type 0) : Type 0 where
   pub something : Q None → ⊥
   pub inline : {p : ℕ} {n : ℤ} {c : Ctx} {cols : Columns} {a : Ahead} {o : Option ParsedNode} → NoSignAt t p → NotKey t e n p → R (Inline n c cols a p) o → InlineView t R n c a p o
@@ -124,7 +125,7 @@ module _ {t : List ℕ} {Q : Option ParsedNode → Type 0} (some : Q None → �
     below = λ d w b r f. halts_below f (halts_below_comes d w b r);
   }
 
--- what is ahead of what follows the first properties, or the second
+-- the `Ahead` of the content after the first properties, or after the second
 pub joins_first : {a : Ahead} {q : PropertiesValue} {p g : ℕ} {z : Ahead} → Unheld a → Joins a q p g z → z ≡ Props (held q p g)
 joins_first n (first_held f) = refl
 joins_first n (more_held e c) = absurd (differ n e) where

@@ -1,4 +1,5 @@
--- A flow node without properties is reached as a leaf: the last halt there is as late as each place after it at which all may end.
+-- The reader reaches a flow node without properties as a leaf: its last halt is no sooner than each offset after the
+-- node at which all nodes may end.
 use Rattle.std.proofs.Common.{◌≡◌, ℕ, ℤ, pos, ◌+ℤ◌, ◌<◌, ◌≤◌, Bool, true, false, inl, inr, ⊎_elim, List, Option, refl, sym, ap, ◌∙◌, subst, arith, true≢false}
 use Rattle.std.proofs.lemmas.Bool.{cases_lt}
 use Rattle.std.specs.Str.{IsUtf8}
@@ -22,7 +23,7 @@ use Rattle.yf_grammar.proofs.Ends.NodeExits.{alias_begins, alias_no_plain, plain
 use Rattle.yf_grammar.proofs.BlockOutcomes.OutcomeEnds.{with_plain_is}
 use Rattle.yf_grammar.proofs.FlowStack.AwaitEntries.{found_is}
 
--- what is found later reaches it, and so does what is found there with that meaning
+-- a node that is found later reaches the offset, and so does a node found there with that meaning
 pub reached_by : {o : Option ParsedNode} {k h j : ℕ} {y x : Meaning} → IsFound o k h y → j ≤ k → (k ≡ j → x ≡ y) → Longest o j x
 reached_by {o} {k} {h} {j} {y} {x} f l e = longest_of (record { end = k; height = h; json = false; meaning = y }) (f.is ∙ found_is k h false y)
     (⊎_elim (λ (m : j < k). inl m) (λ (m : k ≤ j). let same : j ≡ k = omega arith in inr (same, e (sym same))) (cases_lt j k))

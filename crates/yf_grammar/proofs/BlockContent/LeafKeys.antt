@@ -1,4 +1,4 @@
--- What the line ends after is no key: properties, and a flow node.
+-- Properties and flow nodes at the end of a line are no keys.
 use Rattle.std.proofs.Common.{◌≡◌, ℕ, ◌<◌, ◌≤◌, ℤ, pos, ◌+ℤ◌, Bool, true, false, ⊎_elim, List, Some, None, refl, sym, ap, ◌∙◌, subst, arith, true≢false}
 use Rattle.std.proofs.lemmas.Bool.{cases_lt}
 use Rattle.std.proofs.lemmas.Bool.Decides.{nat_tests}
@@ -57,7 +57,7 @@ unfolding propertied
 propertied_end p cs i g f e = cc
 
 module _ {t : List ℕ} (u : IsUtf8 t) where
-  -- what was found before a `:` is derived as a key
+  -- a node found before a `:` is derived as a key
   key_line : {p z : ℕ} {v : ParsedNode} → KeyBefore t p v z → AllOnLine t p z
   key_line {z = z} b = record { line = b.line; goes_on = within_from_code t z (omega (arith, b.colon.sign_is_at)) }
 
@@ -80,7 +80,7 @@ module _ {t : List ℕ} (u : IsUtf8 t) where
       → KeyBefore t p v z → v.end ≡ l → ⊥
   ends_there {z = z} d e b q = no_line_end_before u (node_next u d) (subst (λ w. Many t is_white w z b.whites) q b.run) (colon_visible u b.colon) e
 
-  -- a longer plain scalar goes on on another line
+  -- a longer plain scalar continues on another line
   tail_breaks : {k p l z : ℕ} {n : ℤ} {v : ParsedNode} → Tail t n FlowOut k l → p ≤ k → KeyBefore t p v z → l ≤ v.end → ⊥
   tail_breaks a q b m =
       let f = a.end in
@@ -105,7 +105,7 @@ module _ {t : List ℕ} (u : IsUtf8 t) where
   json_end {l = l} {h = h} {x = x} d n (reaches e) = some_end l h true x e
   json_end {l = l} d n (passes f e m q) = absurd (quote_no_end (code t l) q (line_end_stop n d))
 
-  -- what is found after properties before a plain scalar is that scalar, or a longer one
+  -- a node found after properties before a plain scalar is that scalar, or a longer one
   past_plain : {e p g k l j z : ℕ} {n : ℤ} {q : PropertiesValue} {cs ds : List CommentValue} {x : List ℕ} {v : ParsedNode} → Separate t n FlowOut g k cs → Visible t k → begins_content (code t k) ≡ false
       → Plain t n FlowOut k l x → LineEnd t l j ds → KeyBefore t p v z → p ≤ k → (v.end ≡ l → ⊥) → PastProperties t e n FlowOut p g q (Some v) → ⊥
   past_plain {k = k} s w b a d y m f (past_to_content h cs v' c i r e) =
@@ -149,7 +149,7 @@ module _ {t : List ℕ} (u : IsUtf8 t) where
       (complete u a n FlowOut refl same_context (clear_back (omega arith) c) e m (Some y) z)))
       r refl
 
-  -- a flow node after which the line ends is no key, and nothing longer is
+  -- if the line ends after a flow node, neither it nor a longer node is a key
   pub node_no_key : {e h p l j : ℕ} {n : ℤ} {json : Bool} {x : Meaning} {ds : List CommentValue} → Derives t h (NodeOf json (n +ℤ pos 1) FlowOut) p l x → LineEnd t l j ds → Clear t p l
       → h ≤ e → NotKey t e n p
   node_no_key d g c m = record { none = λ r b. leaf_no_key d g c m r b (λ q. ends_there d g b q) }

@@ -1,5 +1,5 @@
--- A flow node whose properties end on its line, before something else: the reader finds it from the properties of the line and from
--- what is found of the content after them.
+-- A flow node whose properties end on its line, before content: the reader finds it from the properties of the line and
+-- the content after them.
 use Rattle.std.proofs.Common.{◌≡◌, ℕ, ℤ, pos, ◌<◌, ◌≤◌, true, false, List, [], Some, None, refl, sym, subst, arith, true≢false, encode_utf8_all}
 use Rattle.std.specs.Str.{IsUtf8}
 use Rattle.yf_chars.specs.declared.context.Ctx.TheVariants.{FlowOut, FlowKey}
@@ -33,7 +33,7 @@ module _ {t : List ℕ} (u : IsUtf8 t) {p g : ℕ} {q : PropertiesValue} (line :
       let same = line_properties u a (line_ends_after e) line in
       absurd (goes_on.none l cs (subst (λ w. LineEnd t w l cs) (sym same.0) e))
 
-  -- the properties of the line are those of the node
+  -- the properties of the line are the node's
   pub node_chosen : (n : ℤ) → Chosen (Properties t n FlowOut p) g q
   node_chosen n = record {
     derived = key_properties n FlowOut refl line.derived;
@@ -52,7 +52,7 @@ module _ {t : List ℕ} (u : IsUtf8 t) {p g : ℕ} {q : PropertiesValue} (line :
   node_far m f (in_key e s) = absurd (true≢false (sym e))
   node_far m f (in_node e s) = lines_far m f s
 
-  -- white space after them are the separation
+  -- white space after them is the separation
   pub gap_chosen : {k : ℕ} {w : List ℕ} (n : ℤ) → Many t is_white g k w → g < k → is_white (code t k) ≡ false → Chosen (Separate t n FlowOut g) k []
   gap_chosen n m l f = record {
     derived = in_node refl (in_line (by_whites m l));
@@ -69,7 +69,7 @@ module _ {t : List ℕ} (u : IsUtf8 t) {p g : ℕ} {q : PropertiesValue} (line :
   node_nowhere f (in_node e (in_line s)) = line_nowhere f s
   node_nowhere f (in_node e (over_lines {h = h} {x = x} d v)) = goes_on.none h x d
 
-  -- where neither white nor the line's end is after them, they are alone
+  -- if neither white space nor the line's end follows them, the node is only the properties
   pub line_alone : {e : ℕ} {n : ℤ} → is_white (code t g) ≡ false → Parses t e (ANode n FlowOut p) (lone_properties q p g)
   line_alone {n = n} f = properties_end (node_chosen n) (record { none = λ j x s. node_nowhere f s })
 

@@ -1,5 +1,5 @@
--- The longest part of a line's end, with comment lines, at which all may end: all of it, or, where all may not end after it, all but
--- its last line; a line's end of one line has no such part.
+-- The longest part of a line's end, with comment lines, at which all nodes may end: all of it, or all but its last line
+-- if they may not end after it. A line's end of one line has no shorter part.
 use Rattle.std.proofs.Common.{◌≡◌, ◌≢◌, ℕ, ◌+◌, ◌<◌, ◌≤◌, true, ⊎_elim, List, [], ◌++◌, length, refl, sym, ap, ◌∙◌, subst, arith, true≢false, append-nil}
 use Rattle.std.proofs.lemmas.Bool.{cases_lt, cases_eq}
 use Rattle.std.proofs.lemmas.Bool.Decides.{nat_tests}
@@ -67,7 +67,7 @@ module _ {t : List ℕ} (u : IsUtf8 t) where
   break_inside {g} b = ⊎_elim (λ (l : g < length t). l)
       (λ (l : length t ≤ g). let c = code-past t g l in ⊎_elim (λ (e : code t g ≡ 13). absurd (omega arith)) (λ (e : code t g ≡ 10). absurd (omega arith)) (break_char b)) (cases_lt g (length t))
 
-  -- a break in a row is its end
+  -- a break in a row ends it
   end_last : {e k g h : ℕ} → BreakOrEnd t e k → e ≤ g → Break t g h → k ≤ h
   end_last {e} {k} {g} {h} (by_break b) l d = ⊎_elim
       (λ (q : e ≡ g). let s = break_unique (subst (λ w. Break t w k) q b) d in omega arith)
@@ -83,7 +83,7 @@ module _ {t : List ℕ} (u : IsUtf8 t) where
       (λ (q : e.at ≤ g). end_last e.ends q d)
       (cases_lt g e.at)
 
--- rows by the last one
+-- rows, split before the last one
 data LastRow (t : List ℕ) (i k : ℕ) (x : List CommentValue) : Type 0 where
   no_row : i ≡ k → LastRow t i k x
   row_after : {j : ℕ} {y z : List CommentValue} → Chain (Row t) i j y → Row t j k z → LastRow t i k x
@@ -97,7 +97,7 @@ module _ {t : List ℕ} where
   last_row done = no_row refl
   last_row (step r c) = last_after done r c
 
-  -- rows up to one place mean one list of comments
+  -- rows with one end mean one list of comments
   rows_still : {i j : ℕ} {x : List CommentValue} → Chain (Row t) i j x → j ≤ i → x ≡ []
   rows_still done l = refl
   rows_still (step r c) l = let f = r.later in let g = chain_forward row_functional c in absurd (omega arith)
@@ -108,7 +108,7 @@ module _ {t : List ℕ} where
     go {x} (goes_on z d e) = e ∙ ap (λ w. x ++ w) (rows_still d (omega arith)) ∙ append-nil x
     go {y = y} (falls_short z d e) = sym (e ∙ ap (λ w. y ++ w) (rows_still d (omega arith)) ∙ append-nil y)
 
-  -- before the end of a row no other place is reached
+  -- no run of rows ends inside a row
   none_before : {j k m : ℕ} {v z : List CommentValue} → Row t j k z → Chain (Row t) j m v → m < k → m ≤ j
   none_before r done q = omega arith
   none_before r (step s c) q = let a = row_functional.one_end r s in let f = chain_forward row_functional c in absurd (omega arith)
@@ -144,11 +144,11 @@ module _ {t : List ℕ} (u : IsUtf8 t) where
     go l (by_end q) m = omega arith
 
 module _ {t : List ℕ} where
-  -- no `:` of an entry is where a comment line is
+  -- a comment line has no `:` of an entry
   row_no_colon : {j k m : ℕ} {x : List CommentValue} → Row t j k x → ColonLine t m j → ⊥
   row_no_colon {k = k} {x = x} r c = (line_still (colon_line c)).none k x r
 
-  -- a line's end where no line begins goes on
+  -- inside a line, before the end of the text, a line's end is not empty
   end_goes_on : {i m : ℕ} {x : List CommentValue} → (LineStart t i → ⊥) → LineEnd t i m x → i < length t → i < m
   end_goes_on n (past_rest r c) l = let a = rest_moves r l in let f = chain_forward row_functional (lines_rows c) in omega arith
   end_goes_on n (from_start s c) l = absurd (n s)
@@ -159,7 +159,7 @@ pub record LinesWithoutLast (t ws : List ℕ) (i j : ℕ) : Type 0 where
   pub best : Chosen (MayEnd t ws i) j comments
 
 module _ {t : List ℕ} (u : IsUtf8 t) {ws : List ℕ} {i k : ℕ} {ds : List CommentValue} (inside : LineStart t i → ⊥) (all : Chosen (LineEnd t i) k ds) (owed : NoColonAt t k ws → ⊥) where
-  -- each place at which all may end is before the whole end
+  -- each other offset at which all nodes may end is before the whole end
   shorter : {m : ℕ} {es : List CommentValue} → MayEnd t ws i m es → m < k
   shorter {m} {es} e = ⊎_elim (λ (l : m < k). l)
       (λ (l : k ≤ m). let f = all.longest m es e.line in let same : m ≡ k = omega arith in absurd (owed (subst (λ w. NoColonAt t w ws) same e.allowed)))

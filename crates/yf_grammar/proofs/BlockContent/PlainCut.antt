@@ -1,5 +1,5 @@
--- The longest part of a plain scalar at whose end all may end: the whole one, or, where all may not end after it, the scalar
--- without its last line, up to where that line begins; a scalar of one line has no such part.
+-- The longest part of a plain scalar at whose end all nodes may end: the whole scalar, or the scalar without its last
+-- line if they may not end after it. A scalar of one line has no shorter part.
 use Rattle.std.proofs.Common.{◌≡◌, ◌≢◌, ℕ, ℤ, ◌+◌, ◌-◌, ◌<◌, ◌≤◌, true, false, ◌⊎◌, inl, inr, ⊎_elim, List, [], ◌∷◌, refl, sym, ap, ◌∙◌, subst, arith, true≢false, encode_utf8_all}
 use Rattle.std.proofs.lemmas.Bool.{cases_lt}
 use Rattle.std.specs.Str.{IsUtf8}
@@ -38,7 +38,7 @@ use Rattle.yf_grammar.proofs.FlowReader.PlainEnds.{plain_later}
 use Rattle.yf_grammar.proofs.BlockContent.PlainTails.{FoldEnd, fold_end, fold_chosen, next_visible, tail_of, tail_before}
 use Rattle.yf_plain.proofs.PlainOrder.{items_forward}
 
--- the last place after a break that begins at the first offset or after it, before the other offset
+-- the last end of a break that begins at the first offset or after it, before the other offset
 pub record LastLine (t : List ℕ) (i l j : ℕ) : Type 0 where
   pub from : ℕ
   pub ends : Break t from j
@@ -69,12 +69,12 @@ module _ {t : List ℕ} where
       (λ (n : j ≤ k). omega arith) (cases_lt k j))
       (cases_lt j k)
 
--- all may end at a line that begins with no `:` of an entry
+-- all nodes may end at a line that begins with no `:` of an entry
 pub allowed_all : {t : List ℕ} {j : ℕ} → ((w : ℕ) → ColonLine t w j → ⊥) → (ws : List ℕ) → NoColonAt t j ws
 allowed_all f [] = none_open
 allowed_all f (w ∷ ws) = one_open (f w) (allowed_all f ws)
 
--- a plain scalar by its last line
+-- a plain scalar, split before its last line
 data LastOf (t : List ℕ) (n : ℤ) (c : Ctx) (i l : ℕ) : Type 0 where
   on_first_line : {x : List ℕ} → PlainLine t c i l x → LastOf t n c i l
   on_next_line : {k : ℕ} {x z : List ℕ} → PlainText t n c i k x → PlainNext t n c k l z → LastOf t n c i l
@@ -96,7 +96,7 @@ pub colon_no_white : (c : ℕ) → c ≡ 58 → is_white c ≡ false
 unfolding is_white
 colon_no_white c e = ap is_white e
 
--- from the start of the last line on no line begins
+-- no line begins from the start of the last line on
 record LastStart (t : List ℕ) (n : ℤ) (c : Ctx) (k l : ℕ) : Type 0 where
   pub place : ℕ
   pub end : FoldEnd t n k place
@@ -156,7 +156,7 @@ shown i k x ds = noting (scalar PlainStyle (encode_utf8_all x) [] i k) ds
 shown_same : {k l : ℕ} {x y : List ℕ} {ds es : List CommentValue} (i : ℕ) → k ≡ l → x ≡ y → ds ≡ es → shown i k x ds ≡ shown i l y es
 shown_same {k} {l} {x} {y} {ds} {es} i a b c = ap (λ w. shown i w x ds) a ∙ ap (λ w. shown i l w ds) b ∙ ap (shown i l y) c
 
--- the scalar without its last line, which ends at the place
+-- the scalar without its last line, which ends at `place`
 pub record WithoutLast (t : List ℕ) (n : ℤ) (ws : List ℕ) (i j : ℕ) : Type 0 where
   pub place : ℕ
   pub text : List ℕ
@@ -165,7 +165,7 @@ pub record WithoutLast (t : List ℕ) (n : ℤ) (ws : List ℕ) (i j : ℕ) : Ty
   pub best : Chosen (PlainPart t n ws i) j (noting (scalar PlainStyle (encode_utf8_all text) [] i place) [])
 
 module _ {t : List ℕ} (u : IsUtf8 t) where
-  -- on the last line there is no shorter one
+  -- no shorter scalar ends on the last line
   between : {n : ℤ} {i k h l m : ℕ} {x y z : List ℕ} {ds : List CommentValue} → Plain t n FlowOut i k x → Plain t n FlowOut i h y → Plain t n FlowOut i l z → k < h → h < l
       → LineEnd t h m ds → LastStart t n FlowOut k l → ⊥
   between {l = l} p q r a b d s =
@@ -188,7 +188,7 @@ module _ {t : List ℕ} (u : IsUtf8 t) where
       (first_quiet u d).none j (omega arith) (omega arith) (after_break a.ends)
 
 module _ {t : List ℕ} (u : IsUtf8 t) {n : ℤ} {ws : List ℕ} {i : ℕ} where
-  -- where all may end after the whole scalar
+  -- all nodes may end after the whole scalar
   whole_far : {l j k : ℕ} {y : List ℕ} {ds : List CommentValue} {z : Meaning} → Chosen (Plain t n FlowOut i) l y → Chosen (MayEnd t ws l) j ds → PlainPart t n ws i k z → k ≤ j
   whole_far {l} {k = k} d m (plain_part {l = h} {x = x} {ds = es} q r) =
       let f = d.longest h x q in
@@ -218,7 +218,7 @@ module _ {t : List ℕ} (u : IsUtf8 t) {n : ℤ} {ws : List ℕ} {i : ℕ} where
     only = λ z p. whole_only d m p refl;
   }
 
-  -- where all may end nowhere after the whole scalar, of several lines
+  -- they may end nowhere after the whole scalar, which has several lines
   cut_far : {k l m : ℕ} {x y : List ℕ} {z : Meaning} → Plain t n FlowOut i k x → Chosen (Plain t n FlowOut i) l y → Stuck (MayEnd t ws l) → (s : LastStart t n FlowOut k l)
       → PlainPart t n ws i m z → (m < s.end.line) ⊎ ((m ≡ s.end.line) × (z ≡ noting (scalar PlainStyle (encode_utf8_all x) [] i k) []))
   cut_far {k} {l} {m} {x} p d stuck s (plain_part {l = h} {x = y} {ds = ds} q r) = ⊎_elim
@@ -275,7 +275,7 @@ module _ {t : List ℕ} (u : IsUtf8 t) {n : ℤ} {ws : List ℕ} {i : ℕ} where
         let m = plain_later p in
         subst (λ w. WithoutLast t n ws i w) (last_line_one (last_line u s (omega arith)) a) (made p s)
 
-  -- of one line
+  -- a scalar of one line
   pub plain_one_line : {l : ℕ} {y : List ℕ} → Chosen (Plain t n FlowOut i) l y → Stuck (MayEnd t ws l) → ((j : ℕ) → LastLine t i l j → ⊥) → Stuck (PlainPart t n ws i)
   plain_one_line {l} {y} d stuck none = go (last_of d.derived.text) where
     no_part : {j : ℕ} {x : List ℕ} {z : Meaning} → PlainLine t FlowOut i l x → PlainPart t n ws i j z → ⊥
@@ -301,7 +301,7 @@ module _ {t : List ℕ} (u : IsUtf8 t) {n : ℤ} {ws : List ℕ} {i : ℕ} where
         let m = plain_later p in
         absurd (none s.end.line (last_line u s (omega arith)))
 
-  -- where no plain scalar is derived, no part is one
+  -- if no plain scalar is derived, no part is one
   pub no_plain_part : Stuck (Plain t n FlowOut i) → Stuck (PlainPart t n ws i)
   no_plain_part s = record { none = λ j z p. go p } where
     go : {j : ℕ} {z : Meaning} → PlainPart t n ws i j z → ⊥

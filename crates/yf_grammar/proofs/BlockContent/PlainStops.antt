@@ -1,4 +1,4 @@
--- A plain scalar after which the line ends, before a line that is not deep enough, is the longest one.
+-- A plain scalar at the end of a line, before a line that is not deep enough, is the longest one.
 use Rattle.std.proofs.Common.{◌≡◌, ℕ, ℤ, pos, ◌<◌, ◌≤◌, ◌≤ℤ◌, ⊎_elim, List, [], refl, sym, subst, arith}
 use Rattle.std.proofs.lemmas.Bool.{cases_lt}
 use Rattle.std.specs.Str.{IsUtf8}

@@ -1,5 +1,5 @@
--- Where a plain scalar may end before its end: after a line that others follow. There the line ends, and the line after is a
--- place at which a node may end.
+-- A plain scalar may end before its end after any line but its last. The line ends there, and a node may end at the
+-- start of the next line.
 use Rattle.std.proofs.Common.{◌≡◌, ℕ, ℤ, ◌<◌, ◌≤◌, true, ⊎_elim, List, [], sym, ◌∙◌, subst, arith, true≢false}
 use Rattle.std.proofs.lemmas.Bool.{cases_lt}
 use Rattle.std.specs.Str.{IsUtf8}
@@ -39,7 +39,7 @@ use Rattle.yf_grammar.proofs.Ends.Forward.{whites_forward, in_line_forward}
 use Rattle.yf_grammar.proofs.Ends.GapLemmas.{Visible, visible_solid}
 use Rattle.yf_grammar.proofs.FlowReader.PlainEnds.{plain_after}
 
--- the end of the line at which a fold begins, up to the line to which it leads, and the white space of that line
+-- the end of the line at which a fold begins, up to the line after the fold, and the white space of that line
 pub record FoldEnd (t : List ℕ) (n : ℤ) (i h : ℕ) : Type 0 where
   pub line : ℕ
   pub from : ℕ
@@ -90,11 +90,11 @@ module _ {t : List ℕ} where
       record { line = l; from = r.2.0; ends = r.2.1; first = omega arith; end = past_rest (whites s (by_break r.1)) r.2.3; prefix = p; blank = w.0; whites = w.1 }
 
 module _ {t : List ℕ} (u : IsUtf8 t) where
-  -- the first character of a next line is no beginning of a comment
+  -- the first character of a continuation line does not begin a comment
   pub next_visible : {n : ℤ} (c : Ctx) {i h : ℕ} {x : List ℕ} → FoldsTo t n i h x → is_plain_char t c h ≡ true → Visible t h
   next_visible c {h = h} f e = record { ns = plain_is_ns t c h e; no_hash = λ q. true≢false (sym e ∙ plain_hash t c h q ∙ fold_before u f) }
 
-  -- so the end of the line goes up to that line, and no further
+  -- so the end of the line reaches that line, and no further one
   pub fold_chosen : {n : ℤ} {i h : ℕ} (f : FoldEnd t n i h) → Visible t h → Chosen (LineEnd t i) f.line []
   fold_chosen f v = let s = visible_solid v in line_end_chosen f.end (row_stuck (stuck_at_solid f.whites s.not_white s.no_comment s.no_end))
 
@@ -115,7 +115,7 @@ module _ {t : List ℕ} (u : IsUtf8 t) where
       no_end_there u b (subst (λ m. is_ns_char (code t m) ≡ true) same (plain_is_ns t c h e)) d)
       (cases_lt k h)
 
--- a shorter scalar, after which the line ends, goes on with a next line
+-- a shorter scalar before the end of a line continues on the next line
 pub record Tail (t : List ℕ) (n : ℤ) (c : Ctx) (k l : ℕ) : Type 0 where
   pub place : ℕ
   pub text : List ℕ

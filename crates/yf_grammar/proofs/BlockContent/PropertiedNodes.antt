@@ -1,4 +1,4 @@
--- Block scalars and block collections with properties: what the reader finds of each, and what it reaches.
+-- Block scalars and block collections with properties: the reader's outcomes for them, and how far it reaches.
 use Rattle.std.proofs.Common.{◌≡◌, ℕ, suc, ◌+◌, ◌<◌, ◌≤◌, ℤ, pos, ◌+ℤ◌, ◌≤ℤ◌, Bool, true, false, List, ◌++◌, Option, Some, refl, sym, ap, ◌∙◌, subst, arith, append_assoc, true≢false}
 use Rattle.std.specs.Str.{IsUtf8}
 use Rattle.yf_chars.specs.declared.context.Ctx.{Ctx}
@@ -54,12 +54,12 @@ pub three_after : (cs ps ds : List CommentValue) (x : Meaning) → meaning_after
 three_after cs ps ds x = after_after cs (ps ++ ds) x ∙ ap (λ w. meaning_after w x) (sym (append_assoc cs ps ds))
 
 module _ {t : List ℕ} where
-  -- a separation outside of keys, whatever the context
+  -- a separation outside of keys, in each context
   pub any_context : {n : ℤ} {i j : ℕ} {x : List CommentValue} (c d : Ctx) → is_key c ≡ false → is_key d ≡ false → Separate t n c i j x → Separate t n d i j x
   any_context c d e f s = in_node f (in_lines c e s)
 
 module _ {t : List ℕ} (u : IsUtf8 t) where
-  -- where the sign of a block scalar is
+  -- at the sign of a block scalar
   bar_facts : {k : ℕ} → is_bar_sign (code t k) ≡ true → (begins_properties (code t k) ≡ false) × (begins_content (code t k) ≡ false) × NoSignAt t k
   bar_facts {k} b = (
     not_true (begins_properties (code t k)) (sign_begins (code t k) b).1,
@@ -74,7 +74,7 @@ module _ {t : List ℕ} (u : IsUtf8 t) where
   bar_no_key : {e k : ℕ} {n : ℤ} → is_bar_sign (code t k) ≡ true → NotKey t e n k
   bar_no_key b = record { none = λ r q. none_some (sym (no_flow_node b r)) }
 
-  -- properties before it are all that a flow node there has
+  -- a flow node there has only the properties before it
   only_properties : {e h g k : ℕ} {n : ℤ} {q : PropertiesValue} {ds : List CommentValue} {v : ParsedNode} → is_bar_sign (code t k) ≡ true → Visible t k → Separate t n FlowOut g k ds
       → PastProperties t e n FlowOut h g q (Some v) → v.end ≡ g
   only_properties {k = k} b w s (past_to_content m cs f c i r x) =
@@ -144,7 +144,7 @@ module _ {t : List ℕ} (u : IsUtf8 t) where
       (λ cols y' v' r' w'. to_leaf u (halts_reads (λ i. longest_some i refl) ws) c key q v (scalar_visible d) facts.0 facts.2 (bar_no_key bar) (λ h q' m' d'. propertied_bar_no_key key bar (scalar_visible d) v d') v'
       (clear_back x1 z) x4 w' (λ h i r'' l'. longest_moved (i.is x ∙ sym (headed_unheld body v')) (longest_found (scalar_leaf_halts u d allowed l')))) r)
 
--- what is told after properties that are held
+-- the outcome after properties that are held
 told_held : (p : PropertiesValue) (f g : ℕ) (ds : List CommentValue) {j h : ℕ} (x : Meaning) {o : Option ParsedNode} → OutcomeAfter (Props (held p f g)) ds j h (headed (past (Props (held p f g)) ds) x) o
     → IsFound o j h (meaning_after (p.comments ++ ds) (with_props p.props p.tag_offset f g x))
 told_held p f g ds {j} {h} x {o} w =

@@ -1,5 +1,5 @@
--- Properties of a block node: all on one line, or one on a line and the other on a later one. Those of one line are what the
--- reader takes of it.
+-- Properties of a block node: all on one line, or one on a line and the other on a later one. The reader takes all
+-- properties of a line.
 use Rattle.std.proofs.Common.{◌≡◌, ℕ, ℤ, pos, false, List, refl, sym, ap, ◌∙◌, append-nil, true≢false}
 use Rattle.std.specs.Str.{IsUtf8}
 use Rattle.yf_chars.specs.declared.context.Ctx.{Ctx}
@@ -22,16 +22,16 @@ use Rattle.yf_grammar.proofs.BlockOutcomes.NodesAfter.{properties_after}
 use Rattle.yf_grammar.proofs.BlockOutcomes.BlockFirst.{no_line_end_before, end_separates, key_in_line}
 use Rattle.yf_grammar.proofs.FlowReader.PropertiesEnds.{properties_before, properties_before_line}
 
--- properties as they are held until it is known whose they are
+-- properties that are held until their node is known
 abbrev pub held : PropertiesValue → ℕ → ℕ → PropertiesHeld
 held p f g = record { value = p; start = f; end = g }
 
--- properties of one line and of a later one are those of both
+-- the properties of one line and those of a later one, joined
 pub record Merges (q r p : PropertiesValue) (cs : List CommentValue) (f g h : ℕ) : Type 0 where
   pub same : both (with_comments (held q f g) cs) r h ≡ Props (held p f h)
   pub apart : Clash (with_comments (held q f g) cs) r → ⊥
 
--- what is after properties: the end of their line, or content
+-- the end of a line, or content, after properties
 pub data AfterProperties (t : List ℕ) (g : ℕ) : Type 0 where
   line_ends_after : {l : ℕ} {ds : List CommentValue} → LineEnd t g l ds → AfterProperties t g
   content_after : {m : ℕ} → SeparateInLine t g m → Visible t m → begins_properties (code t m) ≡ false → AfterProperties t g

@@ -1,4 +1,4 @@
--- How the reader of block nodes passes properties, on one line or over two, to the end of their line or to a leaf.
+-- The reader of block nodes passes properties, on one line or over two, to the end of their line or to a leaf.
 use Rattle.std.proofs.Common.{◌≡◌, ℕ, ◌<◌, ◌≤◌, ℤ, pos, ◌+ℤ◌, true, false, List, [], ◌++◌, Option, refl, sym, ap, ◌∙◌, subst, arith, true≢false, append-nil}
 use Rattle.std.proofs.lemmas.Bool.Decides.{nat_tests}
 use Rattle.std.specs.Str.{IsUtf8}

@@ -1,6 +1,6 @@
--- What the laws of the reader of block nodes say of each production. Two claims are proved by one induction each: what is
--- derived, and followed by what can follow it in a node that is whole, is exactly what the reader finds (`Exact`); and
--- wherever a derived node may end, the reader's last halt is there or later (`HaltsReach`).
+-- The laws of the reader of block nodes, for each production. An induction proves each of two claims: a derived part,
+-- before something that can follow it in a whole node, is exactly the reader's outcome (`Exact`); and wherever a
+-- derived node may end, the reader's last halt is there or later (`HaltsReach`).
 use Rattle.std.proofs.Common.{◌≡◌, ◌≢◌, ℕ, suc, ◌+◌, ◌<◌, ◌≤◌, ℤ, pos, ◌+ℤ◌, ◌≤ℤ◌, Bool, true, false, ⊎_elim, List, [], ◌++◌, Option, refl, sym, ap, ◌∙◌, subst, arith, true≢false}
 use Rattle.std.proofs.lemmas.Bool.{cases_lt}
 use Rattle.std.proofs.lemmas.Int.{ints}
@@ -32,24 +32,24 @@ use Rattle.yf_grammar.proofs.Ends.GapLemmas.{Visible, visible_solid}
 use Rattle.yf_grammar.proofs.FlowReader.Longest.{Longest}
 use Rattle.yf_chars.proofs.CharFacts.{colon_ns, mark_no_ns}
 
--- what is after a node in the indentation n that is found whole: no comment line that it could take is left, and no line of
--- it; the flag says that it ends with a block scalar, which takes none
+-- the text after a whole node in the indentation n: the node could take no further comment line and no further line;
+-- the flag says that the node ends with a block scalar, which takes no comment lines
 pub record Follow (t : List ℕ) (v : Bool) (n : ℤ) (c : Ctx) (j : ℕ) : Type 0 where
   pub still : v ≡ false → Stuck (Row t j)
   pub shallow : (m p : ℕ) → LineText t j m p → (n +ℤ pos 1) ≤ℤ pos m → ⊥
   pub no_dash : (m p : ℕ) → LineText t j m p → DashAt t p → p ≡ j + m → least_column true n c ≤ℤ pos m → ⊥
 
--- the same for the entries of a collection
+-- the text after the entries of a collection
 pub record FollowItems (t : List ℕ) (v s : Bool) (m j : ℕ) : Type 0 where
   pub still : v ≡ false → Stuck (Row t j)
   pub no_entry : NoEntry t s m j
 
--- the context of what is in an entry
+-- the context of an entry's node
 abbrev pub entry_context : Bool → Ctx
 entry_context true = BlockIn
 entry_context false = BlockOut
 
--- what is ahead is nothing or an indicator
+-- the `Ahead` is nothing or an indicator
 pub data Unheld : Ahead → Type 0 where
   nothing_ahead : Unheld Nothing
   indicator_ahead : {i : ℕ} → Unheld (Indicator i)
@@ -58,15 +58,15 @@ pub data Unheld : Ahead → Type 0 where
 pub record IsFound (o : Option ParsedNode) (j h : ℕ) (x : Meaning) : Type 0 where
   pub is : o ≡ found j h false x
 
--- each outcome is what is derived
+-- each outcome is the derived part
 abbrev pub Exact : List ℕ → ℕ → BlockTask → ℕ → ℕ → Meaning → Type 0
 Exact t e task j h x = (o : Option ParsedNode) → Whole t e task o → IsFound o j h x
 
--- where the task may end at j, its last halt is there or later
+-- if the task may end at j, its last halt is there or later
 abbrev pub HaltsReach : List ℕ → ℕ → BlockTask → ℕ → Meaning → Type 0
 HaltsReach t e task j x = (ws : List ℕ) → NoColonAt t j ws → (o : Option ParsedNode) → Halts t e ws task o → Longest o j x
 
--- what is claimed of a node, and of the entries of a collection
+-- the claims for a node, and for the entries of a collection
 abbrev pub NodeExact : List ℕ → Bool → ℕ → ℤ → Ctx → ℕ → ℕ → Meaning → Type 0
 NodeExact t v h n c i j x = (e : ℕ) → h ≤ e → Clear t i j → Follow t v n c j → (b : Bool) (a : Ahead) → Unheld a → Exact t e (Awaited b n c a i) j h x
 
@@ -79,7 +79,7 @@ NodeHaltsReach t h n c i j x = (e : ℕ) → h ≤ e → Clear t i j → (b : Bo
 abbrev pub EntryHaltsReach : List ℕ → ℕ → Bool → ℕ → ℕ → ℕ → Meaning → Type 0
 EntryHaltsReach t h s m i j x = (e : ℕ) → h ≤ e → Clear t i j → (q : Origin) → HaltsReach t e (Items s m q i) j x
 
--- the nodes that are no bare collection are found: flow nodes, block scalars, and what has properties
+-- the reader finds each node that is no bare collection: flow nodes, block scalars, and nodes with properties
 pub record LineReading (t : List ℕ) : Type 0 where
   pub flow : {h i k l j : ℕ} {n : ℤ} {c : Ctx} {cs ds : List CommentValue} {x : Meaning} → is_block c ≡ true
       → Separate t (n +ℤ pos 1) FlowOut i k cs → Derives t h (FlowNode (n +ℤ pos 1) FlowOut) k l x → LineEnd t l j ds
@@ -134,11 +134,11 @@ deeper_column true n BlockKey m l = l
 deeper_column true n FlowKey m l = l
 
 module _ {t : List ℕ} where
-  -- all up to the first character of a line is white
+  -- only white space is before the first character of a line
   pub line_whites : {k m p : ℕ} → LineText t k m p → (w : List ℕ) × Many t is_white k p w
   line_whites {k} {m} l = let s = spaces_whites t k m l.spaces in (s.0 ++ l.whites, chain_append s.1 l.run)
 
-  -- no comment line begins where a line begins that has a character of content
+  -- no comment line begins at the start of a line that has content
   pub line_still : {k m p : ℕ} → LineText t k m p → Stuck (Row t k)
   line_still l = row_stuck (stuck_at_solid (line_whites l).1 l.content.no_white l.content.no_hash (record { none = λ j e. l.content.no_end j e }))
 
@@ -170,7 +170,7 @@ module _ {t : List ℕ} where
   pub visible_content : {i : ℕ} → Visible t i → Content t i
   visible_content v = let s = visible_solid v in record { no_white = s.not_white; no_hash = s.no_comment; no_end = λ j e. s.no_end.none j e }
 
-  -- a line whose first character is after spaces alone
+  -- a line with only spaces before its first character
   pub line_from : {k m : ℕ} → Spaces t k m → Visible t (k + m) → (ForbiddenLine t k → ⊥) → LineText t k m (k + m)
   line_from {k} {m} s v f = record {
     goes_on = ended;
@@ -196,7 +196,7 @@ module _ {t : List ℕ} where
         (λ (l : m ≤ 0). let y : k + m ≡ k = omega arith in let w = ap (code t) y in let v = c.colon in b (omega arith))
         (cases_lt 0 m)
 
-  -- where an entry or what is in it is followed
+  -- the text after an entry or its node
   pub follow_last : {v s : Bool} {m j : ℕ} → FollowItems t v s m j → Follow t v (pos m) (entry_context s) j
   follow_last {v} {s} {m} {j} f = record { still = f.still; shallow = λ l p w q. deeper l p w q; no_dash = dashed s f } where
     deeper : (l p : ℕ) → LineText t j l p → (pos m +ℤ pos 1) ≤ℤ pos l → ⊥
@@ -209,7 +209,7 @@ module _ {t : List ℕ} where
         let y : l ≡ m = omega (arith, ints) in
         g.no_entry.no_next (next_pair (subst (λ v. LineText t j v p) y w))
 
-  -- entries end where the node of their collection does
+  -- entries end with the node of their collection
   pub follow_inside : {v : Bool} {n : ℤ} {c : Ctx} {j : ℕ} (s : Bool) (m : ℕ) → least_column s n c ≤ℤ pos m → Follow t v n c j → FollowItems t v s m j
   follow_inside {v} {n} {c} {j} s m q f = record { still = f.still; no_entry = record { no_next = none s q; not_deeper = λ l p w. above l p w } } where
     none : (r : Bool) → least_column r n c ≤ℤ pos m → NextEntry t r m j → ⊥
@@ -223,7 +223,7 @@ module _ {t : List ℕ} where
         (λ (y : m < l). let z = least_above s n c m q in absurd (f.shallow l p w (omega (arith, ints))))
         (λ (y : l ≤ m). y) (cases_lt m l)
 
-  -- compact entries are deeper than the node that they are
+  -- compact entries are deeper than the indentation of their node
   pub follow_compact : {v : Bool} {c : Ctx} {j : ℕ} (s : Bool) (m l : ℕ) → Follow t v (pos m) c j → FollowItems t v s (m + 1 + l) j
   follow_compact {c = c} s m l f = follow_inside s (m + 1 + l) (deeper_column s (pos m) c (m + 1 + l) (omega (arith, ints))) f
 

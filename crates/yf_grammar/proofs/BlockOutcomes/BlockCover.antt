@@ -1,5 +1,5 @@
--- What is derived is found: a block production, before what can follow it in a node that is whole, is exactly what the reader
--- finds at its place.
+-- The reader finds derived parts: a block production, before something that can follow it in a whole node, is exactly
+-- the reader's outcome at its offset.
 use Rattle.std.proofs.Common.{◌≡◌, ℕ, ◌+◌, ◌<◌, ◌≤◌, pos, Bool, true, false, List, refl, arith, true≢false}
 use Rattle.std.specs.Str.{IsUtf8}
 use Rattle.yf_chars.specs.declared.context.Ctx.TheVariants.{BlockOut}

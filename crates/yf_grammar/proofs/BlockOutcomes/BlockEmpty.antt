@@ -1,4 +1,4 @@
--- Nothing but what is ahead: an empty node, or properties alone.
+-- Nothing after the `Ahead`: an empty node, or only properties.
 use Rattle.std.proofs.Common.{◌≡◌, ℕ, ◌<◌, ◌≤◌, ℤ, Bool, false, inl, inr, ⊎_elim, List, Option, Some, refl, sym, ap, ◌∙◌, subst, arith}
 use Rattle.std.proofs.lemmas.Bool.{cases_lt}
 use Rattle.yf_chars.specs.declared.context.Ctx.{Ctx}
@@ -23,7 +23,7 @@ use Rattle.yf_grammar.proofs.BlockOutcomes.BlockNodes.{line_end_moves}
 use Rattle.yf_grammar.proofs.BlockOutcomes.OutcomeEnds.{alone_indicator}
 use Rattle.yf_grammar.proofs.FlowStack.AwaitEntries.{found_is}
 
--- each end of a line after what is ahead is what it may end at
+-- a task with only its `Ahead` may end at each end of a line, and means y
 pub record MayBeAlone (a : Ahead) (y : List CommentValue → Meaning) : Type 0 where
   pub answer : ℕ → List CommentValue → ParsedNode
   pub is : (k : ℕ) (ds : List CommentValue) → alone a k ds ≡ Some (answer k ds)
@@ -50,7 +50,7 @@ module _ {t : List ℕ} where
   nothing_begins s d f w (line_first e) = line_end_moves s d w e
   nothing_begins {m = m} {p = p} s d f w (line_dashed y e l) = f.no_dash m p w y e l
 
-  -- where nothing of a node follows, what is ahead is alone
+  -- if nothing of a node follows, the task has only its `Ahead`
   pub alone_exact : {e i j : ℕ} {n : ℤ} {c : Ctx} {a : Ahead} {cs : List CommentValue} {o : Option ParsedNode} → (LineStart t i → ⊥) → LineEnd t i j cs → Follow t false n c j
       → Whole t e (Below n c a i) o → o ≡ alone a j cs
   alone_exact {j = j} {a = a} {cs = cs} s d f (below_alone {k = k} {ds = ds} q r) =

@@ -1,4 +1,4 @@
--- Each block production ends where a line begins, or at the end of the text: after it a line's end has been taken.
+-- Each block production takes a line's end last, so it ends at the start of a line or at the end of the text.
 use Rattle.std.proofs.Common.{◌≡◌, ℕ, ℤ, ◌⊎◌, inl, inr, List, length, Bool}
 use Rattle.yf_chars.specs.Chain.{Chain}
 use Rattle.yf_chars.specs.Chain.Chain.{done, step}

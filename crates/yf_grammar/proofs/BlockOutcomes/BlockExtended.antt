@@ -12,7 +12,7 @@ use Rattle.yf_grammar.specs.Productions.Grammar.{Production, FlowNode, NodeOf, J
 use Rattle.yf_grammar.specs.Productions.Grammar.Derives.{flow_node, an_alias, a_plain, a_plain_with, properties_alone, a_json, a_json_with, a_single, a_double, an_empty_collection, a_collection, last_entry, last_entry_with_comma, more_entries, a_node_entry, a_pair_entry, an_explicit_entry, an_implicit_entry, an_explicit_pair, a_keyed_pair, an_unkeyed_pair, explicit_with, explicit_without, key_alone, key_and_value, value_alone, empty_value, a_value, a_key, a_block_scalar, a_block_scalar_with, a_block_collection, a_block_collection_with, flow_in_block, a_last_entry, an_entry_before, a_dash_entry, an_explicit_entry_with, an_explicit_key_alone, a_keyed_entry, an_unkeyed_entry, a_block_value, an_empty_block_value, a_compact_collection, an_indented_node, nothing_indented}
 use Rattle.yf_grammar.proofs.FlowReader.ParserLemmas.{moved}
 
--- whether it ends with a block scalar; of flow productions this is not asked
+-- whether it ends with a block scalar; false for flow productions
 unfoldable pub by_scalar : {t : List ℕ} {h i j : ℕ} {p : Production} {x : Meaning} → Derives t h p i j x → Bool
 by_scalar (flow_node _) = false
 by_scalar (an_alias _ _) = false
@@ -61,7 +61,7 @@ by_scalar (a_compact_collection b s d) = by_scalar d
 by_scalar (an_indented_node d) = by_scalar d
 by_scalar (nothing_indented b g) = false
 
--- comments noted after a part are noted after what is made of it
+-- comments noted after a part are noted after anything made of it
 after_noting : (cs ds es : List CommentValue) (x : Meaning) → meaning_after cs (noting x (ds ++ es)) ≡ noting (meaning_after cs (noting x ds)) es
 unfolding meaning_after noting
 after_noting cs ds es x = ap (λ w. record x { comments = w }) (simp append_assoc)
@@ -97,7 +97,7 @@ empty_noting : (n : ℕ) (cs es : List CommentValue) → noting (empty_node n) (
 unfolding noting
 empty_noting n cs es = ap (λ w. record (empty_node n) { comments = w }) (sym (append_assoc (empty_node n).comments cs es))
 
--- so many comment lines more, and no `:` of an entry after them
+-- a number of further comment lines, and no `:` of an entry after them
 pub record MoreLines (t : List ℕ) (j k : ℕ) (es : List CommentValue) : Type 0 where
   pub rows : Chain (Row t) j k es
   pub some : j < k

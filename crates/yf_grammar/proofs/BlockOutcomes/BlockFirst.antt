@@ -1,5 +1,5 @@
--- The first entry of a block mapping: a `?`, a `:`, or a key, which the reader finds as a flow node; what no other reading of its
--- first line has.
+-- The first entry of a block mapping: a `?`, a `:`, or a key, which the reader finds as a flow node. No other reading
+-- of its first line has these.
 use Rattle.std.proofs.Common.{◌≡◌, ℕ, ℤ, pos, ◌+◌, ◌≤◌, Bool, true, false, List, Option, Some, refl, sym, ◌∙◌, subst, arith, true≢false}
 use Rattle.std.proofs.lemmas.Bool.Decides.{nat_tests}
 use Rattle.std.specs.Str.{IsUtf8}
@@ -64,14 +64,14 @@ module _ {t : List ℕ} where
   pub key_no_colon_sign : {h i k : ℕ} {json : Bool} {x : Meaning} → Derives t h (KeyOf json BlockKey) i k x → SignAt t 58 i → ⊥
   key_no_colon_sign (a_key d y z) s = node_no_colon_sign refl d s
 
-  -- where a key ends is unique
+  -- a key has one end
   key_white : {i k : ℕ} {f : ParsedNode} → KeyBefore t i f k → is_white (code t k) ≡ false
   key_white {k = k} p = ns_not_white (code t k) (stop_visible k (stop_of_colon (code t k) p.colon.sign_is_at)).ns
 
   pub key_one : {i k m : ℕ} {f : ParsedNode} → KeyBefore t i f k → KeyBefore t i f m → m ≡ k
   key_one p q = (many_unique t is_white q.run (key_white q) p.run (key_white p)).0
 
--- a key is found with what it means, and it is before its `:`
+-- the reader finds a key with its meaning, before its `:`
 pub record KeyFound (t : List ℕ) (h i k : ℕ) (x : Meaning) (o : Option ParsedNode) : Type 0 where
   pub answer : ParsedNode
   pub is : o ≡ Some answer
@@ -98,7 +98,7 @@ begins_one c e = (λ f. grind (arith, nat_tests), λ f. grind (arith, nat_tests)
 
 -- no line ends after the properties of a key
 module _ {t : List ℕ} (u : IsUtf8 t) where
-  -- where white space is before a character of content
+  -- white space is before a character of content
   pub no_line_end_before : {g m l : ℕ} {w : List ℕ} {x : List CommentValue} → ContentBefore t g → Many t is_white g m w → Visible t m → LineEnd t g l x → ⊥
   no_line_end_before b m v (past_rest {h = h} {x = x} r c) =
       let s = visible_solid v in (stuck_at_solid m s.not_white s.no_comment s.no_end).none h x r
@@ -111,7 +111,7 @@ module _ {t : List ℕ} (u : IsUtf8 t) where
   in_key_run (in_key e s) = separate_whites s
   in_key_run (in_node e s) = absurd (true≢false e)
 
-  -- the end of a line is a separation, and in a key none passes it
+  -- the end of a line is a separation, and no separation in a key passes it
   pub end_separates : {g l : ℕ} {ds : List CommentValue} → LineEnd t g l ds → Separate t (pos 0) FlowOut g (l + 0) ds
   end_separates {l = l} d = in_node refl (over_lines d (indented (exactly 0 refl (record { each = λ m k. absurd (omega arith) }))))
 
@@ -119,7 +119,7 @@ module _ {t : List ℕ} (u : IsUtf8 t) where
   key_in_line (in_key e s) = s
   key_in_line (in_node e s) = absurd (true≢false e)
 
-  -- properties before the end of a line are the longest of the line
+  -- properties before the end of a line are the longest ones of the line
   pub line_end_upto : {f g k l : ℕ} {p q : PropertiesValue} {ds : List CommentValue} → Properties t (pos 0) FlowKey f g p → LineEnd t g l ds → Properties t (pos 0) FlowKey f k q → k ≤ g
   line_end_upto p d q = properties_upto_line u p (end_separates d) (λ h y s v. no_line_end_before (properties_after u p) (separate_whites (key_in_line s)).1 v d) q
 
@@ -156,7 +156,7 @@ module _ {t : List ℕ} (u : IsUtf8 t) where
       → Chosen (Properties t (pos 0) FlowKey i) g q → LineEnd t g l ds → ⊥
   key_no_line d s c e = key_no_line_end d s c.derived e
 
--- what the first entry of a mapping begins with
+-- the beginning of the first entry of a mapping
 pub data FirstEntry (t : List ℕ) (h i j : ℕ) : Type 0 where
   question_first : SignAt t 63 i → FirstEntry t h i j
   colon_first : SignAt t 58 i → FirstEntry t h i j

@@ -1,5 +1,5 @@
--- After a separation the reader of block nodes comes to the character that is separated: on the line of an indicator, or on
--- a later one.
+-- After a separation, the reader of block nodes reaches the next character: on the line of an indicator, or on a later
+-- one.
 use Rattle.std.proofs.Common.{◌≡◌, ◌≢◌, ℕ, suc, zero, ◌+◌, ◌<◌, ◌≤◌, ℤ, pos, ◌+ℤ◌, ◌≤ℤ◌, Bool, true, false, ⊎_elim, List, [], Option, refl, sym, ap, ◌∙◌, subst, arith, true≢false}
 use Rattle.std.proofs.lemmas.Bool.{cases_lt, cases_eq}
 use Rattle.std.proofs.lemmas.Int.{ints}
@@ -47,17 +47,17 @@ unfolding past
 past_unheld ds nothing_ahead = refl
 past_unheld ds indicator_ahead = refl
 
--- what is at the line that begins at h, where a node is awaited
+-- the outcome at the line that begins at h, when a node is awaited
 pub data CameBelow (t : List ℕ) (e : ℕ) (n : ℤ) (c : Ctx) (a : Ahead) (h m k : ℕ) (cs : List CommentValue) (o : Option ParsedNode) : Type 0 where
   came_below : {cols : Columns} {r : Option ParsedNode} → LineColumns n c h m k cols → Whole t e (Inline n c cols (past a cs) k) r → o ≡ outcome_after a cs r
       → CameBelow t e n c a h m k cs o
 
--- where a node is awaited that begins at k
+-- the outcome when a node that begins at k is awaited
 pub data Came (t : List ℕ) (e : ℕ) (b : Bool) (n : ℤ) (c : Ctx) (a : Ahead) (i k : ℕ) (cs : List CommentValue) (o : Option ParsedNode) : Type 0 where
   on_the_line : {cols : Columns} → cs ≡ [] → Stuck (LineEnd t i) → Compact t b n i k cols → Whole t e (Inline n c cols a k) o → Came t e b n c a i k cs o
   on_a_line : {h m : ℕ} → Chosen (LineEnd t i) h cs → LineText t h m k → Begins t n c i h m k → CameBelow t e n c a h m k cs o → Came t e b n c a i k cs o
 
--- white space up to a place: spaces, and from the first other white on the rest
+-- white space up to an offset: spaces, and then the rest from the first tab on
 record Split (t : List ℕ) (h k : ℕ) : Type 0 where
   column : ℕ
   spaces : Spaces t h column
@@ -108,7 +108,7 @@ module _ {t : List ℕ} where
       (λ (e : code t i ≡ 32). let z = next_ascii t i (white_below (code t i) q) in split_more i e (subst (λ y. Split t y k) z (split_whites c v)))
       (λ (e : code t i ≢ 32). split_none e (step (one q) c)) (cases_eq (code t i) 32)
 
-  -- the line whose first character is at k
+  -- the line with its first character at k
   pub line_in : {h k : ℕ} {w : List ℕ} → Many t is_white h k w → Visible t k → (ForbiddenLine t h → ⊥) → (m : ℕ) × LineText t h m k
   line_in m v f = let s = split_whites m v in (
     s.column,
@@ -118,7 +118,7 @@ module _ {t : List ℕ} where
   pub spaces_within : {h l m k : ℕ} → Spaces t h l → LineText t h m k → l ≤ m
   spaces_within {h} {l} {m} s w = ⊎_elim (λ (q : m < l). absurd (w.no_space (s.each m q))) (λ (q : l ≤ m). q) (cases_lt m l)
 
-  -- a line end that goes nowhere
+  -- an empty line end
   rows_still : {i h : ℕ} {x : List CommentValue} → Chain (Row t) i h x → Stuck (Row t i) → (h ≡ i) × (x ≡ [])
   rows_still done s = (refl, refl)
   rows_still (step {h = h} {x = x} r c) s = absurd (s.none h x r)
@@ -129,7 +129,7 @@ module _ {t : List ℕ} where
   pub line_chosen : {i h m k : ℕ} {cs : List CommentValue} → LineEnd t i h cs → LineText t h m k → Chosen (LineEnd t i) h cs
   line_chosen d w = line_end_chosen d (line_still w)
 
-  -- the reader of what is awaited below comes to the line
+  -- the reader of a node on a later line reaches the line
   pub below_comes : {e i h m k : ℕ} {n : ℤ} {c : Ctx} {a : Ahead} {cs : List CommentValue} {o : Option ParsedNode} → Chosen (LineEnd t i) h cs → LineText t h m k
       → Begins t n c i h m k → Whole t e (Below n c a i) o → CameBelow t e n c a h m k cs o
   below_comes {e} {i} {h} {m} {k} {n} {c} {a} {cs} d w b (below_alone {k = z} {ds = ds} f g) =
@@ -147,7 +147,7 @@ module _ {t : List ℕ} where
       came_below y2 r2 (ap (λ q. outcome_after a q o) s.1)
   below_comes {h = h} {cs = cs} d w b (below_missed f) = absurd (f.none h cs d.derived)
 
-  -- where the line ends, what is awaited is awaited below
+  -- if the line ends, the node is awaited on a later line
   pub awaited_ends : {e i h : ℕ} {b : Bool} {n : ℤ} {c : Ctx} {a : Ahead} {cs : List CommentValue} {o : Option ParsedNode} → LineEnd t i h cs
       → Whole t e (Awaited b n c a i) o → Whole t e (Below n c a i) o
   awaited_ends d (awaited_below f r) = r
@@ -158,7 +158,7 @@ module _ {t : List ℕ} where
       → Whole t e (Awaited b n c a i) o → Came t e b n c a i k cs o
   come_below d w b r = let f = line_chosen d w in on_a_line f w b (below_comes f w b (awaited_ends d r))
 
-  -- white space alone is before the character
+  -- only white space is before the character
   come_by_whites : {e i k j : ℕ} {b : Bool} {n : ℤ} {c : Ctx} {a : Ahead} {w : List ℕ} {o : Option ParsedNode} → Many t is_white i k w → i < k → Visible t k → Clear t i j → k < j
       → Whole t e (Awaited b n c a i) o → Came t e b n c a i k [] o
   come_by_whites {e} {i} {k} {j} {b} {n} {c} {a} {w} {o} m l v z q (awaited_below {k = h} {ds = ds} f r) =
@@ -198,7 +198,7 @@ module _ {t : List ℕ} where
       let x = line_in m.1 v (λ s. z.none h y (omega arith) s) in
       come_below d x.1 (line_indented (prefix_at_least f x.1)) r
 
-  -- after a separation the reader comes to the character
+  -- after a separation the reader reaches the next character
   pub gap_reached : {e i k j : ℕ} {b : Bool} {n : ℤ} {c : Ctx} {a : Ahead} {cs : List CommentValue} {o : Option ParsedNode} (d : Ctx) → is_key d ≡ false → Separate t (n +ℤ pos 1) d i k cs
       → Visible t k → Clear t i j → k < j → Whole t e (Awaited b n c a i) o → Came t e b n c a i k cs o
   gap_reached d n (in_key e s) v z q r = absurd (true≢false (sym e ∙ n))

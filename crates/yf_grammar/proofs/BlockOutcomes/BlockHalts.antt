@@ -1,4 +1,4 @@
--- What is found whole, where all may end after it, is its own last halt.
+-- A whole node after which all nodes may end is its own last halt.
 use Rattle.std.proofs.Common.{◌≡◌, ℕ, suc, ◌+◌, ℤ, pos, ◌+ℤ◌, true, false, ⊎_elim, List, [], Option, Some, refl, sym, ap, ◌∙◌, subst, encode_utf8_all}
 use Rattle.std.proofs.lemmas.Bool.{cases_Bool}
 use Rattle.yf_chars.specs.declared.context.Ctx.{Ctx}
@@ -59,7 +59,7 @@ module _ {t : List ℕ} where
   plain_was_read {i = i} b (properties_before_broken a s p r) e = absurd (plain_no_properties (code t i) b (properties_begin a.derived))
   plain_was_read {i = i} b (properties_before_other a s p r) e = absurd (plain_no_properties (code t i) b (properties_begin a.derived))
 
-  -- the whole end of a line is the last of those at which all may end
+  -- the whole end of a line is the last one at which all nodes may end
   pub may_end_chosen : {i k : ℕ} {ws : List ℕ} {ds : List CommentValue} → Chosen (LineEnd t i) k ds → NoColonAt t k ws → Chosen (MayEnd t ws i) k ds
   may_end_chosen d a = record { derived = record { line = d.derived; allowed = a }; longest = λ j x m. d.longest j x m.line; only = λ x m. d.only x m.line }
 

@@ -1,4 +1,4 @@
--- Where a collection begins, the reader commits to it, and reads its entries with one limit less.
+-- At the start of a collection, the reader commits to it, and reads its entries with a limit smaller by one.
 use Rattle.std.proofs.Common.{◌≡◌, ℕ, suc, ◌≤◌, ℤ, pos, Bool, true, false, List, Option, Some, None, sym, ◌∙◌, subst, arith}
 use Rattle.std.specs.Str.{IsUtf8}
 use Rattle.yf_chars.specs.declared.context.Ctx.{Ctx}
@@ -27,7 +27,7 @@ pub data AtColumn (cols : Columns) (m : ℕ) : Bool → Type 0 where
   sequence_column : cols.sequence ≡ Some m → AtColumn cols m true
   mapping_column : cols.mapping ≡ Some m → AtColumn cols m false
 
--- the first entry of a collection is at the place
+-- the first entry of a collection is at the offset
 pub data Opens (t : List ℕ) (h i j : ℕ) : Bool → Type 0 where
   opens_sequence : DashAt t i → Opens t h i j true
   opens_mapping : (DashAt t i → ⊥) → FirstEntry t h i j → Opens t h i j false

@@ -14,7 +14,7 @@ use Rattle.yf_grammar.proofs.BlockOutcomes.OutcomeEnds.{items_is}
 use Rattle.yf_grammar.proofs.BlockOutcomes.HaltsLater.{halts_later}
 use Rattle.yf_grammar.proofs.BlockOutcomes.BlockHalts.{WholePlain, whole_halts}
 
--- what is found ends there
+-- the outcome ends there
 pub exact_end : {f : ParsedNode} {j h : ℕ} {x : Meaning} → IsFound (Some f) j h x → f.end ≡ j
 exact_end {j = j} {h = h} {x = x} e = ap (λ w. w.end) (some_found j h false x e.is)
 
@@ -77,7 +77,7 @@ module _ {t : List ℕ} where
       let e = (line_unique n.1 d.line).0 in
       let l = d.deep in absurd (omega arith)
 
-  -- what is at the end of an entry that was found is at j
+  -- the text after an entry that was found is at j
   none_next : (f : ParsedNode) {v s : Bool} {m j : ℕ} → f.end ≡ j → FollowItems t v s m j → NextEntry t s m f.end → ⊥
   none_next f {s = s} {m = m} e w n = w.no_entry.no_next (subst (λ v. NextEntry t s m v) e n)
 
@@ -105,7 +105,7 @@ module _ {t : List ℕ} where
   before_exact n a b (items_then {f = f} {g = g} r w z) = let p = a (Some f) r in items_same p (b (Some g) (others_at f (exact_end p) z))
   before_exact n a b (items_then_missed {f = f} r w z) = never_none (b None (others_at f (exact_end (a (Some f) r)) z))
 
-  -- an outcome that is found whole ends no sooner than what is derived
+  -- a whole outcome ends no sooner than the derived part
   pub whole_reaches : {e j : ℕ} {task : BlockTask} {x : Meaning} {f : ParsedNode} → WholePlain t → HaltsReach t e task j x → Whole t e task (Some f)
       → (j < f.end) ⊎ ((j ≡ f.end) × (x ≡ f.meaning))
   whole_reaches {f = f} p c r = longest_far f (c [] none_open (Some f) (whole_halts p r refl none_open)) refl

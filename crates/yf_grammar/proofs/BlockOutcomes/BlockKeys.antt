@@ -1,5 +1,5 @@
--- An implicit key of a block mapping is read as a flow node: what is derived in a key, before its `:`, is found in a flow node
--- outside of brackets, whatever its indentation.
+-- The reader reads an implicit key of a block mapping as a flow node: a part that is derived in a key, before its `:`,
+-- is found in a flow node outside of brackets, at any indentation.
 use Rattle.std.proofs.Common.{◌≡◌, ℕ, ℤ, ◌+◌, ◌≤◌, Bool, true, false, List, [], Option, refl, ◌∙◌, arith}
 use Rattle.std.proofs.lemmas.Bool.Decides.{nat_tests}
 use Rattle.std.specs.Str.{IsUtf8}
@@ -31,7 +31,7 @@ pub safe_out : (c : ℕ) → is_plain_safe c FlowOut ≡ is_ns_char c
 unfolding is_plain_safe
 safe_out c = refl
 
--- white, a break or the end of the text is no character of content
+-- white space, a break or the end of the text is no character of content
 pub end_not_ns : (c : ℕ) → is_white_or_end c ≡ true → is_ns_char c ≡ false
 unfolding is_white_or_end is_ns_char is_nb_char is_printable is_between is_break_char is_white
 end_not_ns c e = grind (arith, nat_tests)

@@ -1,4 +1,4 @@
--- Comment lines before a node of a document, where it may begin at any column: they belong to it as well, or are before it.
+-- Comment lines before a node of a document, which may begin at any column: they belong to it, or are before it.
 use Rattle.std.proofs.Common.{◌≡◌, ℕ, ℤ, pos, ◌+◌, ◌+ℤ◌, ◌≤◌, false, inl, ⊎_elim, List, [], ◌++◌, length, refl, sym, ap, ◌∙◌, subst, arith, add-zero, append_assoc, append-nil, true≢false}
 use Rattle.yf_chars.specs.declared.context.Ctx.{Ctx}
 use Rattle.yf_chars.specs.declared.context.Ctx.TheVariants.{FlowOut}
@@ -38,7 +38,7 @@ after_twice cs ds x = ap (λ w. record x { comments = w }) (append_assoc cs ds x
 after_longer : (es cs ds fs : List CommentValue) (x : Meaning) → meaning_after ((es ++ cs) ++ ds ++ fs) x ≡ meaning_after es (meaning_after (cs ++ ds ++ fs) x)
 after_longer es cs ds fs x = ap (λ w. meaning_after w x) (simp append_assoc) ∙ after_twice es (cs ++ ds ++ fs) x
 
--- comment lines from the start of a line on, up to another place
+-- comment lines from the start of a line to an offset
 pub record LeadingLines (t : List ℕ) (g i : ℕ) (es : List CommentValue) : Type 0 where
   pub start : LineStart t g
   pub rows : Chain (Row t) g i es
@@ -85,7 +85,7 @@ module _ {t : List ℕ} where
   content_stuck : {h k : ℕ} {w : List ℕ} → Many t is_white h k w → Visible t k → Stuck (Row t h)
   content_stuck m v = let s = visible_solid v in row_stuck (stuck_at_solid m s.not_white s.no_comment s.no_end)
 
-  -- where comment lines that are all end, a line begins, if there is content after it
+  -- all comment lines before content end at the start of a line
   last_start : {i g k : ℕ} {es : List CommentValue} → LeadingLines t i g es → g ≤ k → Visible t k → LineStart t g
   last_start {g = g} l o v = ⊎_elim (λ (s : LineStart t g). s) (λ (e : g ≡ length t). absurd (not_at_end g v o e)) (rows_next (inl l.start) l.rows)
 
@@ -106,7 +106,7 @@ module _ {t : List ℕ} where
   separate_shed c q e l z (in_key f s) v = absurd (true≢false (sym f ∙ q))
   separate_shed c {i = i} {k = k} {cs = cs} q e l z (in_node f s) v = let r = lines_shed l z (subst (λ w. SeparateLines t w i k cs) e s) v in (in_node f (in_line r.0), r.1)
 
-  -- of comment lines before a node none need belong to it
+  -- comment lines before a node need not belong to it
   pub shed : {h i g j : ℕ} {n : ℤ} {c : Ctx} {es : List CommentValue} {x : Meaning} → (n +ℤ pos 1) ≡ pos 0 → LeadingLines t i g es → Stuck (Row t g) → Derives t h (BlockNode n c) i j x
       → Shed t h n c es x j g
   shed {c = c} {es = es} e l z (a_block_scalar {x = x} b s d) =

@@ -1,4 +1,5 @@
--- Collections on lines of their own, compact ones, and empty nodes: what the reader finds of each, and what it reaches.
+-- Collections on lines of their own, compact ones, and empty nodes: the reader's outcomes for them, and how far it
+-- reaches.
 use Rattle.std.proofs.Common.{◌≡◌, ℕ, suc, ◌+◌, ◌-◌, ◌<◌, ◌≤◌, ℤ, pos, ◌≤ℤ◌, Bool, true, false, ⊎_elim, List, Option, Some, length, refl, sym, ap, ◌∙◌, subst, arith, true≢false}
 use Rattle.std.specs.Str.{IsUtf8}
 use Rattle.yf_chars.specs.declared.context.Ctx.{Ctx}
@@ -42,7 +43,7 @@ pub columns_at : {n : ℤ} {c : Ctx} {k m : ℕ} {cols : Columns} (s : Bool) →
 columns_at true w l = sequence_column (column_some w.sequence refl l)
 columns_at false w l = mapping_column (column_some w.mapping refl l)
 
--- an outcome after comments, of what is found, and of what is reached
+-- an outcome after comments, found or reached
 pub record OutcomeAfter (a : Ahead) (cs : List CommentValue) (j h : ℕ) (x : Meaning) (o : Option ParsedNode) : Type 0 where
   pub inner : Option ParsedNode
   pub found : IsFound inner j h x
@@ -59,7 +60,7 @@ told_is {a} {cs} {j} {h} x n w = subst (λ v. IsFound v j h (meaning_after cs x)
 told_reached : {a : Ahead} {cs : List CommentValue} {j : ℕ} (x : Meaning) {o : Option ParsedNode} → Unheld a → ToldLongest a cs j (headed (past a cs) x) o → Longest o j (meaning_after cs x)
 told_reached {a} {cs} {j} x n w = subst (λ v. Longest v j (meaning_after cs x)) (sym w.is) (told_longest cs n (longest_moved (past_headed cs x n) w.reached))
 
--- spaces before a character of content, the first of which is none
+-- spaces before a character of content, which is no space
 not_still : {t : List ℕ} {i l : ℕ} → Spaces t i l → Visible t (i + l) → is_ns_char (code t i) ≡ false → is_white (code t i) ≡ false → ⊥
 not_still {t} {i} {l} p v g w =
     let same = (many_unique t is_white (spaces_whites t i l p).1 (visible_white v) (done {i = i}) w).0 in
@@ -70,11 +71,11 @@ module _ {t : List ℕ} where
   begins_at (opens_sequence d) l = line_dashed d refl l
   begins_at (opens_mapping n f) l = line_indented l
 
-  -- no line ends where white space is before a character of content, and no line begins
+  -- no line ends or begins at white space before a character of content
   pub no_line_end : {i k p : ℕ} {w : List ℕ} {x : List CommentValue} → (LineStart t i → ⊥) → Many t is_white i p w → Visible t p → LineEnd t i k x → ⊥
   no_line_end {k = k} {x = x} n m v d = let s = visible_solid v in (line_end_stuck n (stuck_at_solid m s.not_white s.no_comment s.no_end)).none k x d
 
-  -- a line end goes on, or the text ends
+  -- a line end is not empty, or the text ends
   pub line_end_moves : {i h m p : ℕ} {x : List CommentValue} → (LineStart t i → ⊥) → LineEnd t i h x → LineText t h m p → h ≡ i → ⊥
   line_end_moves {i} {h} n (past_rest {h = g} r c) w e =
       let a : i ≤ g = rows_order (past_rest r done) in
@@ -99,7 +100,7 @@ module _ {t : List ℕ} (u : IsUtf8 t) where
   pub entry_line : {h i k m j : ℕ} {s : Bool} {x : Meaning} → i ≤ k → Spaces t k m → Derives t h (BlockEntries s m) (k + m) j x → Clear t i j → LineText t k m (k + m)
   entry_line {i = i} {k = k} {m = m} {j = j} q p y c = let z = block_starts y in let l : k + m < j = z.later in line_from p z.visible (λ g. c.none k q (omega arith) g)
 
-  -- the collection whose first entry begins on the line at k
+  -- the collection with its first entry on the line at k
   pub below_collection : {z : Bool} {e h i k m j : ℕ} {s : Bool} {n : ℤ} {c : Ctx} {a : Ahead} {cs : List CommentValue} {x : Meaning} {o : Option ParsedNode} → LineEnd t i k cs → Spaces t k m
       → least_column s n c ≤ℤ pos m → Derives t h (BlockEntries s m) (k + m) j x → EntriesExact t z h s m (k + m) j x → suc h ≤ e → Clear t i j → Follow t z n c j
       → Whole t e (Below n c a i) o → OutcomeAfter a cs j (suc h) (headed (past a cs) (collection s false (k + m) x.finish x)) o

@@ -1,5 +1,5 @@
--- What the reader of block nodes finds, as parts: where it has no last halt no block node is derived, and a last halt that is
--- derived is the longest block node, with one meaning.
+-- The outcomes of the reader of block nodes, as parts: if it has no last halt, no block node is derived; a last halt
+-- that is derived is the longest block node, with one meaning.
 use Rattle.std.proofs.Common.{◌≡◌, ℕ, ◌<◌, ◌≤◌, ℤ, false, ⊎_elim, List, [], Some, None, sym, ap, ◌∙◌, subst, arith}
 use Rattle.std.specs.Str.{IsUtf8}
 use Rattle.yf_chars.specs.declared.context.Ctx.{Ctx}

@@ -1,5 +1,5 @@
--- An explicit entry: its key may be left without a value only where no `:` of the entry is on the next line, so that a
--- longer key does not always make a longer entry.
+-- An explicit entry: its key may have no value only if no `:` of the entry is on the next line, so a longer key does
+-- not always make a longer entry.
 use Rattle.std.proofs.Common.{◌≡◌, ℕ, max, ◌+◌, pos, true, false, List, ◌∷◌, Option, Some, None, refl, sym, subst, arith}
 use Rattle.yf_chars.specs.declared.context.Ctx.TheVariants.{BlockOut}
 use Rattle.yf_grammar.specs.Productions.Grammar.{ColonLine}
@@ -17,7 +17,7 @@ use Rattle.yf_grammar.proofs.BlockOutcomes.BlockItems.{exact_end, exact_height, 
 use Rattle.yf_grammar.proofs.BlockOutcomes.OutcomeMade.{makes_exact, makes_longest, makes_further, makes_lone_key, makes_pair, pair_exact, pair_longest}
 
 module _ {t : List ℕ} where
-  -- one sign is at a place
+  -- an offset has one sign
   pub one_sign : {i : ℕ} → SignAt t 63 i → SignAt t 58 i → ⊥
   one_sign a b = let x = a.sign_is_at in let y = b.sign_is_at in absurd (omega arith)
 

@@ -1,4 +1,4 @@
--- What is derived is reached: wherever a block production may end, the last halt of its reader is there or later.
+-- The reader reaches each derived end: wherever a block production may end, its last halt is there or later.
 use Rattle.std.proofs.Common.{◌≡◌, ℕ, ◌+◌, ◌<◌, ◌≤◌, pos, true, false, List, refl, arith}
 use Rattle.std.specs.Str.{IsUtf8}
 use Rattle.yf_chars.specs.declared.context.Ctx.TheVariants.{BlockOut}

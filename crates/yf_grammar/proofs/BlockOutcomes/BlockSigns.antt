@@ -1,4 +1,4 @@
--- After the sign of an entry of a block mapping is white, a break or the end of the text.
+-- White space, a break or the end of the text follows the sign of an entry of a block mapping.
 use Rattle.std.proofs.Common.{◌≡◌, ℕ, ℤ, ◌+◌, ◌<◌, true, List, arith}
 use Rattle.std.specs.Str.{IsUtf8}
 use Rattle.yf_chars.specs.declared.context.Ctx.{Ctx}
@@ -30,7 +30,7 @@ module _ {t : List ℕ} where
   line_stop {i} n (by_whites m l) = ends_by_white (code t i) (many_white m l)
   line_stop n (at_start s) = absurd (n s)
 
-  -- where no line begins, what separates begins with white or with the end of the line
+  -- inside a line, a separation begins with white space or with the end of the line
   pub line_end_stop : {i j : ℕ} {x : List CommentValue} → (LineStart t i → ⊥) → LineEnd t i j x → is_white_or_end (code t i) ≡ true
   line_end_stop n (past_rest r c) = rest_stop n r
   line_end_stop n (from_start s c) = absurd (n s)

@@ -1,5 +1,5 @@
--- What block productions begin with, and that they go on: entries begin with a character that no separation goes on with,
--- those of a sequence with a `-`, those of a mapping with none.
+-- The first characters of block productions, and that these are not empty: entries begin with a character that
+-- continues no separation, those of a sequence with a `-`, those of a mapping with another one.
 use Rattle.std.proofs.Common.{◌≡◌, ◌≢◌, ℕ, ℤ, ◌+◌, ◌<◌, ◌≤◌, Bool, true, false, List, Option, refl, sym, ap, ◌∙◌, arith, true≢false}
 use Rattle.std.proofs.lemmas.Bool.Decides.{nat_tests}
 use Rattle.yf_chars.specs.declared.context.Ctx.{Ctx}
@@ -43,7 +43,7 @@ use Rattle.yf_grammar.proofs.FlowReader.PlainEnds.{plain_leaps}
 use Rattle.yf_grammar.proofs.FlowReader.PropertiesEnds.{properties_begin}
 use Rattle.yf_props.proofs.NameOrder.{properties_forward}
 
--- line ends and block scalars go on
+-- line ends and block scalars never lead back
 module _ {t : List ℕ} where
   pub line_end_forward : {i j : ℕ} {x : List CommentValue} → LineEnd t i j x → i ≤ j
   line_end_forward e = chain_forward row_functional (line_end_rows e)

@@ -1,5 +1,5 @@
--- The laws of the reader of block nodes, as the crates above use them: a node that a document holds is what the reader finds,
--- and the last halt is the longest part that is derived.
+-- The laws of the reader of block nodes, as the crates above use them: the reader finds the node of a document, and the
+-- last halt is the longest derived part.
 use Rattle.std.proofs.Common.{◌≡◌, ℕ, ◌<◌, ◌≤◌, ℤ, Bool, false, ◌⊎◌, List, [], Option, Some, None, refl}
 use Rattle.std.specs.Str.{IsUtf8}
 use Rattle.yf_chars.specs.declared.context.Ctx.{Ctx}
@@ -44,11 +44,11 @@ module _ {t : List ℕ} (u : IsUtf8 t) where
   plain_is_whole = record { whole = λ p d a. whole_plain u p (may_end_chosen d a) }
 
 module _ {t : List ℕ} (u : IsUtf8 t) {h e i j : ℕ} {n : ℤ} {c : Ctx} {x : Meaning} (d : Derives t h (BlockNode n c) i j x) (within : h ≤ e) (clear : Clear t i j) where
-  -- a node is what the reader finds, before what can follow it
+  -- the reader finds a node before text that can follow it
   pub node_is_found : {b : Bool} {a : Ahead} {o : Option ParsedNode} → Follow t (by_scalar d) n c j → Unheld a → Whole t e (Awaited b n c a i) o → o ≡ found j h false x
   node_is_found {b} {a} {o} f y r = (cover u (line_reading u) d e within clear f b a y o r).is
 
-  -- and so where nothing of its line is left and the text ends, or a mark or a marker is
+  -- so also at the end of the text, a mark or a marker, if no comment line of the node is left
   pub node_at_end : {o : Option ParsedNode} → (by_scalar d ≡ false → Stuck (Row t j)) → LinesEnd t j → Whole t e (Awaited false n c Nothing i) o → o ≡ found j h false x
   node_at_end s l r = node_is_found (record { still = s; shallow = λ m p w q. w.goes_on l; no_dash = λ m p w y q k. w.goes_on l }) nothing_ahead r
 

@@ -1,5 +1,5 @@
--- What the reader of block nodes finds, whole or not, ends after the place of its task: where a character is there, past
--- that character.
+-- Each outcome of the reader of block nodes, whole or not, ends after the offset of its task: if a character is at that
+-- offset, after that character.
 use Rattle.std.proofs.Common.{◌≡◌, ℕ, ◌+◌, ◌<◌, ◌≤◌, ℤ, true, false, List, Option, Some, refl, arith}
 use Rattle.yf_chars.specs.declared.context.Ctx.TheVariants.{FlowOut}
 use Rattle.yf_chars.proofs.Tests.{none_some}
@@ -18,7 +18,7 @@ use Rattle.yf_grammar.proofs.BlockOutcomes.BlockGaps.{whites_order, rows_order}
 use Rattle.yf_grammar.proofs.BlockOutcomes.OutcomeEnds.{collected_end, leaf_end, with_plain_end, item_end, lone_key_end, lone_value_end, pair_end, items_end, alone_end, told_of, then_of}
 use Rattle.yf_props.proofs.NameOrder.{properties_forward}
 
--- an end after the place of a task
+-- an end after the offset of a task
 abbrev pub Beyond : BlockTask → ℕ → Type 0
 Beyond (Awaited b n c a i) z = i ≤ z
 Beyond (Below n c a i) z = i ≤ z

@@ -1,4 +1,4 @@
--- Properties and flow nodes end with a character of content: no line begins there.
+-- Properties and flow nodes end with a character of content, so no line begins at their ends.
 use Rattle.std.proofs.Common.{◌≡◌, ℕ, ℤ, ◌+◌, ◌-◌, Bool, true, false, List, refl, subst, arith}
 use Rattle.std.proofs.lemmas.Bool.Decides.{nat_tests}
 use Rattle.std.specs.Str.{IsUtf8}

@@ -27,7 +27,7 @@ use Rattle.yf_grammar.specs.Productions.BlockScalar.LinesBetween.{counted}
 use Rattle.yf_grammar.specs.Productions.Meaning.{Meaning, from_to}
 
 module _ {t : List ℕ} where
-  -- indicators that end before white, a break or the end of the text are the only ones
+  -- indicators that end before white space, a break or the end of the text are the only ones
   only_of : {i j : ℕ} {d : Option ℕ} {c : Chomp} → Indicators t i j d c → is_white_or_end (code t j) ≡ true → Only t i j d c
   only_of neither s = only_neither (λ j d x. stop_digit x s) (λ j c x. stop_sign x s)
   only_of (digit_alone x) s = only_digit x (λ j c y. stop_sign y s)
@@ -56,7 +56,7 @@ module _ {t : List ℕ} where
       let same : k ≡ j = omega arith in
       (same, c.only w (subst (λ z. Body t n h i z w) same b))
 
-  -- so many lines from a place end at one place
+  -- a number of lines from one offset has one end
   no_lines : {j k : ℕ} {ls : List Line} → Chain (OneLine t) j k ls → length ls ≡ 0 → k ≡ j
   no_lines done e = refl
   no_lines (step {x = x} {y = y} s c) e =
@@ -89,7 +89,7 @@ scalar_meaning i e h b = record {
   finish = e;
 }
 
--- a block scalar by its parts
+-- the parts of a block scalar
 record Parts (t : List ℕ) (n : ℤ) (i j : ℕ) (x : Meaning) : Type 0 where
   pub head : HeaderValue
   pub value : BodyValue

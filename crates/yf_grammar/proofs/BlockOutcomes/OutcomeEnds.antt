@@ -1,4 +1,4 @@
--- The outcomes of the reader of block nodes, part by part: where each ends, and how deep it is.
+-- The end and the height of each outcome of the reader of block nodes, part by part.
 use Rattle.std.proofs.Common.{◌≡◌, ℕ, suc, max, Bool, false, List, Option, Some, None, refl, sym, ap, ◌∙◌}
 use Rattle.yf_chars.proofs.Tests.{none_some}
 use Rattle.yf_comments.specs.Comment.{CommentValue}
@@ -48,7 +48,7 @@ pub alone_indicator : (i k : ℕ) (ds : List CommentValue) → alone (Indicator 
 unfolding alone
 alone_indicator i k ds = refl
 
--- where they end
+-- their ends
 pub collected_end : {g : ParsedNode} (a : Ahead) (s : Bool) (i : ℕ) (f : ParsedNode) → collected a s i f ≡ Some g → g.end ≡ f.end
 collected_end a s i f e = found_end f.end (suc f.height) false (headed a (collection s false i f.meaning.finish f.meaning)) (sym (collected_is a s i f) ∙ e)
 
@@ -83,7 +83,7 @@ refl_found : (ds : List CommentValue) (g : ParsedNode) → found g.end g.height 
 unfolding found
 refl_found ds g = refl
 
--- what is something was made of something
+-- an outcome that is not `None` was made of one that is not `None`
 pub record TellsOf (f : ParsedNode) (o : Option ParsedNode) : Type 0 where
   pub inner : ParsedNode
   pub is : o ≡ Some inner

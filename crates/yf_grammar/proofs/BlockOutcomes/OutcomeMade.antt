@@ -1,4 +1,4 @@
--- What is made of an outcome: of what is found exactly, and of what ends at a place or later.
+-- Outcomes made of an exact outcome, and of one that ends at an offset or later.
 use Rattle.std.proofs.Common.{◌≡◌, ℕ, suc, max, ◌<◌, Bool, false, inl, inr, ⊎_elim, List, Option, Some, None, refl, ap, ◌∙◌, subst}
 use Rattle.yf_comments.specs.Comment.{CommentValue}
 use Rattle.yf_grammar.specs.Productions.Meaning.{Meaning, ◌⊕◌, meaning_after, empty_node, collection, entering}
@@ -12,7 +12,7 @@ use Rattle.yf_grammar.proofs.BlockOutcomes.BlockHalts.{then_is}
 use Rattle.yf_grammar.proofs.BlockOutcomes.BlockItems.{exact_end, exact_height, exact_meaning, longest_of}
 use Rattle.yf_grammar.proofs.FlowStack.AwaitEntries.{found_is}
 
--- one outcome is made of another, which ends where that does
+-- an outcome made of another one, with its end
 pub record Makes (made : ParsedNode → Option ParsedNode) (put : Meaning → Meaning) (deep : ℕ → ℕ) : Type 0 where
   pub is : (f : ParsedNode) → made f ≡ found f.end (deep f.height) false (put f.meaning)
 
@@ -30,7 +30,7 @@ module _ {made : ParsedNode → Option ParsedNode} {put : Meaning → Meaning} {
       (ap (then_found made) l.is ∙ then_is made f ∙ m.is f ∙ found_is f.end (deep f.height) false (put f.meaning))
       (⊎_elim (λ (q : j < f.end). inl q) (λ (q : (j ≡ f.end) × (x ≡ f.meaning)). inr (q.0, ap put q.1)) l.far)
 
-  -- it ends after a place, and the part before it does not
+  -- it ends after j, so it is longer than each part up to j
   pub makes_further : (g : ParsedNode) (j : ℕ) (x : Meaning) → Makes made put deep → j < g.end → Longest (made g) j x
   makes_further g j x m l =
       longest_of (record { end = g.end; height = deep g.height; json = false; meaning = put g.meaning }) (m.is g ∙ found_is g.end (deep g.height) false (put g.meaning)) (inl l)

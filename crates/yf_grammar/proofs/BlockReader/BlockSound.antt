@@ -1,4 +1,4 @@
--- What the reader of block nodes finds whole is derived, and opens no more collections than it may.
+-- Whole outcomes of the reader of block nodes are derived, and open no more collections than the limit.
 use Rattle.std.proofs.Common.{◌≡◌, ℕ, ◌≤◌, ℤ, pos, ◌+ℤ◌, Bool, true, false, List, ◌++◌, Option, Some, None, refl, sym, ap, ◌∙◌, subst, arith, true≢false}
 use Rattle.yf_chars.specs.declared.context.Ctx.{Ctx}
 use Rattle.yf_chars.specs.declared.context.Ctx.TheVariants.{FlowOut}
@@ -27,7 +27,7 @@ use Rattle.yf_grammar.proofs.BlockContent.PropertiesWalk.{HeldAs}
 use Rattle.yf_grammar.proofs.BlockReader.SoundSteps.{Parts, parts_of, Sits, InlineAhead, any_properties}
 use Rattle.yf_grammar.proofs.FlowStack.AwaitEntries.{found_is}
 
--- what is where a node is awaited: a node, a compact collection, or nothing
+-- the node, the compact collection, or nothing, at an awaited node
 pub data NodeAhead (t : List ℕ) (b : Bool) (n : ℤ) (c : Ctx) (a : Ahead) (i h j : ℕ) (y : Meaning) : Type 0 where
   as_node : Derives t h (BlockNode n c) i j y → NodeAhead t b n c a i h j y
   as_compact : {m : ℕ} → n ≡ pos m → b ≡ true → Derives t h (BlockIndented m c) i j y → NodeAhead t b n c a i h j y
@@ -83,7 +83,7 @@ module _ {t : List ℕ} where
   node_with b np na s o v (a_json_with y z w) g = absurd (true≢false (sym (properties_begin y) ∙ np))
 
 module _ {t : List ℕ} {e : ℕ} {n : ℤ} {a : Ahead} {p : ℕ} {f : ParsedNode} where
-  -- a leaf where nothing is held
+  -- a leaf without held properties
   pub leaf_free : {c : Ctx} {i : ℕ} {cs : List CommentValue} → is_block c ≡ true → Unheld a → Separate t (n +ℤ pos 1) c i p cs → LeafSound t e n a p f
       → Derives t f.height (BlockNode n c) i f.end (meaning_after cs f.meaning)
   leaf_free {c} {i} {cs} b y s (leaf_of_scalar {x = x} d h m) =
@@ -105,7 +105,7 @@ module _ {t : List ℕ} {e : ℕ} {n : ℤ} {a : Ahead} {p : ℕ} {f : ParsedNod
       m ∙ ap (λ g. headed g (noting x es)) q ∙ o.is (noting x es) ∙ sym (noting_with (q'.comments ++ ds) es q'.props q'.tag_offset w.start w.end x) in
       moved refl refl (ap (meaning_after cs) (sym mean)) (node_with b i.no_props (λ r. true≢false (sym r ∙ i.no_alias q)) z.separate z.properties y d g)
 
--- nothing but what is ahead
+-- only the `Ahead`
 alone_props : (v : PropertiesHeld) (k : ℕ) (ds : List CommentValue) → alone (Props v) k ds ≡ found k 0 false (noting (meaning_after v.value.comments (with_props v.value.props v.value.tag_offset v.start v.end (empty_node v.end))) ds)
 unfolding alone headed
 alone_props v k ds = refl
@@ -153,7 +153,7 @@ module _ {t : List ℕ} {e : ℕ} {n : ℤ} {c : Ctx} where
           moved (sym w.height) (sym w.end) (ap (meaning_after cs) (sym w.meaning))
           (flow_in_block b (any_context c FlowOut key refl g.separate) (flow_node (properties_alone refl (any_properties c FlowOut key refl g.properties))) (subst (λ u. LineEnd t u k ds) (sym at) d))
 
--- what is told of an outcome
+-- the claim about an outcome
 pub data ToldOf (a : Ahead) (ds : List CommentValue) (o : Option ParsedNode) (f : ParsedNode) : Type 0 where
   told_free : {g : ParsedNode} → Unheld a → o ≡ Some g → Parts f g.end g.height (meaning_after ds g.meaning) → ToldOf a ds o f
   told_after : {v : PropertiesHeld} → a ≡ Props v → o ≡ Some f → ToldOf a ds o f

@@ -1,4 +1,4 @@
--- What the reader of block nodes finds, whole or not, covers no forbidden line.
+-- The outcomes of the reader of block nodes, whole or not, cover no forbidden line.
 use Rattle.std.proofs.Common.{◌≡◌, ◌≢◌, ℕ, suc, ◌+◌, ◌<◌, ◌≤◌, ℤ, Bool, true, false, List, [], Option, Some, refl, sym, ap, ◌∙◌, subst, arith, true≢false}
 use Rattle.std.proofs.lemmas.Bool.Decides.{nat_tests}
 use Rattle.std.specs.Str.{IsUtf8}
@@ -106,7 +106,7 @@ module _ {t : List ℕ} (u : IsUtf8 t) where
   pub scalar_clear : {n : ℤ} {i j : ℕ} {x : Meaning} → BlockScalar t n i j x → Clear t i j
   scalar_clear (block_scalar h b l) = clear_join (header_clear h) (body_clear b)
 
--- where a task begins
+-- the offset of a task
 abbrev pub place : BlockTask → ℕ
 place (Awaited b n c a i) = i
 place (Below n c a i) = i

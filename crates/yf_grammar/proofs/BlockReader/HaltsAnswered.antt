@@ -1,4 +1,4 @@
--- The relation of last halts has an outcome of each task: that cannot be refuted.
+-- The relation of last halts has an outcome for each task: that cannot be refuted.
 use Rattle.std.proofs.Common.{◌≡◌, ℕ, suc, zero, ◌+◌, ◌<◌, ◌≤◌, ℤ, pos, ◌+ℤ◌, Bool, true, false, ⊎_elim, List, [], ◌∷◌, Option, Some, None, refl, sym, ◌∙◌, arith}
 use Rattle.std.proofs.lemmas.Bool.{cases_Bool, cases_lt}
 use Rattle.std.specs.Str.{IsUtf8}
@@ -58,7 +58,7 @@ module _ {t : List ℕ} {e : ℕ} {task : BlockTask} {B : Type 0} where
   whole_tells : Irrefutable (Wholes.Answer t e task) → ((f : ParsedNode) → Whole t e task (Some f) → Irrefutable B) → (Whole t e task None → Irrefutable B) → Irrefutable B
   whole_tells a some none = then a (λ r. by_whole r.outcome r.read some none)
 
--- places at which a leaf may end
+-- offsets at which a leaf may end
 module _ {t : List ℕ} (u : IsUtf8 t) (ws : List ℕ) where
   may_end_reached : (i : ℕ) → Irrefutable (ChosenOrStuck (MayEnd t ws i))
   may_end_reached i = takes (line_end_reached u i)
@@ -80,7 +80,7 @@ module _ {t : List ℕ} (u : IsUtf8 t) (ws : List ℕ) where
   alone_any : (a : Ahead) (i : ℕ) → Irrefutable ((o : Option ParsedNode) × Alone t ws a i o)
   alone_any a i = takes (may_end_reached i) (λ k ds m. sure (_, alone_to m)) (λ s. sure (None, alone_nowhere s))
 
--- each task, where tasks of less weight have outcomes
+-- each task has an outcome, if tasks of less weight do
 module _ {t : List ℕ} (u : IsUtf8 t) (v : ℕ) (known : (e : ℕ) (ws : List ℕ) (task : BlockTask) → Fit task → weight t task < v → Irrefutable (Answer t e ws task)) where
   awaited_answer : (e i : ℕ) (ws : List ℕ) (b : Bool) (n : ℤ) (c : Ctx) (a : Ahead) → Column b n → weight t (Awaited b n c a i) ≤ v → Irrefutable (Answer t e ws (Awaited b n c a i))
   awaited_answer e i ws b n c a col w = takes (line_end_reached u i)

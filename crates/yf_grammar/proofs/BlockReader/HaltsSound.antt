@@ -46,7 +46,7 @@ module _ {t : List ℕ} where
   part_allowed : {n : ℤ} {ws : List ℕ} {i j : ℕ} {x : Meaning} → PlainPart t n ws i j x → NoColonAt t j ws
   part_allowed (plain_part p m) = m.allowed
 
-  -- all may end at the last halt
+  -- all nodes may end at the last halt
   pub halts_allowed : {e : ℕ} {ws : List ℕ} {task : BlockTask} {o : Option ParsedNode} {f : ParsedNode} → Halts t e ws task o → o ≡ Some f → NoColonAt t f.end ws
   halts_allowed (Halting.halts_below d r) e = halts_allowed r e
   halts_allowed (Halting.halts_inline d m l w g r) e = halts_allowed r e

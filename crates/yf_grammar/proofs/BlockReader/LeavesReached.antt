@@ -1,5 +1,5 @@
--- From each place each leaf production has a longest part with one meaning, or none at all: that cannot be refuted. What is derived
--- ends within the text, or where it begins.
+-- From each offset, each leaf production has a longest part with one meaning, or no part: that cannot be refuted. A
+-- derived part ends within the text, or at its start.
 use Rattle.std.proofs.Common.{◌≡◌, ℕ, ℤ, ◌+◌, ◌≤◌, ⊎_elim, Bool, true, false, List, [], ◌++◌, length, refl, sym, ap, ◌∙◌, arith, true≢false, append-nil}
 use Rattle.std.proofs.lemmas.Bool.{cases_Bool}
 use Rattle.std.specs.Str.{IsUtf8}
@@ -32,7 +32,7 @@ use Rattle.yf_grammar.proofs.Ends.Irrefutable.{Irrefutable, ChosenOrStuck, one_r
 use Rattle.yf_grammar.proofs.FlowReader.PlainEnds.{plain_after}
 use Rattle.yf_chars.proofs.CharFacts.{end_no_white}
 
--- two chains from one place to one place mean one thing
+-- two chains with one start and one end have one meaning
 chain_still : {A : Type 0} {S : ℕ → ℕ → List A → Type 0} {i j : ℕ} {x : List A} → Functional S → Chain S i j x → j ≤ i → x ≡ []
 chain_still f done l = refl
 chain_still f (step s c) l = let a = f.forward s in let b = chain_forward f c in absurd (omega arith)
@@ -120,7 +120,7 @@ module _ {t : List ℕ} (u : IsUtf8 t) where
   tail_of {i = i} (in_key e s) = let w = separate_whites s in record { place = i; rows = done; run = w.0; whites_run = w.1 }
   tail_of (in_node e s) = tail_of_line s
 
-  -- rows over white space hold no comment
+  -- rows over white space have no comment
   no_comments : {i k j : ℕ} {w v : List ℕ} {z : List CommentValue} → Many t is_white i j w → Chain (Row t) i k z → Many t is_white k j v → z ≡ []
   no_comments m done n = refl
   no_comments {k = k} {j = j} m (step {h = h} {x = x} {y = y} r c) n =

@@ -1,4 +1,5 @@
--- From each place properties, quoted scalars and block scalars have a longest part with one meaning, or none at all: that cannot be refuted.
+-- At each offset, properties, quoted and block scalars have a longest part with one meaning, or none: that cannot be
+-- refuted.
 use Rattle.std.proofs.Common.{◌≡◌, ◌≢◌, ℕ, ℤ, ◌+◌, ◌<◌, ⊎_elim, inl, inr, false, List, [], ◌++◌, length, sym, ap, ◌∙◌, subst, arith, append_assoc}
 use Rattle.std.proofs.lemmas.Bool.{cases_eq}
 use Rattle.std.specs.Str.{IsUtf8}
@@ -135,7 +136,7 @@ module _ {t : List ℕ} (u : IsUtf8 t) (n : ℤ) (c : Ctx) where
   pub properties_reached : (i : ℕ) → Irrefutable (ChosenOrStuck (Properties t n c i))
   properties_reached i = then (anchor_reached i) (λ a. first_reached i a)
 
--- quoted scalars that close at one quote mean one thing
+-- quoted scalars that close at one quote have one meaning
 module _ {A : Type 0} {t : List ℕ} {put : List ℕ → List A} {C B : ℕ → ℕ → List A → Type 0} {quote : ℕ} (l : Laws t put C B quote) where
   tail_one : {m p k : ℕ} {last other z : List A} → Gap t put B m k last → code t k ≡ quote → Chain (Step t put C B) m p z → Gap t put B p k other → z ++ other ≡ last
   tail_one {m} {k = k} {last = last} {other = other} g q done h = (l.ends m k k other last h (inr q) g (inr q)).1

@@ -1,4 +1,4 @@
--- From what the reader of block nodes has taken back to what the grammar derives: separations, properties and collections.
+-- Separations, properties and collections that the reader of block nodes took are derived by the grammar.
 use Rattle.std.proofs.Common.{◌≡◌, ℕ, suc, ◌+◌, ◌<◌, ◌≤◌, ℤ, pos, ◌+ℤ◌, ◌≤ℤ◌, Bool, true, false, ⊎_elim, List, [], ◌++◌, Option, Some, None, length, refl, sym, ap, ◌∙◌, subst, arith, append-nil}
 use Rattle.std.proofs.lemmas.Int.{ints}
 use Rattle.std.proofs.lemmas.Option.{same_Some}
@@ -35,12 +35,12 @@ use Rattle.yf_grammar.proofs.BlockOutcomes.BlockNodes.{column_some}
 use Rattle.yf_grammar.proofs.BlockContent.PropertiedNodes.{any_context}
 use Rattle.yf_grammar.proofs.BlockContent.PropertiesLines.{held}
 
--- the indentation of what is in a node, which is none where n is less than -1
+-- n + 1, the indentation of a node's content, as a natural number; there is none if n is less than -1
 pub record Width (n : ℤ) : Type 0 where
   pub width : ℕ
   pub is : n +ℤ pos 1 ≡ pos width
 
--- the parts of what is found
+-- the parts of an outcome
 pub record Parts (f : ParsedNode) (j h : ℕ) (x : Meaning) : Type 0 where
   pub end : f.end ≡ j
   pub height : f.height ≡ h
@@ -51,7 +51,7 @@ parts_of j h b x e q =
     let s = some_found j h b x (sym q ∙ e) in
     record { end = ap (λ w. w.end) s; height = ap (λ w. w.height) s; meaning = ap (λ w. w.meaning) s }
 
--- how the reader came to the first character of a node that is awaited from i on
+-- the reader's way to the first character of a node that is awaited from i on
 pub data Sits (t : List ℕ) (b : Bool) (n : ℤ) (c : Ctx) (i p : ℕ) (cols : Columns) : List CommentValue → Type 0 where
   sits_on_line : {w : List ℕ} → Many t is_white i p w → i < p → Compact t b n i p cols → Sits t b n c i p cols []
   sits_below : {k m : ℕ} {cs : List CommentValue} → LineEnd t i k cs → LineText t k m p → Begins t n c i k m p → LineColumns n c k m p cols → Sits t b n c i p cols cs
@@ -65,7 +65,7 @@ column_is (column_not n) q = absurd (differ q) where
   differ e = cc
 
 module _ {t : List ℕ} where
-  -- at the first line that is read, its white space separate
+  -- at the first line that is read, its white space is the separation
   first_line : {i k m p : ℕ} {x : List CommentValue} → LineEnd t i k x → LineText t k m p → k ≡ i → (x ≡ []) × SeparateInLine t i p
   first_line {i} {k} {m} {p} d w e =
       let w' : LineText t i m p = subst (λ v. LineText t v m p) e w in
@@ -90,7 +90,7 @@ module _ {t : List ℕ} where
       let f = first_line e w y in subst (λ v. Separate t (n +ℤ pos 1) d i p v) (sym f.0) (in_node key (in_line f.1))
   begun d key wide s e w l (line_dashed y q z) = absurd (s.no_dash (column_some l.sequence q z) y)
 
-  -- what is no collection is separated
+  -- content that is no collection is separated
   pub sits_apart : {b : Bool} {n : ℤ} {c : Ctx} {i p : ℕ} {cols : Columns} {cs : List CommentValue} (d : Ctx) → is_key d ≡ false → Width n → NoSign t cols p → Sits t b n c i p cols cs
       → Separate t (n +ℤ pos 1) d i p cs
   sits_apart d key wide s (sits_on_line m l y) = in_node key (in_line (by_whites m l))
@@ -103,7 +103,7 @@ module _ {t : List ℕ} where
   any_properties c d a b (tag_first v s w) = tag_first v (any_context c d a b s) w
   any_properties c d a b (anchor_first v s w) = anchor_first v (any_context c d a b s) w
 
--- properties before others, which go together
+-- properties, and those after them, joined
 pub record Joined (t : List ℕ) (n : ℤ) (c : Ctx) (f g k : ℕ) (p q : PropertiesValue) (ds : List CommentValue) : Type 0 where
   pub value : PropertiesValue
   pub derived : Properties t n c f k value
@@ -119,7 +119,7 @@ join_anchor : (f h : ℕ) (tag : TagValue) (name : List ℕ) (ds : List CommentV
 unfolding both with_comments one_of
 join_anchor f h tag name ds g k = ap (λ w. Props (held (tag_with_anchor h tag name w) f k)) (append-nil ds)
 
--- two of one kind
+-- two anchors or two tags
 clash_tags : (v : PropertiesHeld) (q : PropertiesValue) (x y : TagValue) (ds : List CommentValue) → v.value.props.tag ≡ Some x → q.props.tag ≡ Some y → Clash (with_comments v ds) q
 unfolding with_comments
 clash_tags v q x y ds e f = tags_clash e f
@@ -150,7 +150,7 @@ module _ {t : List ℕ} {n : ℤ} {c : Ctx} where
   join_props {f} {g} {p = p} {q = q} {ds = ds} (anchor_first {tag = x} v r z) s (tag_first {tag = y} w s' u) a = absurd (a (clash_tags (held p f g) q x y ds refl refl))
   join_props {f} {g} {p = p} {q = q} {ds = ds} (anchor_first {tag = x} v r z) s (anchor_first {tag = y} w s' u) a = absurd (a (clash_tags (held p f g) q x y ds refl refl))
 
--- what is there: a node, or a compact collection
+-- the node or the compact collection there
 pub data InlineAhead (t : List ℕ) (b : Bool) (n : ℤ) (c : Ctx) (i h j : ℕ) (cs : List CommentValue) (y : Meaning) : Type 0 where
   is_at_as_node : Derives t h (BlockNode n c) i j (meaning_after cs y) → InlineAhead t b n c i h j cs y
   is_at_compact : {m : ℕ} → n ≡ pos m → b ≡ true → cs ≡ [] → Derives t h (BlockIndented m c) i j y → InlineAhead t b n c i h j cs y

@@ -1,5 +1,5 @@
--- The recursive reader of block nodes has an outcome of each task: that cannot be refuted. The induction goes by what is left of the text
--- after the place of a task, and at one place by the order of the tasks.
+-- The recursive reader of block nodes has an outcome for each task: that cannot be refuted. The induction goes by the
+-- length of the text after the offset of a task, and at one offset by the order of the tasks.
 use Rattle.std.proofs.Common.{◌≡◌, ℕ, suc, zero, ◌+◌, ◌-◌, ◌*◌, ◌<◌, ◌≤◌, ℤ, pos, ◌+ℤ◌, ◌≤ℤ◌, Bool, true, false, ⊎_elim, List, [], Option, Some, None, length, refl, sym, ◌∙◌, subst, arith, true≢false}
 use Rattle.std.proofs.lemmas.Bool.{cases_Bool, cases_lt}
 use Rattle.std.proofs.lemmas.Bool.Decides.{nat_tests}
@@ -59,7 +59,7 @@ weight t (Inline n c cols a p) = 4 + left t p
 weight t (Below n c a i) = 5 + left t i
 weight t (Awaited b n c a i) = 6 + left t i
 
--- a collection may begin on the line of an indicator alone, whose indentation is a column
+-- a collection may begin on the line only after an indicator, and the indentation is a column then
 pub data Column : Bool → ℤ → Type 0 where
   without_column : {n : ℤ} → Column false n
   at_column : {b : Bool} (m : ℕ) → Column b (pos m)
@@ -116,13 +116,13 @@ module _ {t : List ℕ} where
   item_real (BlockParser.key_too_deep a b p l d) e = absurd (none_some e)
 
 module _ {t : List ℕ} where
-  -- a `-` where no sequence may begin: no key begins there
+  -- no key begins at a `-` at which no sequence may begin
   pub dash_no_key : {e p : ℕ} {n : ℤ} {cols : Columns} {o : Option ParsedNode} → DashAt t p → Parses t e (ANode (n +ℤ pos 1) FlowOut p) o → NoKeyAt t e n cols p
   dash_no_key {o = None} d r = unfit_node r key_missed
   dash_no_key {o = Some f} d r = absurd (node_no_dash refl (found_is_derived refl r).0 d)
 
 module _ {t : List ℕ} (u : IsUtf8 t) where
-  -- white space from a white on, as far as it goes
+  -- the longest run of white space from a white character
   pub past_whites : {B : Type 0} (i : ℕ) → is_white (code t i) ≡ true → ((p : ℕ) (w : List ℕ) → Many t is_white i p w → i < p → is_white (code t p) ≡ false → Irrefutable B) → Irrefutable B
   past_whites i e f = takes (whites_reached u i)
       (λ p w m. ⊎_elim
@@ -134,7 +134,7 @@ module _ {t : List ℕ} (u : IsUtf8 t) where
       (cases_Bool (is_white (code t p))))
       (λ s. absurd (s.none i [] (done {i = i})))
 
--- each task, where tasks of less weight have outcomes
+-- each task has an outcome, if tasks of less weight do
 module _ {t : List ℕ} (u : IsUtf8 t) (v : ℕ) (known : (e : ℕ) (task : BlockTask) → Fit task → weight t task < v → Irrefutable (Answer t e task)) where
   awaited_answer : (e i : ℕ) (b : Bool) (n : ℤ) (c : Ctx) (a : Ahead) → Column b n → weight t (Awaited b n c a i) ≤ v → Irrefutable (Answer t e (Awaited b n c a i))
   awaited_answer e i b n c a col w = takes (line_end_reached u i)
@@ -325,6 +325,6 @@ all_answered u (suc v) e task f w = task_answer u v (all_answered u v) e task f 
 pub block_task_answered : {t : List ℕ} → IsUtf8 t → (e : ℕ) (task : BlockTask) → Fit task → Irrefutable (Answer t e task)
 block_task_answered {t} u e task f = all_answered u (suc (weight t task)) e task f (omega arith)
 
--- so there is one where the reader is called
+-- so the outermost call of the reader has one
 pub whole_answered : {t : List ℕ} → IsUtf8 t → (e : ℕ) (n : ℤ) (c : Ctx) (a : Ahead) (i : ℕ) → Irrefutable (Answer t e (Awaited false n c a i))
 whole_answered u e n c a i = block_task_answered u e (Awaited false n c a i) without_column

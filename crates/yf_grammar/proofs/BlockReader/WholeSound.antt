@@ -1,4 +1,4 @@
--- What the reader of block nodes finds whole is derived: by induction over what it has read.
+-- Whole outcomes of the reader of block nodes are derived: by induction over the steps of the reader.
 use Rattle.std.proofs.Common.{◌≡◌, ℕ, suc, max, ◌+◌, ◌≤◌, ℤ, pos, ◌+ℤ◌, Bool, true, false, List, [], ◌++◌, Option, Some, None, refl, sym, ap, ◌∙◌, subst, arith, true≢false}
 use Rattle.std.specs.Str.{IsUtf8}
 use Rattle.yf_chars.specs.declared.context.Ctx.{Ctx}

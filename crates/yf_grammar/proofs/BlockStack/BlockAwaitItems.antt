@@ -55,7 +55,7 @@ entry_then {t} {e} {s} {m} {q} {p} {i} {h} {x} {f} a w n = record {
   none = λ r. a.none (items_then_missed w n r);
 }
 
--- where the rest has an end, that counts, else the last halt so far
+-- if the rest has an end, it counts, otherwise the last halt so far
 pub halt_of_rest : {t : List ℕ} {e : ℕ} {ws : List ℕ} {s : Bool} {m : ℕ} {q : Origin} {p i h : ℕ} {x : Meaning} {o r : Option ParsedNode}
     → ItemsHalted t e ws s m q p i h x o → Halts t e ws (Items s m Later i) r → Halts t e ws (Items s m q p) (kept_halt h x o r)
 unfolding kept_halt

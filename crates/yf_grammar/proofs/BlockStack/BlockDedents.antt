@@ -1,4 +1,5 @@
--- What a line is to an open block collection: its next entry, a line that breaks it, or one before which it ends; and a line that ends several.
+-- A line after an entry of an open block collection: it begins the next entry, breaks the collection, or ends one or
+-- several.
 use Rattle.std.proofs.Common.{◌≡◌, ℕ, suc, ◌+◌, ◌<◌, ◌≤◌, Bool, true, false, List, [], ◌∷◌, ◌++◌, length, Option, refl, sym, ap, ◌∙◌, subst, arith, true≢false}
 use Rattle.yf_grammar.specs.Productions.Grammar.{ColonLine}
 use Rattle.yf_grammar.specs.FlowReader.Parser.{ParsedNode}
@@ -8,7 +9,7 @@ use Rattle.yf_grammar.specs.BlockReader.BlockStates.{NodeRead, EndsHere, AllEnd,
 use Rattle.yf_grammar.proofs.BlockOutcomes.BlockClaims.{line_unique, colon_line}
 use Rattle.yf_grammar.proofs.BlockStack.BlockResume.{entry_was_read, collection_ends}
 
--- where no line is, or one that is less deep, or one without the `-` of an item
+-- a collection ends before no line, a line that is less deep, or a line without the `-` of an item
 next_line : {t : List ℕ} {s : Bool} {m k : ℕ} → NextEntry t s m k → (p : ℕ) × LineText t k m p
 next_line (next_item {p = p} w d) = (p, w)
 next_line (next_pair {p = p} w) = (p, w)
@@ -60,7 +61,7 @@ collections_end {t} {d} {root} {at} {ls} {h} {xs = l ∷ xs} {e = e} {f = f} (on
     let rest = collections_end a (collection_ends (entry_was_read r n.no_colon) n.no_entry) in
     subst (λ (z : ℕ). NodeRead t d root ls z (rounds (l ∷ xs) f) at h) (omega arith) rest
 
--- so does a line that is less deep than all of them, and the want of a line
+-- a line that is less deep than all of them ends them, and so does the end of the lines
 pub dedent_ends : {t : List ℕ} {at m p : ℕ} {ls : List Layer} → LineText t at m p → AllDeeper m ls → AllEnd t at ls
 dedent_ends w no_more = all_ended
 dedent_ends w (one_deeper d a) = one_ends (less_deep_ends w d) (dedent_ends w a)

@@ -1,4 +1,4 @@
--- A reader of block nodes with a stack at the beginning of an entry: a node is awaited after its `-`, its `?`, its `:` or its key, or
+-- A reader of block nodes with a stack, at the beginning of an entry: it awaits a node after `-`, `?`, `:` or a key, or
 -- after the `:` of an entry whose key was read; or the entry is missing.
 use Rattle.std.proofs.Common.{◌≡◌, ℕ, ◌+◌, ◌≤◌, pos, true, false, List, [], ◌∷◌, Option, Some, None, refl, sym, ap, ◌∙◌, subst, true≢false}
 use Rattle.yf_chars.specs.declared.context.Ctx.TheVariants.{BlockOut, BlockIn, FlowOut}
@@ -20,7 +20,7 @@ pub node_is_at : {t : List ℕ} {d : ℕ} {root : BlockTask} {ls : List Layer} {
 unfolding made_or meaning_after
 node_is_at {inner = inner} {r = r} a p = record { outer = inner; round = r; last = None; around = a; awaited = awaits_itself; halted = halts_itself; halt = p }
 
--- an entry that has begun, and of which nothing may be alone
+-- an entry that has begun and has no last halt yet, not at the key after a `?`
 entry_begun : {t : List ℕ} {d : ℕ} {root : BlockTask} {l : Layer} {ls : List Layer} {e : ℕ} {q : Origin} {i : ℕ} {inner : BlockTask} {h : Option ParsedNode} (s : Stage)
     → EntryAt t d root l ls e q i h → asks s ≡ false → EntryIn t e (asked ls) (at_stage l s) q i None inner → NodeAt t d root (at_stage l s ∷ ls) e [] inner h
 unfolding made_or

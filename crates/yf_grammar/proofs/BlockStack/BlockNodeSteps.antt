@@ -1,5 +1,5 @@
--- A reader of block nodes with a stack while a node is awaited: on its line or a later one, after properties, as the first entry of
--- a collection; and where it is read, or missing.
+-- A reader of block nodes with a stack, while it awaits a node: on its line or a later one, after properties, as the
+-- first entry of a collection; and when the node is read, or missing.
 use Rattle.std.proofs.Common.{◌≡◌, ℕ, suc, max, ℤ, Bool, true, false, List, [], ◌++◌, Option, Some, None, refl, sym, ap, ◌∙◌, subst, arith, append_assoc, append-nil}
 use Rattle.yf_chars.specs.declared.context.Ctx.{Ctx}
 use Rattle.yf_chars.specs.Chain.{Chosen}
@@ -17,7 +17,7 @@ use Rattle.yf_grammar.proofs.BlockStack.BlockStepEntries.{outcome_halted, awaits
 use Rattle.yf_grammar.proofs.BlockStack.BlockStepNodes.{line_awaits, line_halts, sequence_awaits, sequence_halts, mapping_awaits, mapping_halts}
 use Rattle.yf_grammar.proofs.BlockStack.BlockStackSteps.{made_twice, node_broken, node_halted}
 
--- the node is that of another task
+-- the node is another task's
 pub node_through : {t : List ℕ} {d : ℕ} {root : BlockTask} {ls : List Layer} {e : ℕ} {ds : List CommentValue} {task inner : BlockTask} {h : Option ParsedNode}
     → NodeAt t d root ls e ds task h → TaskAwaited t e inner (λ f. f) e task → TaskHalted t e (asked ls) inner (λ f. f) None e (asked ls) task → NodeAt t d root ls e ds inner h
 unfolding made_or
@@ -31,7 +31,7 @@ node_through a w u = record {
   halt = a.halt;
 }
 
--- what is made of it after comments
+-- the node with the comments before it
 after_twice : (ds es : List CommentValue) (f : ParsedNode) → as_after ds (as_after es f) ≡ as_after (ds ++ es) f
 unfolding meaning_after
 after_twice ds es f = ap (λ z. record f { meaning = record f.meaning { comments = z } }) (sym (append_assoc ds es f.meaning.comments))
@@ -45,7 +45,7 @@ last_made : (ls : List Layer) (ds : List CommentValue) (r z x h : Option ParsedN
     → made_or (λ f. rounds ls (as_after ds f)) h x ≡ made_or (rounds ls) r (made_or (as_after ds) z x)
 last_made ls ds r z x h p = ap (λ u. made_or (λ f. rounds ls (as_after ds f)) u x) p ∙ made_twice (as_after ds) (rounds ls) r z x
 
--- it is on a later line; what is ahead of it may end before that, alone
+-- it is on a later line; the node may be only its `Ahead`, and end before that line
 pub node_on_line : {t : List ℕ} {d : ℕ} {root : BlockTask} {ls : List Layer} {e i k m p : ℕ} {n : ℤ} {c : Ctx} {a : Ahead} {cols : Columns} {ds es : List CommentValue}
     {h o : Option ParsedNode} → NodeAt t d root ls e ds (Below n c a i) h → Chosen (LineEnd t i) k es → LineText t k m p → Begins t n c i k m p → LineColumns n c k m p cols
     → Alone t (asked ls) a i o

@@ -1,5 +1,6 @@
--- A reader of block nodes with a stack after a node that was found whole: its entry ends, or the `:` after its key follows; then the
--- next entry of the innermost collection begins, or that collection ends, and with it perhaps some round it, or a deeper line breaks all.
+-- A reader of block nodes with a stack, after a whole node: its entry ends, or the `:` after its key follows. Then the
+-- next entry of the innermost collection begins; or that collection ends, and perhaps some round it; or a deeper line
+-- breaks all.
 use Rattle.std.proofs.Common.{◌≡◌, ℕ, suc, ◌+◌, Bool, true, List, [], ◌∷◌, Option, Some, None, refl, sym, ap, ◌∙◌, subst, arith}
 use Rattle.yf_grammar.specs.Productions.Grammar.{ColonLine}
 use Rattle.yf_grammar.specs.FlowReader.Parser.{ParsedNode, found}
@@ -16,7 +17,7 @@ use Rattle.yf_grammar.proofs.BlockOutcomes.BlockClaims.{line_unique}
 use Rattle.yf_grammar.proofs.BlockStack.BlockStepEntries.{outcome_halted, question_ends, question_halts}
 use Rattle.yf_grammar.proofs.BlockStack.BlockStackSteps.{made_itself, in_entry_halt, in_key_halt, entry_asked, key_asked, node_broken, node_halted}
 
--- what is made of a node does not end elsewhere
+-- a node made of a node has its end
 pub entry_end : (s : Stage) (f : ParsedNode) → (entry_made s f).end ≡ f.end
 entry_end (Stage.AtItem i) f = refl
 entry_end (AtKey i) f = refl
@@ -59,7 +60,7 @@ entry_after {t} {d} {root} {l} {ls} {e} {at} {x = x} {h = h} {f = f} (in_key {i 
     } in
     subst (λ z. EntryRead t d root l ls e (entry_made z f) at h) (sym k) read
 
--- the entry ends with its node, where that is no key before a `:`
+-- the entry ends with its node, if that is no key before a `:`
 pub entry_was_read : {t : List ℕ} {d : ℕ} {root : BlockTask} {l : Layer} {ls : List Layer} {e at : ℕ} {h : Option ParsedNode} {f : ParsedNode} → NodeRead t d root (l ∷ ls) e f at h
     → (asks l.stage ≡ true → ColonLine t l.column at → ⊥) → EntryRead t d root l ls e (entry_made l.stage f) at h
 entry_was_read s c = entry_after s.around s.whole s.halted s.end s.halt c

@@ -1,4 +1,5 @@
--- A reader of block nodes with a stack keeps the outcomes of `Whole` and `Halts`: what a broken node makes of the outermost one.
+-- A reader of block nodes with a stack keeps the outcomes of `Whole` and `Halts`: the outermost outcome when a node is
+-- broken.
 use Rattle.std.proofs.Common.{◌≡◌, ℕ, ◌+◌, false, List, [], ◌∷◌, length, Option, Some, None, refl, sym, ap, subst, arith}
 use Rattle.yf_grammar.specs.FlowReader.Parser.{ParsedNode}
 use Rattle.yf_grammar.specs.BlockReader.BlockParser.{BlockTask, Item, Whole}
@@ -9,7 +10,7 @@ use Rattle.yf_grammar.specs.BlockReader.BlockSteps.{made_or, as_lone_key}
 use Rattle.yf_grammar.specs.BlockReader.BlockStack.{Layer, AtKey, asks, entry_made, collection_made, rounds, Around, outermost, in_entry, in_key, column_if, asked}
 use Rattle.yf_grammar.proofs.BlockStack.BlockStepEntries.{outcome_halted, question_halts}
 
--- a halt of what is made of it, or one before
+-- a halt of the node made of it, or one before
 pub made_twice : (f g : ParsedNode → ParsedNode) (o r x : Option ParsedNode) → made_or (λ z. g (f z)) (made_or g o r) x ≡ made_or g o (made_or f r x)
 unfolding made_or
 made_twice f g o r None = refl
@@ -32,13 +33,13 @@ unfolding made_or
 in_key_halt ls l i r o None k = refl
 in_key_halt ls l i r o (Some f) k = ap (λ s. Some (rounds ls (collection_made l (entry_made s f)))) (sym k)
 
--- how many collections are open
+-- the number of open collections
 pub room_left : {t : List ℕ} {d : ℕ} {root : BlockTask} {e : ℕ} {inner : BlockTask} {ls : List Layer} {r : Option ParsedNode} → Around t d root ls e inner r → length ls + e ≡ d
 room_left outermost = omega arith
 room_left (in_entry a n y s) = let b = room_left a in omega (arith, b)
 room_left (in_key a n u k s) = let b = room_left a in omega (arith, b)
 
--- the columns that are asked for round a node of an entry that asks for none, and of the key after a `?`
+-- the columns of open `?` entries round the node of an entry that is no such entry, and round the key after a `?`
 pub entry_asked : {t : List ℕ} {e : ℕ} {inner : BlockTask} {o : Option ParsedNode} (ls : List Layer) (l : Layer) → asks l.stage ≡ false → Halts t e (asked (l ∷ ls)) inner o
     → Halts t e (asked ls) inner o
 entry_asked {t} {e} {inner} {o} ls l s h = subst (λ b. Halts t e (column_if b l.column (asked ls)) inner o) s h
@@ -47,7 +48,7 @@ pub key_asked : {t : List ℕ} {e i : ℕ} {inner : BlockTask} {o : Option Parse
     → Halts t e (l.column ∷ asked ls) inner o
 key_asked {t} {e} {inner = inner} {o = o} ls l s h = subst (λ b. Halts t e (column_if (asks b) l.column (asked ls)) inner o) s h
 
--- where no node is found, there is none round it
+-- if no node is found, none is found round it
 pub node_broken : {t : List ℕ} {d : ℕ} {root : BlockTask} {e : ℕ} {inner : BlockTask} {ls : List Layer} {r : Option ParsedNode} → Around t d root ls e inner r → Whole t e inner None
     → Whole t d root None
 node_broken outermost w = w
@@ -56,7 +57,7 @@ node_broken {t} (in_key {e = e} {i = i} {l = l} {q = q} a n u k s) w =
     let missed : Whole t e (Item l.sequence l.column q i) None = subst (λ b. Whole t e (Item b l.column q i) None) (sym s) (question_missed u w) in
     node_broken a (n.awaited.none (items_missed missed))
 
--- and its last halt is the one that was known before, or is made of that of the node
+-- and its last halt is the one known before, or is made of the node's last halt
 pub node_halted : {t : List ℕ} {d : ℕ} {root : BlockTask} {e : ℕ} {inner : BlockTask} {ls : List Layer} {r o : Option ParsedNode} → Around t d root ls e inner r
     → Whole t e inner None → Halts t e (asked ls) inner o → Halts t d [] root (made_or (rounds ls) r o)
 node_halted {t} {d} {root} {o = o} outermost w h = subst (λ z. Halts t d [] root z) (sym (made_itself o)) h

@@ -1,4 +1,5 @@
--- One entry of a block collection, from its awaited node: after `-`, after `:`, after a key, and after the `:` of a `?` entry.
+-- One entry of a block collection, from its awaited node: after `-`, after `:`, after a key, and after the `:` of a `?`
+-- entry.
 use Rattle.std.proofs.Common.{◌≡◌, ℕ, ◌+◌, ◌≤◌, pos, true, false, List, ◌∷◌, Option, Some, None, refl, subst}
 use Rattle.yf_chars.specs.declared.context.Ctx.TheVariants.{BlockOut, BlockIn, FlowOut}
 use Rattle.yf_grammar.specs.Productions.Grammar.{ColonLine}
@@ -9,14 +10,14 @@ use Rattle.yf_grammar.specs.BlockReader.Halts.{NoneAfter, then_found, Halts}
 use Rattle.yf_grammar.specs.BlockReader.Halts.Halts.{halts_dash, halts_question, halts_before_value, halts_value, halts_colon, halts_key}
 use Rattle.yf_grammar.specs.BlockReader.BlockSteps.{TaskAwaited, TaskHalted, made_or, as_item, as_lone_key, as_lone_value, as_value}
 
--- the same task, and a task over another one
+-- from a task to itself, and through a task between two others
 pub awaits_itself : {t : List ℕ} {e : ℕ} {a : BlockTask} → TaskAwaited t e a (λ f. f) e a
 awaits_itself = record { some = λ g w. w; none = λ w. w }
 
 pub halts_itself : {t : List ℕ} {e : ℕ} {ws : List ℕ} {a : BlockTask} → TaskHalted t e ws a (λ f. f) None e ws a
 halts_itself = record { some = λ g h. h; none = λ h. h }
 
--- an outcome, whatever it is
+-- any outcome
 pub outcome_halted : {t : List ℕ} {e d : ℕ} {vs ws : List ℕ} {a b : BlockTask} {f : ParsedNode → ParsedNode} {o r : Option ParsedNode} → TaskHalted t e vs a f o d ws b
     → Halts t e vs a r → Halts t d ws b (made_or f o r)
 unfolding made_or
@@ -71,7 +72,7 @@ unfolding then_found made_or lone_key found
 lone_key_made i None = refl
 lone_key_made i (Some f) = refl
 
--- after `?`: the key is missing; it is all of the entry, where no `:` follows it; and its last halt counts
+-- after `?`: the key is missing; or no `:` follows it, and it is the whole entry; and its last halt counts
 pub question_broken : {t : List ℕ} {e m i : ℕ} {q : Origin} → SignAt t 63 i → Whole t e (Awaited true (pos m) BlockOut (Indicator (i + 1)) (i + 1)) None
     → Whole t e (Item false m q i) None
 question_broken s w = question_missed s w
@@ -86,8 +87,8 @@ pub question_halts : {t : List ℕ} {e m i : ℕ} {ws : List ℕ} {q : Origin} {
     → Halts t e (m ∷ ws) (Awaited true (pos m) BlockOut (Indicator (i + 1)) (i + 1)) o → Halts t e ws (Item false m q i) (made_or (as_lone_key i) None o)
 question_halts {t} {e} {m} {i} {ws} {q} {o = o} s w c h = subst (λ z. Halts t e ws (Item false m q i) z) (lone_key_made i o) (halts_question s w c h)
 
--- after the `:` of an entry with a `?` whose key was found; where the value has no end, the key alone counts, up to its last halt
--- before that `:`
+-- after the `:` of an entry with a `?` whose key was found; if the value has no end, only the key counts, up to its
+-- last halt before that `:`
 pub value_awaits : {t : List ℕ} {e m i : ℕ} {q : Origin} {f : ParsedNode} → SignAt t 63 i
     → Whole t e (Awaited true (pos m) BlockOut (Indicator (i + 1)) (i + 1)) (Some f) → ColonLine t m f.end
     → TaskAwaited t e (Awaited true (pos m) BlockOut (Indicator (f.end + m + 1)) (f.end + m + 1)) (as_value i (f.end + m) f) e (Item false m q i)

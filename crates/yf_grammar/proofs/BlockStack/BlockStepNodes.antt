@@ -1,5 +1,5 @@
--- A block node from where it is awaited to what is on its line: a later line, properties on hold, a leaf, or the entries of a
--- collection, and from those to further ones.
+-- The steps from an awaited block node to its line: a later line, held properties, a leaf, or the entries of a
+-- collection, and from those to further entries.
 use Rattle.std.proofs.Common.{◌≡◌, ℕ, suc, ◌<◌, ℤ, pos, Bool, true, false, List, Option, Some, None, refl, subst}
 use Rattle.yf_chars.specs.declared.context.Ctx.{Ctx}
 use Rattle.yf_chars.specs.declared.context.Ctx.TheVariants.{FlowKey}
@@ -18,7 +18,7 @@ use Rattle.yf_grammar.specs.FlowReader.Parser.{ParsedNode, found}
 use Rattle.yf_grammar.specs.BlockReader.BlockAwaits.{after_entries, ItemsAwaited, ItemsHalted}
 use Rattle.yf_grammar.specs.BlockReader.BlockSteps.{TaskAwaited, TaskHalted, as_collection, as_outcome}
 
--- where the node is awaited: on a later line, or on this one
+-- the node is on a later line, or on this one
 pub below_awaits : {t : List ℕ} {e i k : ℕ} {b : Bool} {n : ℤ} {c : Ctx} {a : Ahead} {ds : List CommentValue} → Chosen (LineEnd t i) k ds
     → TaskAwaited t e (Below n c a i) (λ f. f) e (Awaited b n c a i)
 below_awaits l = record { some = λ g w. awaited_below l w; none = λ w. awaited_below l w }
@@ -42,7 +42,7 @@ told_made Nothing ds f = refl
 told_made (Indicator i) ds f = refl
 told_made (Props h) ds f = refl
 
--- on a later line: where what is there has no end, what is ahead may be alone
+-- on a later line: if the node there has no end, the outcome may be only the `Ahead`
 pub line_awaits : {t : List ℕ} {e i k m p : ℕ} {n : ℤ} {c : Ctx} {a : Ahead} {cols : Columns} {ds : List CommentValue} → Chosen (LineEnd t i) k ds
     → LineText t k m p → Begins t n c i k m p → LineColumns n c k m p cols
     → TaskAwaited t e (Inline n c cols (past a ds) p) (as_outcome a ds) e (Below n c a i)

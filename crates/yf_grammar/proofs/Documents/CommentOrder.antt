@@ -1,4 +1,5 @@
--- The comments of what is derived are in the order of the text, each within what derives it, and each is its sign with the characters after it.
+-- The comments of a derived part are in text order, each within its production's span, and each is its sign with the
+-- characters after it.
 use Rattle.std.proofs.Common.{◌≡◌, ℕ, ℤ, ◌+◌, ◌≤◌, Bool, true, false, List, [], ◌∷◌, ◌++◌, Option, slice_range, refl, ⊎_elim, arith}
 use Rattle.std.proofs.lemmas.Bool.{cases_Bool}
 use Rattle.yf_chars.specs.declared.context.Ctx.{Ctx}
@@ -46,7 +47,7 @@ use Rattle.yf_grammar.proofs.Ends.Forward.{in_line_forward}
 use Rattle.yf_grammar.proofs.FlowReader.PlainEnds.{plain_later}
 use Rattle.yf_grammar.proofs.FlowReader.QuotedEnds.{single_later, double_later}
 
--- a comment at a place: # and the characters after it
+-- a comment at an offset: # and the characters after it
 pub record CommentIsAt (t : List ℕ) (i : ℕ) (text : List ℕ) : Type 0 where
   pub sign : code t i ≡ 35
   pub end : ℕ
@@ -54,7 +55,7 @@ pub record CommentIsAt (t : List ℕ) (i : ℕ) (text : List ℕ) : Type 0 where
   pub chain : Many t is_nb_char (i + 1) end characters
   pub is : text ≡ slice_range t i end
 
--- comments of a text in order, from one place up to another
+-- comments of a text in order, from one offset to another
 pub data Ascend (t : List ℕ) : ℕ → List CommentValue → ℕ → Type 0 where
   no_more : {i j : ℕ} → i ≤ j → Ascend t i [] j
   one_more : {i j : ℕ} {c : CommentValue} {cs : List CommentValue} → i ≤ c.offset → CommentIsAt t c.offset c.text → Ascend t (c.offset + 1) cs j
@@ -164,7 +165,7 @@ module _ {t : List ℕ} where
   pub scalar_ascends : {n : ℤ} {i j : ℕ} {x : Meaning} → BlockScalar t n i j x → Ascend t i x.comments j
   scalar_ascends (block_scalar h b l) = ascend_join (header_ascends h) (body_ascends b)
 
-  -- of all productions
+  -- for all productions
   pub derived_ascends : {h i j : ℕ} {p : Production} {x : Meaning} → Derives t h p i j x → Ascend t i x.comments j
   unfolding meaning_after noting ◌⊕◌ collection with_props entering scalar alias_to empty_node
   derived_ascends (flow_node d) = derived_ascends d

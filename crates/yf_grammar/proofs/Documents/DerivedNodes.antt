@@ -1,5 +1,5 @@
--- What the reader of block nodes finds where it is called, whole or up to its last halt, is a node that is derived within the
--- limit and covers no forbidden line; so the last halt is the longest part.
+-- If the reader of block nodes finds a node at its outermost call, whole or up to its last halt, the node is derived
+-- within the limit and covers no forbidden line. So the last halt is the longest part.
 use Rattle.std.proofs.Common.{◌≡◌, ℕ, ◌≤◌, ℤ, true, false, List, [], Option, Some, None, refl, sym, true≢false}
 use Rattle.std.specs.Str.{IsUtf8}
 use Rattle.yf_chars.specs.declared.context.Ctx.{Ctx}
@@ -21,7 +21,7 @@ use Rattle.yf_grammar.proofs.BlockReader.HaltsSound.{halts_sound}
 use Rattle.yf_grammar.proofs.BlockReader.SoundSteps.{Width}
 use Rattle.yf_grammar.proofs.BlockReader.WholeSound.{whole_sound}
 
--- what was found from i on is a block node
+-- the outcome from i on is a block node
 pub record NodeFound (t : List ℕ) (e : ℕ) (n : ℤ) (c : Ctx) (i : ℕ) (f : ParsedNode) : Type 0 where
   pub derived : Derives t f.height (BlockNode n c) i f.end f.meaning
   pub within : f.height ≤ e

@@ -1,5 +1,5 @@
--- A document's node and the comment lines after it, up to a place where no line of it can begin: the reader takes them with the node,
--- unless it ends with a block scalar.
+-- A document's node and the comment lines after it, up to an offset at which no line of it can begin: the reader takes
+-- them with the node, unless it ends with a block scalar.
 use Rattle.std.proofs.Common.{◌≡◌, ℕ, ℤ, ◌<◌, ◌≤◌, Bool, true, false, ⊎_elim, List, [], Option, refl, sym, ap, ◌∙◌, subst, arith, true≢false}
 use Rattle.std.proofs.lemmas.Bool.{cases_lt}
 use Rattle.std.specs.Str.{IsUtf8}
@@ -22,7 +22,7 @@ use Rattle.yf_grammar.proofs.BlockOutcomes.BlockStatements.{node_is_found}
 use Rattle.yf_grammar.proofs.FlowReader.ClearLemmas.{clear_rest}
 use Rattle.yf_grammar.proofs.WrittenTexts.LeafBack.{noting_nothing}
 
--- what is found of a node that ends at j and after which comment lines stand up to k
+-- the outcome for a node that ends at j, with comment lines after it up to k
 pub data DocumentFound (h j k : ℕ) (es : List CommentValue) (x : Meaning) (o : Option ParsedNode) : Bool → Type 0 where
   takes_lines : o ≡ found k h false (noting x es) → DocumentFound h j k es x o false
   leaves_lines : o ≡ found j h false x → DocumentFound h j k es x o true
@@ -32,7 +32,7 @@ module _ {t : List ℕ} where
   clear_rows {i} u done = clear_nothing t i
   clear_rows u (step r c) = clear_join (clear_rest u r.rest) (clear_rows u c)
 
-  -- no line of a node begins where comment lines do, nor where none can
+  -- no line of a node begins at comment lines, nor at an offset with `LinesEnd`
   no_line_there : {j k m p : ℕ} {es : List CommentValue} → Chain (Row t) j k es → LinesEnd t k → LineText t j m p → ⊥
   no_line_there done l w = w.goes_on l
   no_line_there (step {h = h} {x = x} r c) l w = (line_still w).none h x r

@@ -1,4 +1,4 @@
--- Runs of white space and breaks: what a separation begins with, and the characters of a plain scalar after them.
+-- Runs of white space and breaks: the starts of separations, and the characters of a plain scalar after such runs.
 use Rattle.std.proofs.Common.{◌≡◌, ◌≢◌, ℕ, ℤ, ◌+◌, ◌<◌, ◌≤◌, Bool, true, false, ◌||◌, ◌⊎◌, inl, inr, ⊎_elim, List, [], ◌∷◌, ◌++◌, refl, sym, ap, ◌∙◌, subst, arith, true≢false}
 use Rattle.std.proofs.lemmas.Bool.{cases_Bool, cases_eq}
 use Rattle.std.proofs.lemmas.Bool.Decides.{nat_tests}
@@ -136,8 +136,8 @@ module _ {t : List ℕ} where
   blanks_of_fold (at_break d p) = blanks_join (blanks_of_folded d) (blanks_of_prefix p)
   blanks_of_fold (past_whites s d p) = blanks_join (blanks_of_line s) (blanks_join (blanks_of_folded d) (blanks_of_prefix p))
 
--- what a separation begins with: it is blank throughout, or a comment is after the first blanks, and where there are
--- none a line begins
+-- the start of a separation: it is blank throughout, or a comment follows the first blanks; if there are no blanks, a
+-- line begins at the comment
 pub data Front (t : List ℕ) (i j : ℕ) : Type 0 where
   all_blank : Blanks t i j → Front t i j
   hash_at : (h : ℕ) → Blanks t i h → code t h ≡ 35 → (i ≡ h → LineStart t i) → Front t i j
@@ -180,7 +180,7 @@ module _ {t : List ℕ} where
   separate_front (in_key e s) = all_blank (blanks_of_line s)
   separate_front (in_node e s) = separate_lines_front s
 
--- a character of content ends at the place
+-- a character of content ends at the offset
 pub record ContentBefore (t : List ℕ) (k : ℕ) : Type 0 where
   pub at : ℕ
   pub char : ℕ
@@ -190,7 +190,7 @@ pub record ContentBefore (t : List ℕ) (k : ℕ) : Type 0 where
 pub after_byte : {t : List ℕ} (i : ℕ) {b : ℕ} → IsUtf8 t → code t i ≡ b → b < 128 → is_ns_char b ≡ true → ContentBefore t (i + 1)
 after_byte {t} i {b} u e l n = record { at = i; char = b; reads = reads_byte t i b u e l; ns = n }
 
--- after such a character no line begins
+-- no line begins after such a character
 pub no_start_past : {t : List ℕ} {k : ℕ} → IsUtf8 t → ContentBefore t k → LineStart t k → ⊥
 no_start_past {t} {k} u b s =
     let r = b.reads in
@@ -204,7 +204,7 @@ no_start_past {t} {k} u b s =
     (λ (e : w.1 ≡ 0xFEFF). true≢false (sym n ∙ ap is_ns_char e ∙ mark_no_ns)) o) w.3)
     (line_start_after u s)
 
--- after blanks no character of content ends
+-- no character of content ends after blanks
 pub blanks_after : {t : List ℕ} {i j : ℕ} {x : List ℕ} → IsUtf8 t → Many t is_blank i j x → (i ≡ j) ⊎ (is_ns_char (before t j) ≡ false)
 blanks_after u done = inl refl
 blanks_after {t} {j = j} u (step (one {i = i} e) c) =

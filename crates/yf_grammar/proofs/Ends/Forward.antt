@@ -1,4 +1,4 @@
--- Parts of scalars and separations end after their start, or at it where they may be empty.
+-- Parts of scalars and separations end after their start, or at it if they may be empty.
 use Rattle.std.proofs.Common.{ℕ, ℤ, ◌<◌, ◌≤◌, List, arith}
 use Rattle.yf_chars.specs.declared.context.Ctx.{Ctx}
 use Rattle.yf_chars.specs.declared.context.Ctx.TheVariants.{FlowIn}

@@ -1,4 +1,4 @@
--- The longest separation from a place, where what is after a separation is known.
+-- The longest separation from an offset, if the text after a separation is known.
 use Rattle.std.proofs.Common.{◌≡◌, ◌≢◌, ℕ, ℤ, ◌<◌, ◌≤◌, true, false, ◌⊎◌, inl, ⊎_elim, List, [], ◌++◌, length, refl, sym, ap, ◌∙◌, subst, arith, true≢false, append-nil}
 use Rattle.std.proofs.lemmas.Bool.{cases_lt}
 use Rattle.std.specs.Str.{IsUtf8}
@@ -33,7 +33,7 @@ use Rattle.yf_grammar.specs.FlowReader.Parser.Gap.{longest_gap, no_gap}
 use Rattle.yf_grammar.proofs.Ends.BlankRuns.{ContentBefore, no_start_past}
 use Rattle.yf_chars.proofs.CharFacts.{feed_no_ns}
 
--- a character that begins no separation is at the place
+-- a character that begins no separation is at the offset
 pub record Visible (t : List ℕ) (k : ℕ) : Type 0 where
   pub ns : is_ns_char (code t k) ≡ true
   pub no_hash : code t k ≢ 35
@@ -57,7 +57,7 @@ module _ {t : List ℕ} where
   pub visible_apparent : {k : ℕ} → Visible t k → Apparent t k
   visible_apparent v = record { white = not_white_at v; hash = v.no_hash; ends = no_end_at v }
 
-  -- no white space and no row begin there
+  -- neither white space nor a row begins there
   still_whites : {k m : ℕ} {w : List ℕ} → Visible t k → Many t is_white k m w → m ≡ k
   still_whites {k} {m} {w} v c =
       let l = (many_chosen t is_white (done {i = k}) (not_white_at v)).longest m w c in
@@ -84,7 +84,7 @@ module _ {t : List ℕ} where
   still_lines v (in_line s) = (still_line v s, refl)
   still_lines v (over_lines d p) = still_over v (still_rows v (line_end_rows d)) p
 
-  -- a separation from there goes nowhere
+  -- a separation at a visible character is empty
   pub separate_still : {n : ℤ} {c : Ctx} {k m : ℕ} {x : List CommentValue} → Visible t k → Separate t n c k m x → (m ≡ k) × (x ≡ [])
   separate_still v (in_key e s) = (still_line v s, refl)
   separate_still v (in_node e s) = still_lines v s
@@ -101,7 +101,7 @@ module _ {t : List ℕ} where
   started_lines v (in_line s) = started_line v s
   started_lines v (over_lines d p) = started_end v d
 
-  -- and there is one at the start of a line alone
+  -- a separation at a visible character is at the start of a line
   pub separate_started : {n : ℤ} {c : Ctx} {k m : ℕ} {x : List CommentValue} → Visible t k → Separate t n c k m x → LineStart t k
   separate_started v (in_key e s) = started_line v s
   separate_started v (in_node e s) = started_lines v s
@@ -110,7 +110,7 @@ module _ {t : List ℕ} where
   no_separate_after u b v = record { none = λ j x s. no_start_past u b (separate_started v s) }
 
 module _ {t : List ℕ} {n : ℤ} {c : Ctx} where
-  -- what separates, and what follows is visible: the reader's gap is the same
+  -- a separation before a visible character is the reader's gap
   pub gap_is : {k l m : ℕ} {cs ds : List CommentValue} → Visible t l → MaySeparate t n c k l cs → Gap t n c k m ds → (m ≡ l) × (ds ≡ cs)
   gap_is v unseparated (no_gap s) = (refl, refl)
   gap_is v unseparated (longest_gap d) = separate_still v d.derived
@@ -125,7 +125,7 @@ module _ {t : List ℕ} {n : ℤ} {c : Ctx} where
       let a = apparent_last s (visible_apparent v) r in
       let b = apparent_last r (visible_apparent w) s in omega arith
 
--- one separation after another is one
+-- two separations in sequence are one
 module _ {t : List ℕ} where
   line_join : {i j k : ℕ} → SeparateInLine t i j → SeparateInLine t j k → SeparateInLine t i k
   line_join (at_start s) d = d
@@ -137,7 +137,7 @@ module _ {t : List ℕ} where
   rest_join s (whites r e) = whites (line_join s r) e
   rest_join s (comment r d e) = comment (line_join s r) d e
 
-  -- after a line's rest a line begins, or nothing is left
+  -- a line begins after a line's rest, or nothing is left
   pub rows_next : {i j : ℕ} {x : List CommentValue} → LineStart t i ⊎ (i ≡ length t) → Chain (Row t) i j x → LineStart t j ⊎ (j ≡ length t)
   rows_next s done = s
   rows_next s (step r c) = rows_next (rest_next r.rest) c

@@ -1,5 +1,5 @@
--- What cannot be refuted: facts that follow from it and that a test could tell, such as that two numbers are one, hold. So cases may be
--- taken of any fact, whether or not a test of it is at hand.
+-- Facts that cannot be refuted. If such a fact implies a fact that a test can decide, for example that two numbers are
+-- equal, the latter holds. So a proof may take cases of any fact, with or without a test of it.
 use Rattle.std.proofs.Common.{◌≡◌, ℕ, suc, zero, ◌<◌, ◌≤◌, ⊎_elim, subst, arith}
 use Rattle.std.proofs.lemmas.Bool.{cases_lt}
 use Rattle.yf_chars.specs.Chain.{Stuck, Chosen}
@@ -16,7 +16,7 @@ then a f = record { held = λ n. a.held (λ x. (f x).held n) }
 pub by_cases : (A : Type 0) {B : Type 0} → (A → Irrefutable B) → ((A → ⊥) → Irrefutable B) → Irrefutable B
 by_cases A f g = record { held = λ n. (g (λ a. (f a).held n)).held n }
 
--- the longest part of a production, with its one meaning, or that there is none
+-- the longest part of a production, with its one meaning, or no part
 pub data ChosenOrStuck {X : Type 0} (P : ℕ → X → Type 0) : Type 0 where
   reached : (j : ℕ) (x : X) → Chosen P j x → ChosenOrStuck P
   unreached : Stuck P → ChosenOrStuck P
@@ -32,7 +32,7 @@ record Ends {X : Type 0} (P : ℕ → X → Type 0) (j : ℕ) : Type 0 where
   derived : P j meaning
 
 module _ {X : Type 0} (P : ℕ → X → Type 0) where
-  -- where each part has one end and one meaning
+  -- if all parts have one end and one meaning
   pub one_reached : ((j k : ℕ) (x y : X) → P j x → P k y → (k ≡ j) × (y ≡ x)) → Irrefutable (ChosenOrStuck P)
   one_reached one = by_cases (Part P)
       (λ p. sure (reached p.end p.meaning (record {
@@ -62,7 +62,7 @@ module _ {X : Type 0} (P : ℕ → X → Type 0) where
   farthest : (b : ℕ) → ((j : ℕ) (x : X) → P j x → j ≤ b) → ((j : ℕ) (x y : X) → P j x → P j y → y ≡ x) → Ends P b → Irrefutable (ChosenOrStuck P)
   farthest b far one p = sure (reached b p.meaning (record { derived = p.derived; longest = far; only = λ y d. one b p.meaning y p.derived d }))
 
-  -- where the ends are bounded, and parts with one end have one meaning
+  -- if the ends are bounded, and parts with one end have one meaning
   pub bounded_reached : (b : ℕ) → ((j : ℕ) (x : X) → P j x → j ≤ b) → ((j : ℕ) (x y : X) → P j x → P j y → y ≡ x) → Irrefutable (ChosenOrStuck P)
   bounded_reached zero far one = by_cases (Ends P 0) (λ p. farthest 0 far one p) (λ n. sure (unreached (unended far n)))
   bounded_reached (suc b) far one = by_cases (Ends P (suc b)) (λ p. farthest (suc b) far one p) (λ n. bounded_reached b (lower b far n) one)

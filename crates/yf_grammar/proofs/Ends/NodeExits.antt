@@ -1,4 +1,4 @@
--- What the reader finds at a place where an alias, a plain scalar, content or properties are derived.
+-- The outcomes of the reader at an alias, a plain scalar, content or properties.
 use Rattle.std.proofs.Common.{◌≡◌, ℕ, ℤ, Bool, true, false, List, [], ◌++◌, Option, Some, None, refl, ap, ◌∙◌, subst, arith, encode_utf8_all}
 use Rattle.std.proofs.lemmas.Bool.Decides.{nat_tests}
 use Rattle.yf_chars.specs.declared.context.Ctx.{Ctx}
@@ -108,7 +108,7 @@ module _ {t : List ℕ} where
   node_content {n = n} {c = c} {i = i} {o = o} Q p f (properties_before_broken a s b r) = absurd (content_no_properties (code t i) p (properties_begin a.derived))
   node_content {n = n} {c = c} {i = i} {o = o} Q p f (properties_before_other a s b r) = absurd (content_no_properties (code t i) p (properties_begin a.derived))
 
--- what is found after the properties that end at g
+-- the outcome after the properties that end at g
 pub data PastProperties (t : List ℕ) (e : ℕ) (n : ℤ) (c : Ctx) (i g : ℕ) (p : PropertiesValue) (o : Option ParsedNode) : Type 0 where
   past_to_content : (k : ℕ) (cs : List CommentValue) (f : ParsedNode) → Chosen (Separate t n c g) k cs → begins_content (code t k) ≡ true
       → Parses t e (AContent n c k) (Some f) → o ≡ propertied p cs i g f → PastProperties t e n c i g p o
@@ -138,7 +138,7 @@ module _ {t : List ℕ} where
   node_properties {n = n} {c = c} {i = i} {o = o} d (properties_before_broken {g = g} {k = k} {p = p} {cs = cs} a s b r) = (g, p, a, past_to_broken k cs s b r refl)
   node_properties {n = n} {c = c} {i = i} {o = o} d (properties_before_other {g = g} {k = k} {p = p} {cs = cs} a s b r) = (g, p, a, past_to_other k cs s b r refl)
 
-  -- and where they are known
+  -- and after known properties
   pub past_properties : {e : ℕ} {n : ℤ} {c : Ctx} {i : ℕ} {o : Option ParsedNode} {j : ℕ} {x : PropertiesValue} → Properties t n c i j x
       → ((g : ℕ) (p : PropertiesValue) → Chosen (Properties t n c i) g p → (g ≡ j) × (p ≡ x)) → Parses t e (ANode n c i) o → PastProperties t e n c i j x o
   past_properties {e = e} {n = n} {c = c} {i = i} {o = o} {j = j} {x = x} d same r =

@@ -1,5 +1,5 @@
--- A node that the recursive reader found, with the notes of its entries filled in, is what the readers of nodes give: it is
--- the longest one; and where it found none there is none.
+-- A node that the recursive reader found, with the notes of its entries filled in, is the longest one, as the readers
+-- of nodes promise. If it found none, none is derived.
 use Rattle.std.proofs.Common.{◌≡◌, ℕ, ℤ, pos, ◌<◌, ◌≤◌, Bool, false, ◌⊎◌, ⊎_elim, arith, List, ◌∷◌, Some, None, refl, sym, ap, ◌∙◌, subst}
 use Rattle.std.specs.Str.{IsUtf8}
 use Rattle.yf_chars.specs.declared.context.Ctx.{Ctx}
@@ -53,7 +53,7 @@ pub found_is_key : {t : List ℕ} {e i : ℕ} {c : Ctx} {f : ParsedNode} {part :
     → Noting t 0 f.meaning.events part.events → part.comments ≡ f.meaning.comments → part.escapes ≡ f.meaning.escapes → KeyPart t e c i f.end part
 found_is_key {f = f} u b p events comments escapes = key_node f.json (found_is_part u b p events comments escapes)
 
--- there is one way to note
+-- a note has one value
 noted_one : {t : List ℕ} {floor i : ℕ} {a b : Bool} → NotedSince t floor i a → NotedSince t floor i b → a ≡ b
 noted_one (noted x) (noted y) = refl
 noted_one (noted x) (not_noted n) = absurd (n x)
@@ -76,7 +76,7 @@ part_one p q a b c =
     let put : List EventInText → List CommentValue → List ℕ → Part = λ x y z. record { events = x; comments = y; escapes = z } in
     ap (λ x. put x p.comments p.escapes) a ∙ ap (λ y. put q.events y p.escapes) b ∙ ap (λ z. put q.events q.comments z) c
 
--- what is found, against a flow node that is derived there within the limit: it ends later, or is the same
+-- the outcome ends after each other flow node that is derived there within the limit
 module _ {t : List ℕ} {e i : ℕ} {n : ℤ} {c : Ctx} {f : ParsedNode} where
   flow_far : {h k : ℕ} {x : Meaning} → IsUtf8 t → is_block c ≡ false → Parses t e (ANode n c i) (Some f) → h ≤ e → Derives t h (FlowNode n c) i k x → Clear t i k
       → (k < f.end) ⊎ ((k ≡ f.end) × (x ≡ f.meaning))
@@ -90,7 +90,7 @@ module _ {t : List ℕ} {e i : ℕ} {n : ℤ} {c : Ctx} {f : ParsedNode} where
   flow_only {x = x} u b p l d a =
       ⊎_elim (λ (q : f.end < f.end). absurd (omega arith)) (λ (q : (f.end ≡ f.end) × (x ≡ f.meaning)). q.1) (flow_far u b p l d a)
 
-  -- what was found is the longest flow node there, and means one thing
+  -- the outcome is the longest flow node there, and has one meaning
   pub found_is_chosen : {part : Part} → IsUtf8 t → is_block c ≡ false → Parses t e (ANode n c i) (Some f) → Noting t 0 f.meaning.events part.events
       → part.comments ≡ f.meaning.comments → part.escapes ≡ f.meaning.escapes → Chosen (FlowNodePart t e n c i) f.end part
   found_is_chosen {part} u b p events comments escapes = record {
@@ -102,7 +102,7 @@ module _ {t : List ℕ} {e i : ℕ} {n : ℤ} {c : Ctx} {f : ParsedNode} where
         part_one y part (noting_one noting' events) (d.comments ∙ ap (λ x. x.comments) m ∙ sym comments) (d.escapes ∙ ap (λ x. x.escapes) m ∙ sym escapes);
   }
 
--- where nothing was found there is no flow node
+-- if the outcome is `None`, no flow node is derived
 module _ {t : List ℕ} {e i : ℕ} {n : ℤ} {c : Ctx} where
   nothing_flows : {h k : ℕ} {x : Meaning} → IsUtf8 t → is_block c ≡ false → Parses t e (ANode n c i) None → h ≤ e → Derives t h (FlowNode n c) i k x → Clear t i k → ⊥
   nothing_flows u b p l (flow_node d) a = nothing_is_derived u b l d a p
@@ -110,7 +110,7 @@ module _ {t : List ℕ} {e i : ℕ} {n : ℤ} {c : Ctx} where
   pub none_is_stuck : IsUtf8 t → is_block c ≡ false → Parses t e (ANode n c i) None → Stuck (FlowNodePart t e n c i)
   none_is_stuck u b p = record { none = λ k y d. nothing_flows u b p d.within d.derived d.clear }
 
--- the same for the node of an implicit key, which is a flow node
+-- likewise for the node of an implicit key, which is a flow node
 key_flow : {t : List ℕ} {e i k : ℕ} {c : Ctx} {part : Part} → KeyPart t e c i k part → FlowNodePart t e (pos 0) c i k part
 key_flow (key_node json d) = record {
   height = d.height;

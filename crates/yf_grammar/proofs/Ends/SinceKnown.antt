@@ -1,4 +1,4 @@
--- Whether a blank line is before a place and after a floor is known of every text.
+-- For each text, a blank line is before an offset and after a floor, or none is.
 use Rattle.std.proofs.Common.{◌≡◌, ℕ, zero, suc, ◌<◌, ◌≤◌, Bool, true, false, ◌⊎◌, inl, inr, ⊎_elim, List, refl, sym, ◌∙◌, subst, arith}
 use Rattle.std.proofs.lemmas.Bool.{cases_lt}
 use Rattle.std.specs.Str.{IsUtf8}
@@ -67,7 +67,8 @@ pub note_since_known : (t : List ℕ) (floor i : ℕ) → IsUtf8 t → (b : Bool
 note_since_known t floor i u =
     ⊎_elim (λ (d : BlankSince t floor i). (true, noted d)) (λ (not_so : BlankSince t floor i → ⊥). (false, not_noted not_so)) (since_known t floor i i u (omega arith))
 
--- a line of white space alone that begins after the floor is one; where no blank line is before a place, none is after a floor
+-- a line of only white space that begins after the floor is one; if no blank line is before an offset, none is after a
+-- floor
 pub since_after : {t : List ℕ} {floor h i j : ℕ} → floor ≤ i → Break t h i → Break t i j → BlankSince t floor j
 since_after l a b = blank_line l (break_ends a) b
 

@@ -1,4 +1,4 @@
--- Going back from a place to a floor over white space, breaks and marks, as long as no blank line is met.
+-- The walk back from an offset to a floor over white space, breaks and marks, as long as it meets no blank line.
 use Rattle.std.proofs.Common.{◌≡◌, ◌≢◌, ℕ, ◌+◌, ◌-◌, ◌<◌, ◌≤◌, Bool, true, false, ◌⊎◌, inl, inr, ⊎_elim, List, refl, sym, ap, ◌∙◌, subst, arith, true≢false}
 use Rattle.std.proofs.lemmas.Bool.{cases_lt}
 use Rattle.std.specs.Str.{IsUtf8}
@@ -17,12 +17,13 @@ use Rattle.yf_grammar.specs.Productions.ReadParts.NotedSince.{noted, not_noted}
 use Rattle.yf_grammar.proofs.Ends.SinceKnown.{since_before}
 use Rattle.yf_chars.proofs.CharFacts.{feed_no_white}
 
--- what is left to find from a place on: a blank line, or what begins a line of which white space and a break are after
+-- the walk back still has to find, from j on: a blank line, or, if white space and a break follow, a line that is blank
+-- up to j
 abbrev pub EndsSince : List ℕ → ℕ → ℕ → Bool → Type 0
 EndsSince t floor j true = Blank t j ⊎ BlankSince t floor j
 EndsSince t floor j false = BlankSince t floor j
 
--- the walk back from i has come to j
+-- the walk back from i has reached j
 pub record WalkedSince (t : List ℕ) (floor i j : ℕ) (blank : Bool) : Type 0 where
   pub there : EndsSince t floor j blank → BlankSince t floor i
   pub back : BlankSince t floor i → EndsSince t floor j blank
@@ -71,7 +72,7 @@ module _ (t : List ℕ) (u : IsUtf8 t) (floor : ℕ) where
   since_over_break (lone_lf {i = h} p q) i c v f =
       subst (λ k. BlankSince t floor k) (same_place t i h u (gap_below (code t i) v) (omega arith) (f ∙ sym (next_ascii t h (omega arith)))) c
 
-  -- going back over a break, and on over it
+  -- the walk back over a break, and further over it
   since_past_break : {h j : ℕ} → Break t h j → BlankSince t floor j → Blank t h ⊎ BlankSince t floor h
   since_past_break {h} b d = since_cases d
       (λ i c k. inl (subst (λ v. Blank t v) (start_unique t u k b) c))
@@ -94,7 +95,7 @@ module _ (t : List ℕ) (u : IsUtf8 t) (floor : ℕ) where
         let same = same_place t i h u (omega (arith, white_below (code t i) v)) (omega arith) (f ∙ sym (next_ascii t h (omega arith))) in
         white_not _ 13 white_cr v (ap (code t) same ∙ c)
 
-  -- a break that ends after a place up to which a line is blank does not begin before it
+  -- a break that ends after an offset up to which a line is blank does not begin before it
   break_within : {h j : ℕ} → Blank t floor → floor < j → Break t h j → floor ≤ h
   break_within c l (cr_lf {i = h} p q) = ⊎_elim
       (λ (b : h < floor). let e : floor ≡ h + 1 = omega arith in absurd (no_blank_within h p q (subst (λ k. Blank t k) e c)))
@@ -166,7 +167,7 @@ module _ (t : List ℕ) (u : IsUtf8 t) (floor : ℕ) where
         not_noted (λ d. ⊎_elim (λ (e : Blank t j). no_blank t u j z w n e) (λ (e : BlankSince t floor j). no_before t u j w m n k.outside (since_before e)) (k.back d))
     since_none false z w m n k = not_noted (λ d. no_before t u j w m n k.outside (since_before (k.back d)))
 
-    -- the walk has come to the floor
+    -- the walk has reached the floor
     pub since_end : (b : Bool) → (floor < i → Blank t floor) → j ≤ floor → WalkedSince t floor i j b → NotedSince t floor i b
     since_end true c l k =
         let e : floor ≡ j = let h = k.high refl in omega arith in

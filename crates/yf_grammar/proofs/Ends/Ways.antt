@@ -1,5 +1,5 @@
--- Ways to an outcome: a test, the longest part of a leaf production, or the outcome of another task decides how to go on.
--- Two ways of one form lead to one outcome.
+-- Ways to an outcome: a test, the longest part of a leaf production, or the outcome of another task decides the next
+-- step. Two ways of one form lead to one outcome.
 use Rattle.std.proofs.Common.{◌≡◌, ℕ, suc, ℤ, Bool, List, Option, Some, None, refl, sym, ◌∙◌, subst, arith}
 use Rattle.yf_chars.specs.declared.context.Ctx.{Ctx}
 use Rattle.yf_chars.specs.Chain.{Chosen, Stuck}
@@ -15,7 +15,7 @@ pub record Agree (A B : Option ParsedNode → Type 0) : Type 0 where
 pub record Is (r o : Option ParsedNode) : Type 0 where
   pub known : o ≡ r
 
--- there is no outcome
+-- no outcome
 abbrev pub Never : Option ParsedNode → Type 0
 Never o = ⊥
 
@@ -24,7 +24,7 @@ pub data Fork (P Q : Type 0) (A B : Option ParsedNode → Type 0) (o : Option Pa
   one_way : P → A o → Fork P Q A B o
   other_way : Q → B o → Fork P Q A B o
 
--- the longest part decides, or that there is none
+-- the longest part decides, or that no part is derived
 pub data Takes {X : Type 0} (P : ℕ → X → Type 0) (A : ℕ → X → Option ParsedNode → Type 0) (B : Option ParsedNode → Type 0) (o : Option ParsedNode) : Type 0 where
   taken : (j : ℕ) (x : X) → Chosen P j x → A j x o → Takes P A B o
   not_taken : Stuck P → B o → Takes P A B o
@@ -43,7 +43,7 @@ pub data Limited (e : ℕ) (A : ℕ → Option ParsedNode → Type 0) (B : Optio
   below : (d : ℕ) → e ≡ suc d → A d o → Limited e A B o
   at_zero : e ≡ 0 → B o → Limited e A B o
 
--- a place decides, of which there is one at most
+-- an offset decides; at most one has the property
 pub data Somewhere (P : ℕ → Type 0) (A : ℕ → Option ParsedNode → Type 0) (B : Option ParsedNode → Type 0) (o : Option ParsedNode) : Type 0 where
   there : (k : ℕ) → P k → A k o → Somewhere P A B o
   nowhere : ((k : ℕ) → P k → ⊥) → B o → Somewhere P A B o

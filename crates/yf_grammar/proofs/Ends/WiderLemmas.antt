@@ -1,5 +1,5 @@
--- What is in a key inside of a flow collection is in each context of one, and what is in a key of a block mapping in
--- a flow node: keys are read once, as nodes.
+-- A part that is derived in a key inside of a flow collection is derived in each context of one, and a part in a key of
+-- a block mapping is derived in a flow node. So the reader reads keys once, as nodes.
 use Rattle.std.proofs.Common.{◌≡◌, ℕ, ℤ, Bool, true, false, ⊎_elim, List, [], refl, sym, ◌∙◌, subst, true≢false, append-nil}
 use Rattle.std.proofs.lemmas.Bool.{cases_Bool}
 use Rattle.std.specs.Str.{IsUtf8}
@@ -27,8 +27,8 @@ use Rattle.yf_grammar.specs.Productions.Grammar.MaySeparate.{unseparated, separa
 use Rattle.yf_grammar.specs.Productions.Grammar.MaySeparateInLine.{unseparated_in_line, separated_in_line}
 use Rattle.yf_grammar.proofs.FlowReader.QuotedEnds.{single_widened, double_widened}
 
--- what is derived at the first indentation and context is derived at the second: that of a key inside of a flow collection in
--- each context there, and that of a key of a block mapping in a flow node outside of brackets
+-- parts of the first indentation and context are derived at the second: parts of a key inside of a flow collection in
+-- each context there, and parts of a key of a block mapping in a flow node outside of brackets
 pub data Wider : ℤ → Ctx → ℤ → Ctx → Type 0 where
   same_context : {n : ℤ} {c : Ctx} → Wider n c n c
   from_key : {n m : ℤ} {d : Ctx} → is_inside d ≡ true → Wider n FlowKey m d
@@ -114,7 +114,7 @@ module _ {t : List ℕ} where
   wider_may w unseparated = unseparated
   wider_may w (separated s) = separated (wider_separate w s)
 
-  -- of keys neither the indentation nor the context matters
+  -- neither the indentation nor the context of a key matters
   pub key_properties : {n : ℤ} {c : Ctx} {i j : ℕ} {p : PropertiesValue} (m : ℤ) (d : Ctx) → is_key c ≡ true → Properties t n c i j p → Properties t m d i j p
   key_properties m d k (by_tag g) = by_tag g
   key_properties m d k (by_anchor a) = by_anchor a

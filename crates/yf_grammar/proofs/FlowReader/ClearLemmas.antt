@@ -1,4 +1,4 @@
--- What the recursive reader finds covers no forbidden line.
+-- The outcomes of the recursive reader cover no forbidden line.
 use Rattle.std.proofs.Common.{◌≡◌, ◌≢◌, ℕ, zero, suc, ◌+◌, ◌-◌, ◌<◌, ◌≤◌, ℤ, Bool, true, false, List, Option, Some, None, refl, sym, ap, ◌∙◌, subst, arith, not, add-zero}
 use Rattle.std.proofs.lemmas.Bool.{true≢false, and_parts}
 use Rattle.std.specs.Str.{IsUtf8}
@@ -139,7 +139,7 @@ module _ {t : List ℕ} where
   clear_closing true e = clear_mark e (λ q. omega arith) (λ q. omega arith)
   clear_closing false e = clear_mark e (λ q. omega arith) (λ q. omega arith)
 
--- what the outcome of each task covers; entries end before their closing bracket
+-- the span of each task's outcome is clear; entries end before their closing bracket
 abbrev Covers : List ℕ → Task → Option ParsedNode → Type 0
 Covers t task None = Unit {0}
 Covers t (Parser.ANode n c i) (Some f) = Clear t i f.end

@@ -1,4 +1,5 @@
--- The recursive reader is complete inside of flow collections: what is derived there, before what can follow it, is found.
+-- The recursive reader is complete inside of flow collections: it finds each part that is derived there, before text
+-- that can follow it.
 use Rattle.std.proofs.Common.{◌≡◌, ℕ, ℤ, pos, suc, ◌+◌, Bool, true, false, List, Option, Some, None, refl, sym, ap, ◌∙◌, subst, arith}
 use Rattle.std.specs.Str.{IsUtf8}
 use Rattle.yf_chars.specs.declared.context.Ctx.{Ctx}

@@ -1,6 +1,6 @@
--- What completeness says of each production: inside of a flow collection, and before what can follow it there, the reader finds
--- it as it is derived, with each limit that it stays within. A key is derived in a context of its own and read as a node, so
--- each claim speaks of all the wider places.
+-- The completeness of each production: inside of a flow collection, and before text that can follow it there, the
+-- reader finds it as it is derived, with each limit that it stays within. A key is derived in a context of its own and
+-- read as a node, so each claim holds for all wider contexts.
 use Rattle.std.proofs.Common.{◌≡◌, ℕ, ℤ, suc, max, ◌+◌, ◌≤◌, Bool, true, false, List, Option, Some, None, refl, ◌∙◌, arith}
 use Rattle.std.specs.Str.{IsUtf8}
 use Rattle.yf_chars.specs.declared.context.Ctx.{Ctx}
@@ -23,11 +23,11 @@ use Rattle.yf_grammar.proofs.FlowReader.EntryExact.{exact_entry, mapping_explici
 use Rattle.yf_grammar.proofs.FlowReader.PairKeys.{make_key, key_unique}
 use Rattle.yf_grammar.proofs.FlowReader.CompleteSteps.{end_visible, stop_of_colon, node_no_colon, sign_stuck, mapping_nothing, pair_nothing}
 
--- each outcome is what is derived
+-- each outcome is the derived part
 abbrev pub Exactly : List ℕ → ℕ → Task → ℕ → ℕ → Meaning → Type 0
 Exactly t e task j h x = (o : Option ParsedNode) → Parses t e task o → (b : Bool) × (o ≡ found j h b x)
 
--- after `?` and a separation is a key or a value, which is found; or nothing
+-- a key or a value follows `?` and a separation, and is found; or nothing follows
 pub data ExplicitClaim (t : List ℕ) (m : ℤ) (d : Ctx) (s : ℕ) : ℕ → ℕ → ℕ → Meaning → Type 0 where
   entry_goes_on : {h i j : ℕ} {x : Meaning} → Visible t i → is_end (code t i) ≡ false
       → (Clear t i j → Ending t m d j → (e : ℕ) → h ≤ e → Exactly t e (AnExplicit m d s i) j h x) → ExplicitClaim t m d s h i j x

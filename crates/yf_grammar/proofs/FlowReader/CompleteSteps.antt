@@ -1,4 +1,4 @@
--- The steps of completeness: for each production what the reader finds, where what it finds of the parts is known.
+-- The steps of completeness: the reader's outcome for each production, if its outcomes for the parts are known.
 use Rattle.std.proofs.Common.{◌≡◌, ℕ, ℤ, max, ◌+◌, ◌≤◌, Bool, true, false, List, [], ◌++◌, Option, Some, None, refl, sym, ap, ◌∙◌, subst, arith, true≢false, append_assoc, append-nil}
 use Rattle.std.proofs.lemmas.Bool.Decides.{nat_tests}
 use Rattle.std.specs.Str.{IsUtf8}
@@ -31,7 +31,7 @@ use Rattle.yf_grammar.proofs.FlowReader.EntryExact.{exact_entry, mapping_explici
 use Rattle.yf_grammar.proofs.FlowReader.ValueExact.{value_exact, adjacent_exact}
 use Rattle.yf_plain.proofs.PlainLemmas.{safe_is_ns}
 
--- what is wider than the place of a flow node is one, too
+-- if the wider context is no block context, the other is none
 pub wider_not_block : {n m : ℤ} {c d : Ctx} → Wider n c m d → is_block d ≡ false → is_block c ≡ false
 wider_not_block same_context b = b
 wider_not_block (from_key e) b = refl
@@ -77,11 +77,11 @@ module _ {t : List ℕ} where
     question = λ q. sym (wider_safe (code t (i + 1)) w) ∙ s.question q;
   }
 
-  -- no value begins where a node does
+  -- no value begins at a node
   pub node_no_colon : {d : Ctx} {i j : ℕ} → NodeStarts t d i j → ColonAt t false d i → ⊥
   node_no_colon s q = true≢false (sym (s.colon q.colon) ∙ q.follows)
 
-  -- a `?` at which a node begins is not after it separated from what follows
+  -- no separation follows a `?` at which a node begins
   pub sign_stuck : {m : ℤ} (d : Ctx) (i : ℕ) → IsUtf8 t → (code t i ≡ 63 → is_plain_safe (code t (i + 1)) d ≡ true) → code t i ≡ 63 → Stuck (Separate t m d (i + 1))
   sign_stuck d i u f e = separate_stuck (i + 1) u (after_byte i u e (omega arith) sign_facts.1) (safe_is_ns (code t (i + 1)) d (f e))
 
@@ -150,7 +150,7 @@ module _ {t : List ℕ} {n : ℤ} {c : Ctx} where
       propertied_content (λ o. o ≡ found j h true (meaning_after (p.comments ++ cs) (with_props p.props p.tag_offset i g x))) u d s v b
       (λ q. none_found j h true x (f None q)) (λ a q. some_has a j h true x p cs cs i g refl (f (Some a) q)) r
 
--- before what can follow a node there is no quote, so content ends there
+-- no quote is before text that can follow a node, so content ends there
 pub reaches_exact : {t : List ℕ} {n : ℤ} {c : Ctx} {json : Bool} {o : Option ParsedNode} {j h : ℕ} {x : Meaning} → Followed t n c json j → Reaches t o j h x → o ≡ found j h true x
 reaches_exact f (reaches e) = e
 reaches_exact f (passes g e l q) = absurd (followed_no_quote f q)
@@ -172,7 +172,7 @@ pub noting_twice : (x : Meaning) (cs ds : List CommentValue) → noting (noting 
 unfolding noting
 noting_twice x cs ds = ap (λ w. record x { comments = w }) (append_assoc x.comments cs ds)
 
--- after `?` nothing, up to what ends the entry
+-- nothing after `?`, up to the end of the entry
 nothing_comments : (s l : ℕ) (cs ds : List CommentValue)
     → noting (meaning_after (cs ++ ds) (entering s None (empty_node l) ⊕ empty_node l)) [] ≡ noting (meaning_after cs (entering s None (empty_node l) ⊕ empty_node l)) ds
 unfolding noting meaning_after entering empty_node ◌⊕◌

@@ -1,4 +1,4 @@
--- A quoted scalar or flow collection is found as it is derived, but for a quoted scalar before a quote.
+-- The reader finds a quoted scalar or flow collection as it is derived, except a quoted scalar before a quote.
 use Rattle.std.proofs.Common.{◌≡◌, ℕ, ℤ, suc, ◌+◌, ◌<◌, ◌≤◌, Bool, true, false, ⊎_elim, List, [], Option, Some, None, refl, sym, ap, ◌∙◌, subst, arith, encode_utf8_all}
 use Rattle.std.proofs.lemmas.Bool.{cases_lt}
 use Rattle.std.proofs.lemmas.Option.{same_Some}
@@ -15,12 +15,12 @@ use Rattle.yf_grammar.specs.FlowReader.Parser.Parses.{single_read, single_missed
 use Rattle.yf_grammar.proofs.Ends.GapLemmas.{Visible, gap_is}
 use Rattle.yf_grammar.proofs.FlowReader.QuotedEnds.{single_before_quote, double_same}
 
--- the outcome is what is derived up to j, or goes on after it at a quote
+-- the outcome is the derived part up to j, or goes on after it at a quote
 pub data Reaches (t : List ℕ) (o : Option ParsedNode) (j h : ℕ) (x : Meaning) : Type 0 where
   reaches : o ≡ found j h true x → Reaches t o j h x
   passes : (f : ParsedNode) → o ≡ Some f → j < f.end → code t j ≡ 39 → Reaches t o j h x
 
--- entries are found up to their end; where their last node ends is not asked
+-- entries are found up to their end; the end of their last node is not checked
 pub record EntriesFound (o : Option ParsedNode) (j h : ℕ) (x : Meaning) : Type 0 where
   pub answer : ParsedNode
   pub is : o ≡ Some answer
@@ -97,7 +97,7 @@ not_none a = none_some a.is where
   none_some e = cc
 
 module _ {t : List ℕ} {n : ℤ} {c : Ctx} where
-  -- a collection, where its entries are found
+  -- a collection, if its entries are found
   pub collection_exact : {e h i k j : ℕ} {cs : List CommentValue} {x : Meaning} {o : Option ParsedNode} (s : Bool) → code t i ≡ opening s → MaySeparate t n c (i + 1) k cs
       → Visible t k → suc h ≤ e → ((l : ℕ) (r : Option ParsedNode) → h ≤ l → Parses t l (TheEntries s n (in_flow c) k) r → EntriesFound r j h x)
       → Parses t e (AContent n c i) o → o ≡ found (j + 1) (suc h) true (collection s true i (j + 1) (meaning_after cs x))
@@ -128,7 +128,7 @@ module _ {t : List ℕ} {n : ℤ} {c : Ctx} where
   no_entries q (entry_then_missed cs ds m d g e a b) = absurd (m q)
   no_entries q (entry_unclosed cs m d g e a) = absurd (m q)
 
--- what is found of an entry before what ends it at l, with the comments before that
+-- the outcome for an entry before its separator or the bracket at l, with the comments before that
 pub record EntryFound (t : List ℕ) (n : ℤ) (c : Ctx) (o : Option ParsedNode) (l h : ℕ) (y : Meaning) : Type 0 where
   pub answer : ParsedNode
   pub is : o ≡ Some answer

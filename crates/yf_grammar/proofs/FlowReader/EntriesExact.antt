@@ -1,4 +1,4 @@
--- Entries of a flow collection, where each entry is found: the reader goes on from one to the next as they are derived.
+-- Entries of a flow collection: if the reader finds each entry, it goes on from one to the next as they are derived.
 use Rattle.std.proofs.Common.{◌≡◌, ℕ, ℤ, max, ◌+◌, Bool, true, false, List, ◌++◌, Option, Some, None, refl, sym, ap, ◌∙◌, subst, arith, append_assoc}
 use Rattle.std.proofs.lemmas.Option.{same_Some}
 use Rattle.yf_chars.specs.declared.context.Ctx.{Ctx}

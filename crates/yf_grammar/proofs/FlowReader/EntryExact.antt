@@ -1,4 +1,4 @@
--- One entry of a flow collection, where its parts are found.
+-- One entry of a flow collection, if the reader finds its parts.
 use Rattle.std.proofs.Common.{◌≡◌, ℕ, ℤ, suc, max, ◌+◌, ◌≤◌, Bool, true, false, List, Option, Some, None, refl, sym, ap, ◌∙◌, subst, arith}
 use Rattle.yf_chars.specs.declared.context.Ctx.{Ctx}
 use Rattle.yf_chars.specs.Text.{code}
@@ -49,7 +49,7 @@ keyed_is : (first second : ParsedNode) (i k l j h g : ℕ) (json b : Bool) (x y 
 unfolding pair_entry keyed_pair found
 keyed_is first second i k l j h g json b x y e f = cc
 
--- what is found exactly, before what ends an entry
+-- an exact outcome, before the end of an entry
 pub exact_entry : {t : List ℕ} {n : ℤ} {c : Ctx} {o : Option ParsedNode} {l : ℕ} {ds : List CommentValue} (j h : ℕ) (b : Bool) (y : Meaning) → MaySeparate t n c j l ds → Visible t l
     → o ≡ found j h b y → EntryFound t n c o l h (noting y ds)
 unfolding found
@@ -103,7 +103,7 @@ module _ {t : List ℕ} {n : ℤ} {c : Ctx} where
   pair_explicit_exact {k = k} {cs = cs} j h x q s v l g (pair_too_deep a b r p m) = absurd ((a q).none k cs s)
   pair_explicit_exact {k = k} {cs = cs} j h x q s v l g (item_read a b r p) = absurd ((a q).none k cs s)
 
-  -- a pair of a value alone
+  -- a pair of only a value
   pub pair_value_exact : {e i : ℕ} {o : Option ParsedNode} (j h : ℕ) (x : Meaning) → ColonAt t false c i → suc h ≤ e
       → ((l : ℕ) (r : Option ParsedNode) → h ≤ l → Parses t l (AValue false n c i) r → (b : Bool) × (r ≡ found j h b x)) → Parses t e (AnEntry true n c i) o
       → o ≡ found j (suc h) false (entering i None (collection false true i (entering i (Some i) (empty_node i) ⊕ x).finish (entering i (Some i) (empty_node i) ⊕ x)))

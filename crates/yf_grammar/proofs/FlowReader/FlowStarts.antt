@@ -1,4 +1,5 @@
--- What flow productions begin with: a character that no separation goes on with, and no end of an entry; and that they go on.
+-- The first characters of flow productions, which continue no separation and end no entry; and that these productions
+-- are not empty.
 use Rattle.std.proofs.Common.{◌≡◌, ◌≢◌, ℕ, ℤ, ◌+◌, ◌<◌, ◌≤◌, Bool, true, false, ◌||◌, ◌==◌, List, refl, sym, ap, ◌∙◌, arith, true≢false, not}
 use Rattle.std.proofs.lemmas.Bool.{and_parts}
 use Rattle.std.proofs.lemmas.Bool.Decides.{nat_tests}
@@ -40,7 +41,7 @@ use Rattle.yf_props.proofs.NameOrder.{properties_forward}
 unfoldable pub is_end : ℕ → Bool
 is_end c = (c == 44) || (c == 93) || (c == 125)
 
--- what begins a node that is no plain scalar
+-- the first characters of nodes that are no plain scalars
 unfoldable pub is_mark : ℕ → Bool
 is_mark c = begins_alias c || begins_properties c || begins_content c
 
@@ -104,19 +105,19 @@ in_flow_not_block FlowIn b = refl
 in_flow_not_block BlockKey b = refl
 in_flow_not_block FlowKey b = refl
 
--- what the first character of a part says
+-- the part is not empty, and its first character is visible and ends no entry
 pub record Starts (t : List ℕ) (i j : ℕ) : Type 0 where
   pub later : i < j
   pub visible : Visible t i
   pub no_end : is_end (code t i) ≡ false
 
--- of a node: after a `:` or `?` at its start is a character that is safe
+-- for a node: a safe character follows a `:` or `?` at its start
 pub record NodeStarts (t : List ℕ) (c : Ctx) (i j : ℕ) : Type 0 where
   pub starts : Starts t i j
   pub colon : code t i ≡ 58 → is_plain_safe (code t (i + 1)) c ≡ true
   pub question : code t i ≡ 63 → is_plain_safe (code t (i + 1)) c ≡ true
 
--- of a quoted scalar or a flow collection
+-- for a quoted scalar or a flow collection
 pub record ContentStarts (t : List ℕ) (i j : ℕ) : Type 0 where
   pub later : i < j
   pub content : begins_content (code t i) ≡ true
@@ -248,7 +249,7 @@ module _ {t : List ℕ} where
   flow_starts (an_indented_node _) = tt
   flow_starts (nothing_indented _ _) = tt
 
--- after a character of content, before another one, nothing separates
+-- nothing separates two adjacent characters of content
 module _ {t : List ℕ} where
   no_whites_there : {k m : ℕ} {w : List ℕ} → is_ns_char (code t k) ≡ true → Many t is_white k m w → k < m → ⊥
   no_whites_there {k} {m} {w} n c l = let f = (many_chosen t is_white (done {i = k}) (ns_not_white (code t k) n)).longest m w c in omega arith

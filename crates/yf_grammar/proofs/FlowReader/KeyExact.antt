@@ -1,4 +1,4 @@
--- A key with or without a value in a flow mapping, and what is after `?`, where their parts are found.
+-- A key with or without a value in a flow mapping, and the rest of an entry after `?`, if the reader finds their parts.
 use Rattle.std.proofs.Common.{◌≡◌, ◌≢◌, ℕ, ℤ, max, ◌+◌, Bool, true, false, ◌||◌, ◌==◌, List, Option, Some, None, refl, sym, ap, ◌∙◌, subst, true≢false}
 use Rattle.yf_chars.specs.declared.context.Ctx.{Ctx}
 use Rattle.yf_chars.specs.Text.{code}
@@ -40,7 +40,7 @@ module _ {t : List ℕ} {n : ℤ} {c : Ctx} where
   lone_exact j h x a g (key_with_value d r q b v) = absurd (d a)
   lone_exact j h x a g (key_without_value cs d r q b) = absurd (d a)
 
-  -- a key before what is no `:`
+  -- a key without a `:` after it
   pub key_alone_exact : {e s i l : ℕ} {cs : List CommentValue} {o : Option ParsedNode} (j h : ℕ) (json : Bool) (x : Meaning) → (ColonAt t false c i → ⊥)
       → MaySeparate t n c j l cs → Visible t l → code t l ≢ 58
       → ((r : Option ParsedNode) → Parses t e (ANode n c i) r → r ≡ found j h json x) → Parses t e (AnImplicit n c s i) o
@@ -77,7 +77,7 @@ module _ {t : List ℕ} {n : ℤ} {c : Ctx} where
       let c1 : ColonAt t first.json c k = subst (λ h. ColonAt t h c k) (sym (ap (λ (h : ParsedNode). h.json) e1)) q in
       absurd (w (subst (λ h. ColonAt t first.json c h) (sym same.0) c1))
 
-  -- after `?`: nothing before what ends an entry, and a key or value else
+  -- after `?`: nothing before the end of an entry, otherwise a key or value
   pub nothing_exact : {e s i : ℕ} {o : Option ParsedNode} → is_end (code t i) ≡ true → Parses t e (AnExplicit n c s i) o
       → o ≡ found i 0 false (entering s None (empty_node (s + 1)) ⊕ empty_node (s + 1))
   nothing_exact q (explicit_nothing b) = refl

@@ -1,4 +1,4 @@
--- What is in a key is on one line.
+-- A key is on one line.
 use Rattle.std.proofs.Common.{◌≡◌, ◌≢◌, ℕ, ℤ, ◌+◌, ◌-◌, ◌<◌, ◌≤◌, Bool, true, false, ⊎_elim, List, None, refl, sym, ap, ◌∙◌, subst, arith, true≢false, not}
 use Rattle.std.proofs.lemmas.Bool.{cases_eq, cases_lt, and_parts}
 use Rattle.std.specs.Str.{IsUtf8}

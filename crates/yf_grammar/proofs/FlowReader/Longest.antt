@@ -1,4 +1,5 @@
--- The recursive reader takes the longest flow node: what is derived at its place ends before what it finds, or is the same.
+-- The recursive reader takes the longest flow node: each other node that is derived at its offset ends before the
+-- reader's outcome.
 use Rattle.std.proofs.Common.{◌≡◌, ℕ, ℤ, ◌<◌, ◌≤◌, Bool, true, false, ◌⊎◌, inl, inr, ⊎_elim, List, [], ◌++◌, Option, Some, None, refl, sym, ap, ◌∙◌, subst, arith, true≢false, encode_utf8_all}
 use Rattle.std.proofs.lemmas.Bool.{cases_lt}
 use Rattle.std.specs.Str.{IsUtf8}
@@ -34,7 +35,7 @@ use Rattle.yf_grammar.proofs.FlowReader.Complete.{complete}
 use Rattle.yf_grammar.proofs.FlowReader.Sound.{found_is_derived}
 use Rattle.yf_props.proofs.NameOrder.{properties_forward}
 
--- the outcome is something that ends after j, or at j with that meaning
+-- the outcome is not `None`, and ends after j, or at j with that meaning
 pub record Longest (o : Option ParsedNode) (j : ℕ) (x : Meaning) : Type 0 where
   pub answer : ParsedNode
   pub is : o ≡ Some answer
@@ -47,7 +48,7 @@ found_longest k h b y j x e f = record { answer = record { end = k; height = h; 
 exact_longest : {o : Option ParsedNode} (j h : ℕ) (b : Bool) (x : Meaning) → o ≡ found j h b x → Longest o j x
 exact_longest j h b x e = found_longest j h b x j x e (inr (refl, refl))
 
--- what is chosen among leaves gives it
+-- the chosen leaf is the longest
 leaf_longest : {A : Type 0} {P : ℕ → A → Type 0} {o : Option ParsedNode} (k : ℕ) (y : A) (h : ℕ) (b : Bool) (put : ℕ → A → Meaning) (j : ℕ) (x : A) → P j x → Chosen P k y
     → o ≡ found k h b (put k y) → Longest o j (put j x)
 leaf_longest {P = P} k y h b put j x p d e = found_longest k h b (put k y) j (put j x) e
@@ -144,7 +145,7 @@ module _ {t : List ℕ} (u : IsUtf8 t) {n : ℤ} {c : Ctx} (b : is_block c ≡ f
         let one = separate_is v (separated s) y in
         absurd ((subst (λ h. Stuck (Plain t n c h)) one.0 w).none j x (record { text = q; clear = a }))
 
-  -- whatever the outcome is, it reaches each node that is derived within the limit
+  -- each outcome reaches each node that is derived within the limit
   pub longest : {h e i j : ℕ} {json : Bool} {x : Meaning} {o : Option ParsedNode} → h ≤ e → Derives t h (NodeOf json n c) i j x → Clear t i j → Parses t e (ANode n c i) o → Longest o j x
   longest {i = i} {j = j} {x = x} l (an_alias y a) k r = exact_longest j 0 false x (node_alias a r)
   longest {i = i} {j = j} {x = x} {o = o} l (a_plain {x = y} p) k r =
@@ -165,7 +166,7 @@ module _ {t : List ℕ} (u : IsUtf8 t) {n : ℤ} {c : Ctx} (b : is_block c ≡ f
       (λ q. none_reaches (complete u y n c b same_context back e l None q))
       (λ w q. content_longest p cs i g (complete u y n c b same_context back e l (Some w) q)) r
 
-  -- what is found is the longest node
+  -- the outcome is the longest node
   pub longest_is_found : {h e i j : ℕ} {json : Bool} {x : Meaning} {f : ParsedNode} → h ≤ e → Derives t h (NodeOf json n c) i j x → Clear t i j → Parses t e (ANode n c i) (Some f)
       → (j < f.end) ⊎ ((j ≡ f.end) × (x ≡ f.meaning))
   longest_is_found {j = j} {x = x} {f = f} l d k r = let a = longest l d k r in subst (λ w. (j < w.end) ⊎ ((j ≡ w.end) × (x ≡ w.meaning))) (same a.is) a.far
@@ -173,6 +174,6 @@ module _ {t : List ℕ} (u : IsUtf8 t) {n : ℤ} {c : Ctx} (b : is_block c ≡ f
       same : {f g : ParsedNode} → Some f ≡ Some g → g ≡ f
       same e = cc
 
-  -- where none is found, none is derived
+  -- if none is found, none is derived
   pub nothing_is_derived : {h e i j : ℕ} {json : Bool} {x : Meaning} → h ≤ e → Derives t h (NodeOf json n c) i j x → Clear t i j → Parses t e (ANode n c i) None → ⊥
   nothing_is_derived l d k r = none_some (longest l d k r).is

@@ -1,4 +1,4 @@
--- A node before what ends it is found exactly as it is derived.
+-- The reader finds a node before the text that ends it exactly as it is derived.
 use Rattle.std.proofs.Common.{◌≡◌, ◌≢◌, ℕ, ℤ, ◌+◌, Bool, true, false, ⊎_elim, List, [], ◌++◌, Option, refl, sym, ap, ◌∙◌, subst, arith, true≢false, encode_utf8_all}
 use Rattle.std.proofs.lemmas.Bool.{cases_eq}
 use Rattle.std.proofs.lemmas.Bool.Decides.{nat_tests}
@@ -27,7 +27,7 @@ use Rattle.yf_grammar.proofs.FlowReader.PropertiesEnds.{properties_before, prope
 use Rattle.yf_grammar.proofs.FlowReader.FlowStarts.{is_end, bar_no_hash}
 use Rattle.yf_grammar.proofs.Ends.NodeExits.{node_plain, past_properties, PastProperties, past_to_content, past_to_plain, past_to_nothing, past_to_broken, past_to_other}
 
--- after a place is what ends an entry, or the `:` after a key of that kind
+-- the end of an entry, or the `:` after a key of that kind, follows the offset
 pub record Followed (t : List ℕ) (n : ℤ) (c : Ctx) (json : Bool) (j : ℕ) : Type 0 where
   pub place : ℕ
   pub comments : List CommentValue
@@ -35,7 +35,7 @@ pub record Followed (t : List ℕ) (n : ℤ) (c : Ctx) (json : Bool) (j : ℕ) :
   pub stop : is_stop (code t place) ≡ true
   pub colon : code t place ≡ 58 → MayBeColon json t (place + 1) c
 
--- after a place is what ends an entry
+-- the end of an entry follows the offset
 pub record Ending (t : List ℕ) (n : ℤ) (c : Ctx) (j : ℕ) : Type 0 where
   pub place : ℕ
   pub comments : List CommentValue
@@ -104,7 +104,7 @@ module _ {t : List ℕ} where
   pub stop_visible : (l : ℕ) → is_stop (code t l) ≡ true → Visible t l
   stop_visible l e = record { ns = stop_ns (code t l) e; no_hash = stop_not_hash (code t l) e }
 
-  -- no quote is at such a place
+  -- no quote is at such an offset
   pub followed_no_quote : {n : ℤ} {c : Ctx} {json : Bool} {j : ℕ} → Followed t n c json j → code t j ≢ 39
   followed_no_quote {n} {c} {json} {j} f q = go f.gap f.stop where
     go : {l : ℕ} {cs : List CommentValue} → MaySeparate t n c j l cs → is_stop (code t l) ≡ true → ⊥
@@ -125,7 +125,7 @@ plain_is x i j = refl
 plain_same : (i : ℕ) {j k : ℕ} {x y : List ℕ} → (k ≡ j) × (y ≡ x) → plain_found y i k ≡ found j 0 false (scalar PlainStyle (encode_utf8_all x) [] i j)
 plain_same i {j} {k} {x} {y} s = ap (λ w. plain_found y i w) s.0 ∙ ap (λ w. plain_found w i j) s.1 ∙ plain_is x i j
 
--- the same, where it is known how long the plain scalar goes
+-- likewise, if the end of the plain scalar is known
 module _ {t : List ℕ} (u : IsUtf8 t) {n : ℤ} {c : Ctx} where
   plain_first_of : {i j : ℕ} {x : List ℕ} → PlainText t n c i j x → is_bar (code t i) ≡ false
   plain_first_of {i} p = first_no_bar t c i (plain_leaps p).0

@@ -1,5 +1,5 @@
--- The recursive reader of flow nodes has an outcome of each task: that cannot be refuted. The induction goes by what is left of the text
--- after the place of a task, and at one place by the order of the tasks.
+-- The recursive reader of flow nodes has an outcome for each task: that cannot be refuted. The induction goes by the
+-- length of the text after the offset of a task, and at one offset by the order of the tasks.
 use Rattle.std.proofs.Common.{◌≡◌, ◌≢◌, ℕ, suc, zero, ◌+◌, ◌-◌, ◌*◌, ◌<◌, ◌≤◌, ℤ, Bool, true, false, ◌==◌, ◌||◌, ⊎_elim, List, [], Option, Some, None, length, refl, sym, arith, true≢false}
 use Rattle.std.proofs.lemmas.Bool.{cases_Bool, cases_lt, cases_eq}
 use Rattle.std.proofs.lemmas.Bool.Decides.{nat_tests}
@@ -51,7 +51,7 @@ module _ {X : Type 0} {P : ℕ → X → Type 0} {B : Type 0} where
   pub takes : Irrefutable (ChosenOrStuck P) → ((j : ℕ) (x : X) → Chosen P j x → Irrefutable B) → (Stuck P → Irrefutable B) → Irrefutable B
   takes a some none = then a (λ r. by_reach r some none)
 
--- how much is left of a task
+-- the weight of a task, by the length of the text that is left
 abbrev left : List ℕ → ℕ → ℕ
 left t i = 8 * (length t - i)
 
@@ -64,7 +64,7 @@ weight t (AnExplicit n c s i) = 5 + left t i
 weight t (AnEntry s n c i) = 6 + left t i
 weight t (TheEntries s n c i) = 7 + left t i
 
--- the contexts in which the tasks are called outside of keys
+-- the contexts of the tasks that are called outside of keys
 pub record Inside (c : Ctx) : Type 0 where
   pub flow : is_flow c ≡ true
   pub inside : is_inside c ≡ true
@@ -116,7 +116,7 @@ pub plain_else : (c : ℕ) → begins_alias c ≡ false → begins_properties c 
 unfolding begins_plain
 plain_else c a b d = rw (a, b, d) refl
 
--- a value always is found
+-- a value is always found
 value_found : {t : List ℕ} {e i : ℕ} {json : Bool} {n : ℤ} {c : Ctx} {o : Option ParsedNode} → Parses t e (AValue json n c i) o → None ≡ o → ⊥
 value_found (Parser.value_read s p) e = absurd (cc)
 value_found (Parser.value_empty {i = i} cs s p) e = none_found (i + 1) 0 false _ e
@@ -138,9 +138,9 @@ module _ {t : List ℕ} (u : IsUtf8 t) where
   entry_later : {e i : ℕ} {s : Bool} {n : ℤ} {c : Ctx} {f : ParsedNode} → Inside c → Parses t e (AnEntry s n c i) (Some f) → i < f.end
   entry_later {c = c} w r = let m = sound r w.inside in (flow_starts m.derived (flow_not_block c w.flow)).later
 
--- each task, where tasks of less weight have outcomes
+-- each task has an outcome, if tasks of less weight do
 module _ {t : List ℕ} (u : IsUtf8 t) (m : ℕ) (known : (e : ℕ) (task : Task) → Fit t task → weight t task < m → Irrefutable (Answer t e task)) where
-  -- properties, and what is after them
+  -- properties, and the text after them
   after_gap : {e i g k : ℕ} {n : ℤ} {c : Ctx} {p : PropertiesValue} {cs : List CommentValue} → is_flow c ≡ true → weight t (ANode n c i) ≤ m
       → Chosen (Properties t n c i) g p → Chosen (Separate t n c g) k cs → Irrefutable (Answer t e (ANode n c i))
   after_gap {e} {i} {g} {k} {n} {c} f w p s = ⊎_elim
@@ -230,7 +230,7 @@ module _ {t : List ℕ} (u : IsUtf8 t) (m : ℕ) (known : (e : ℕ) (task : Task
       then (known e (AnImplicit n c s i) v (omega arith)) (λ r. answer (Parser.explicit_something a r.read)))
       (cases_Bool ((code t i == 44) || (code t i == 93) || (code t i == 125)))
 
-  -- a value at a place, which always is found
+  -- a value, which is always found
   has_value : {B : Type 0} (e i : ℕ) (json : Bool) (n : ℤ) (c : Ctx) → Inside c → weight t (AValue json n c i) < m
       → ((g : ParsedNode) → Parses t e (AValue json n c i) (Some g) → Irrefutable B) → Irrefutable B
   has_value e i json n c v w f = asks (known e (AValue json n c i) v w) f (λ r. absurd (value_found r refl))

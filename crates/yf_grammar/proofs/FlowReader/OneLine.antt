@@ -1,4 +1,4 @@
--- What is on one line of a flow collection is derived as well as what a key is: at n = 0, in the context of a key.
+-- A part on one line of a flow collection is also derived in a key: at n = 0, in the context of a key.
 use Rattle.std.proofs.Common.{◌≡◌, ℕ, ℤ, pos, Bool, true, false, ◌+◌, ◌<◌, ◌≤◌, List, [], ◌∷◌, ◌++◌, length, refl, sym, ap, ◌∙◌, subst, inl, inr, ◌⊎◌, ⊎_elim, arith, append-nil}
 use Rattle.std.proofs.lemmas.Bool.{true≢false, cases_lt}
 use Rattle.yf_chars.specs.declared.context.Ctx.{Ctx}
@@ -41,7 +41,7 @@ use Rattle.yf_grammar.proofs.Ends.WiderLemmas.{inside_not_block, in_flow_inside,
 use Rattle.yf_props.proofs.NameOrder.{anchor_forward, properties_forward}
 use Rattle.yf_plain.proofs.PlainOrder.{items_forward, nexts_forward}
 
--- a character of a break is between
+-- a character of a break is between the offsets
 pub record Broken (t : List ℕ) (i j : ℕ) : Type 0 where
   pub at : ℕ
   pub from : i ≤ at
@@ -109,7 +109,7 @@ pub comment_lines_order : {t : List ℕ} {i j : ℕ} {x : List CommentValue} →
 comment_lines_order done = omega arith
 comment_lines_order (step s c) = let f = comment_line_order s in let g = comment_lines_order c in omega arith
 
--- a white is a character of a quoted scalar of either kind; on one line there are characters alone
+-- white space is a character of a quoted scalar of either kind; on one line a quoted scalar has only characters
 module _ {A : Type 0} {t : List ℕ} {put : List ℕ → List A} {C : ℕ → ℕ → List A → Type 0} {quote : ℕ} where
   white_chars : {i j : ℕ} {x : List ℕ} → Means t put C quote → Many t is_white i j x → Chain C i j (put x)
   white_chars {i} m done = rw m.nothing done
@@ -178,7 +178,7 @@ colon_key : (t : List ℕ) (c : Ctx) (json : Bool) (i : ℕ) → is_inside c ≡
 colon_key t c true i q m = tt
 colon_key t c false i q m = safe_same (code t i) c q ∙ m
 
--- between a and z no character of a break is, and the text goes on after z
+-- no character of a break is between a and z, and the text goes on after z
 pub record AllOnLine (t : List ℕ) (a z : ℕ) : Type 0 where
   pub line : OnOneLine t a z
   pub goes_on : z < length t
@@ -197,7 +197,7 @@ prefix_in_line {t} {n} {i} {j} s p =
     (λ (l : j ≤ i). let same : i ≡ j = omega arith in subst (λ k. SeparateInLine t i k) same (at_start s))
     (cases_lt i j)
 
--- the lines of comments after the start of a line: on one line there is none
+-- the lines of comments after the start of a line: one line has none
 no_lines : {t : List ℕ} {a z i h : ℕ} {x : List CommentValue} → AllOnLine t a z → a ≤ i → h ≤ z → Chain (CommentLine t) i h x → (i ≡ h) × (x ≡ [])
 no_lines o l m done = (refl, refl)
 no_lines o l m (step s c) = let f = comment_lines_order c in absurd (no_line_end o l (omega arith) (comment_line_broken s))
@@ -258,7 +258,7 @@ module _ {t : List ℕ} {a z : ℕ} where
   double_key {n} o l m q =
       quoted_chars (double_means t) (λ h k y b u v. not_broken o (omega arith) (omega arith) (double_broken b)) (double_onward t) (double_break_onward t n) q
 
--- what a production within a flow collection derives on one line, it derives at n = 0 in a key
+-- a production that derives a part on one line within a flow collection derives it at n = 0 in a key
 abbrev Keyed : List ℕ → ℕ → Production → ℕ → ℕ → Meaning → Type 0
 Keyed t h (Grammar.FlowNode n c) i j x = is_inside c ≡ true → Derives t h (Grammar.FlowNode (pos 0) FlowKey) i j x
 Keyed t h (Grammar.NodeOf json n c) i j x = is_inside c ≡ true → Derives t h (Grammar.NodeOf json (pos 0) FlowKey) i j x

@@ -1,4 +1,4 @@
--- The recursive reader has one outcome: each task goes one way, which the text and the limit decide.
+-- The recursive reader has one outcome: the text and the limit decide the way of each task.
 use Rattle.std.proofs.Common.{◌≡◌, ◌≢◌, ℕ, suc, ◌+◌, ℤ, Bool, true, false, ◌==◌, ◌||◌, not, List, Option, refl, sym, ap, ◌∙◌, ⊎_elim, arith}
 use Rattle.std.proofs.lemmas.Bool.{true≢false, cases_eq}
 use Rattle.std.proofs.lemmas.Bool.Decides.{nat_tests}
@@ -76,7 +76,8 @@ unsigned : (R : Outcomes) (t : List ℕ) (e i : ℕ) (n : ℤ) (c : Ctx) (o : Op
     → UnsignedWay R t e n c i o → ItemWay R t e n c i o
 unsigned R t e i n c o a w = ⊎_elim (λ (q : code t i ≡ 63). one_way q (not_taken (a q) w)) (λ (q : code t i ≢ 63). other_way q w) (cases_eq (code t i) 63)
 
--- each outcome is reached by a way of its task; what is known of the tasks that it calls for is to follow from their ways
+-- each outcome has a way of its task; the facts about the outcomes of the tasks that it calls must follow from their
+-- ways
 ways : {R : Outcomes} {t : List ℕ} {e : ℕ} {task : Task} {o : Option ParsedNode}
     → ((d : ℕ) (other : Task) (p : Option ParsedNode) → Parses t d other p → Way R t d other p → R d other p)
     → Parses t e task o → Way R t e task o
@@ -157,7 +158,7 @@ ways r (Parser.value_adjacent {f = f} s p) = not_taken s (finds f (r _ _ _ p (wa
 ways r (Parser.value_adjacent_empty s p) = not_taken s (finds_none (r _ _ _ p (ways r p)) (record { known = refl }))
 ways r (Parser.value_missing s) = not_taken s (record { known = refl })
 
--- the way by which a task was done
+-- the way of a task
 pub way_of : {t : List ℕ} {e : ℕ} {task : Task} {o : Option ParsedNode} → Parses t e task o → Way (Parses t) t e task o
 way_of p = ways (λ d other o q w. q) p
 

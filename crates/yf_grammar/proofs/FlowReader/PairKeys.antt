@@ -1,4 +1,4 @@
--- The key of a single pair: where it ends is unique, what is derived is one, and none is before what ends an entry.
+-- The key of a single pair: its end is unique, a derived key is found, and no key is before the end of an entry.
 use Rattle.std.proofs.Common.{◌≡◌, ℕ, ℤ, ◌≤◌, true, false, List, [], ap, ◌∙◌, subst, arith}
 use Rattle.yf_chars.specs.declared.context.Ctx.{Ctx}
 use Rattle.yf_chars.specs.Text.{code}
@@ -26,11 +26,11 @@ module _ {t : List ℕ} {c : Ctx} where
   key_white : {i k : ℕ} {f : ParsedNode} → PairKey t c i f k → is_white (code t k) ≡ false
   key_white {k = k} p = ns_not_white (code t k) (colon_ns (code t k) p.colon.colon)
 
-  -- where the key ends is unique
+  -- a key has one end
   pub key_unique : {i k m : ℕ} {f : ParsedNode} → PairKey t c i f k → PairKey t c i f m → m ≡ k
   key_unique p q = (many_unique t is_white q.run (key_white q) p.run (key_white p)).0
 
-  -- no key is before what ends an entry
+  -- no key is before the end of an entry
   pub no_key_before_end : {n : ℤ} {i j k l : ℕ} {cs : List CommentValue} {f : ParsedNode} → MaySeparate t n c j l cs → is_end (code t l) ≡ true → f.end ≡ j
       → PairKey t c i f k → ⊥
   no_key_before_end {n} {i} {j} {k} {l} m e q p = go (may_front m) where

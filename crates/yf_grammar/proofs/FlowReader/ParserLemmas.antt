@@ -16,14 +16,14 @@ use Rattle.yf_grammar.specs.FlowReader.Parser as Parser
 use Rattle.yf_grammar.proofs.Ends.Forward.{whites_forward}
 use Rattle.yf_grammar.proofs.FlowReader.OneLine.{AllOnLine}
 
--- what is derived, by equal numbers and meanings
+-- a derived part, with equal numbers and meanings
 pub moved : {t : List ℕ} {h g i j k : ℕ} {p : Production} {x y : Meaning} → h ≡ g → j ≡ k → x ≡ y → Derives t h p i j x → Derives t g p i k y
 moved {t} {h} {g} {i} {j} {k} {p} {x} {y} e f s d =
     let a : Derives t g p i j x = subst (λ w. Derives t w p i j x) e d in
     let b : Derives t g p i k x = subst (λ w. Derives t g p i w x) f a in
     subst (λ w. Derives t g p i k w) s b
 
--- the separation that a reader takes is one of the grammar's
+-- the reader's separation is one of the grammar's
 pub gap_separate : {t : List ℕ} {n : ℤ} {c : Ctx} {i j : ℕ} {cs : List CommentValue} → Gap t n c i j cs → MaySeparate t n c i j cs
 gap_separate (Parser.longest_gap s) = Grammar.separated s.derived
 gap_separate (Parser.no_gap s) = Grammar.unseparated
@@ -43,7 +43,7 @@ whites_in_line {t} {i} {j} m =
 pub key_on_line : {t : List ℕ} {c : Ctx} {i k : ℕ} {f : ParsedNode} → PairKey t c i f k → AllOnLine t i k
 key_on_line {t} {k = k} p = let e = p.colon.colon in record { line = p.line; goes_on = within_from_code t k (omega arith) }
 
--- meanings that differ in their ends alone
+-- meanings that differ only in their ends
 pub record Same (x y : Meaning) : Type 0 where
   pub events : x.events ≡ y.events
   pub comments : x.comments ≡ y.comments

@@ -1,4 +1,4 @@
--- Plain scalars: what they begin with, and that one is the longest where what follows it is no character of one.
+-- Plain scalars: their first characters, and that one is the longest if no character of a plain scalar follows it.
 use Rattle.std.proofs.Common.{◌≡◌, ℕ, ℤ, ◌+◌, ◌<◌, ◌≤◌, Bool, true, false, ◌||◌, ◌==◌, ⊎_elim, List, [], ◌++◌, refl, sym, ap, ◌∙◌, subst, arith, true≢false}
 use Rattle.std.proofs.lemmas.Bool.{cases_Bool}
 use Rattle.std.proofs.lemmas.Bool.Decides.{nat_tests}
@@ -25,7 +25,7 @@ use Rattle.yf_grammar.specs.FlowReader.Parser.{begins_alias, begins_properties, 
 use Rattle.yf_grammar.proofs.Ends.BlankRuns.{is_blank, blank_of_hash, ns_not_blank, Blanks, no_blanks, blanks_unique, blanks_of_whites, blanks_of_fold, blanks_forward, blanks_after, Front, separate_front, ContentBefore, no_start_past}
 use Rattle.yf_grammar.proofs.Ends.BlankRuns.Front.{all_blank, hash_at}
 
--- one more character of a plain scalar, after white space or a fold, by its place alone
+-- one more character of a plain scalar, after white space or a fold, without its meaning
 pub data Leap (t : List ℕ) (c : Ctx) : ℕ → ℕ → List ℕ → Type 0 where
   leap : {i h : ℕ} → Blanks t i h → is_plain_char t c h ≡ true → Leap t c i (next t h) []
 
@@ -116,7 +116,7 @@ pub hash_not_blank : (c : ℕ) → c ≡ 35 → is_blank c ≡ false
 hash_not_blank c e = ap is_blank e ∙ blank_of_hash
 
 module _ {t : List ℕ} where
-  -- no character of a plain scalar is after a separation's first blanks, where none is after the separation
+  -- if no character of a plain scalar follows a separation, none follows its first blanks
   blocked : {j l h : ℕ} (c : Ctx) → IsUtf8 t → ContentBefore t j → Front t j l → is_blank (code t l) ≡ false → is_plain_char t c l ≡ false
       → Blanks t j h → is_plain_char t c h ≡ true → ⊥
   blocked {h = h} c u b (all_blank d) n m a e =
@@ -138,7 +138,7 @@ pub may_front : {t : List ℕ} {n : ℤ} {c : Ctx} {j l : ℕ} {cs : List Commen
 may_front unseparated = all_blank no_blanks
 may_front (separated s) = separate_front s
 
--- a plain scalar is the longest one where no character of one is after what separates it from what follows
+-- a plain scalar is the longest one if no character of a plain scalar is after the separation that follows it
 pub plain_ends : {t : List ℕ} {n m : ℤ} {c d : Ctx} {i j k l : ℕ} {x y : List ℕ} {cs : List CommentValue} → IsUtf8 t → PlainText t n c i j x → Clear t i j
     → MaySeparate t m d j l cs → is_ns_char (code t l) ≡ true → is_plain_char t c l ≡ false → Chosen (Plain t n c i) k y → (k ≡ j) × (y ≡ x)
 plain_ends {t} {n} {c = c} {i = i} {j = j} {k = k} {l = l} {x = x} u p a s v e best =
@@ -189,7 +189,7 @@ pub bars : (is_bar 42 ≡ true) × (is_bar 44 ≡ true) × (is_bar 93 ≡ true) 
 unfolding is_bar
 bars = (refl, refl, refl, refl, refl)
 
--- a sign begins one before a character that is safe alone
+-- a sign begins a plain scalar only before a safe character
 sign_colon : is_sign 58 ≡ true
 unfolding is_sign
 sign_colon = refl

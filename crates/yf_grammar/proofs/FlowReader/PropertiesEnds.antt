@@ -1,4 +1,4 @@
--- Properties are the longest ones where they are followed by a separation and content, or by what ends an entry.
+-- Properties are the longest ones if a separation and content follow them, or the end of an entry.
 use Rattle.std.proofs.Common.{◌≡◌, ◌≢◌, ℕ, ℤ, ◌+◌, ◌-◌, ◌<◌, ◌≤◌, Bool, true, false, ◌||◌, ◌==◌, ◌⊎◌, inl, inr, ⊎_elim, List, refl, sym, ap, ◌∙◌, subst, arith, true≢false}
 use Rattle.std.proofs.lemmas.Bool.{cases_lt, ne_eqb}
 use Rattle.std.proofs.lemmas.Bool.Decides.{nat_tests}
@@ -31,7 +31,7 @@ use Rattle.yf_grammar.proofs.Ends.GapLemmas.{Visible, separate_still, same_end}
 use Rattle.yf_chars.proofs.CharFacts.{exclamation_no_tag, exclamation_no_word, angle_no_tag, angle_no_word}
 use Rattle.yf_props.proofs.NameOrder.{properties_forward}
 
--- what is after a node in a flow collection: a comma, a closing bracket, or the `:` after a key
+-- the characters after a node in a flow collection: a comma, a closing bracket, or the `:` after a key
 unfoldable pub is_stop : ℕ → Bool
 is_stop c = (c == 44) || (c == 93) || (c == 125) || (c == 58)
 
@@ -97,7 +97,7 @@ module _ {t : List ℕ} where
   mark_no_word : {i j : ℕ} → Run (WordChar t) i j → code t i ≡ 33 → ⊥
   mark_no_word r e = no_word_at r (ap is_word_char e ∙ exclamation_no_word)
 
-  -- the suffix after a `!` alone ends where a longer handle ends
+  -- the suffix after a single `!` ends where a longer handle ends
   suffix_end : {i w k : ℕ} → Run (WordChar t) i w → code t w ≡ 33 → Run (TagChar t) i k → k ≡ w
   suffix_end {w = w} s b r =
       let stuck : Stuck (TagChar t w) = record { none = λ j x d. ⊎_elim (λ (q : is_tag_char (code t w) ≡ true). true≢false (sym q ∙ ap is_tag_char b ∙ exclamation_no_tag)) (λ (q : code t w ≡ 37). absurd (omega arith)) (tag_first_char d) } in
@@ -109,7 +109,7 @@ module _ {t : List ℕ} where
   tags_unique : {i w v : ℕ} → Run (TagChar t) i w → Run (TagChar t) i v → w ≡ v
   tags_unique r s = run_unique tag_functional r s
 
-  -- two shorthands from one place
+  -- two shorthands from one offset
   two_handles : {i h g m k : ℕ} → Handle t i h → Run (TagChar t) h g → Handle t i m → Run (TagChar t) m k → is_stop (code t g) ≡ true → g < k → ⊥
   two_handles (primary_handle a) r (primary_handle b) s e l = let q = tags_unique r s in omega arith
   two_handles (primary_handle a) r (secondary_handle b c) s e l = no_tag_at 33 r c exclamation_no_tag (λ q. absurd (omega arith))
@@ -158,13 +158,13 @@ module _ {t : List ℕ} where
   alone_short s (shorthand_tag (handle_suffix m r)) e l = short_alone s m r e
   alone_short s (non_specific_tag a r) e l = omega arith
 
-  -- a tag before what ends an entry is the longest
+  -- a tag before the end of an entry is the longest
   pub tag_before_stop : {i g k : ℕ} {v w : TagValue} → TagProperty t i g v → TagProperty t i k w → is_stop (code t g) ≡ true → g < k → ⊥
   tag_before_stop (verbatim_tag d) e f l = let q = verbatim_longest d e in omega arith
   tag_before_stop (shorthand_tag d) e f l = shorthand_short d e f l
   tag_before_stop (non_specific_tag a s) e f l = alone_short s e f l
 
-  -- and so is one before a separation
+  -- likewise before a separation
   pub tag_before_separation : {n : ℤ} {c : Ctx} {i g k m : ℕ} {v w : TagValue} {x : List CommentValue} → IsUtf8 t → TagProperty t i g v → TagProperty t i k w
       → Separate t n c g m x → g < k → ⊥
   tag_before_separation {g = g} {m = m} {x = x} u d e s l =
@@ -172,7 +172,7 @@ module _ {t : List ℕ} where
       let all = tag_all_solid e in
       (no_separation_inside t u (g - 1) g (omega arith) (all.each (g - 1) (omega arith) (omega arith)) (all.each g (omega arith) l)).none m x s
 
--- after the properties that end at g no longer tag goes on, and no anchor or tag is after a separation
+-- properties end at g: no longer tag is derived, and no anchor or tag follows a separation there
 record Ended (t : List ℕ) (n : ℤ) (c : Ctx) (g : ℕ) : Type 0 where
   no_longer : {i k : ℕ} {v w : TagValue} → TagProperty t i g v → TagProperty t i k w → g < k → ⊥
   no_second : (k : ℕ) (x : List CommentValue) → Separate t n c g k x → (code t k ≡ 33) ⊎ (code t k ≡ 38) → ⊥
@@ -195,7 +195,7 @@ module _ {t : List ℕ} where
   tag_no_anchor d a = let e = tag_mark d in let f = anchor_here a in absurd (omega arith)
 
 module _ {t : List ℕ} {n : ℤ} {c : Ctx} where
-  -- the separation after the first property is the same
+  -- the separation after the first property has one end
   second_place : {h k l : ℕ} {x y : List CommentValue} → Separate t n c h k x → (code t k ≡ 33) ⊎ (code t k ≡ 38) → Separate t n c h l y
       → (code t l ≡ 33) ⊎ (code t l ≡ 38) → l ≡ k
   second_place {k = k} {l = l} s e r f = same_end (mark_visible k e) s (mark_visible l f) r
@@ -205,7 +205,7 @@ module _ {t : List ℕ} {n : ℤ} {c : Ctx} where
       let f' : TagProperty t _ k w = subst (λ z. TagProperty t z k w) (sym q) f in
       ⊎_elim (λ (l : g < k). absurd (e.no_longer d f' l)) (λ (l : k ≤ g). l) (cases_lt g k)
 
-  -- the first property ends where it does
+  -- the first property ends no later
   tag_meets : {i h m k : ℕ} {v w : TagValue} {x : List CommentValue} → IsUtf8 t → TagProperty t i h v → Separate t n c h k x → TagProperty t i m w → m ≤ h
   tag_meets {h = h} {m = m} u d s e = ⊎_elim (λ (l : h < m). absurd (tag_before_separation u d e s l)) (λ (l : m ≤ h). l) (cases_lt h m)
 
@@ -272,17 +272,17 @@ module _ {t : List ℕ} {n : ℤ} {c : Ctx} where
       → Visible t m → begins_properties (code t m) ≡ false → Chosen (Properties t n c i) k q → (k ≡ g) × (q ≡ p)
   properties_before u d s v f best = chosen_from u (ended_before u s v f) d best
 
-  -- those that are alone, before what ends an entry
+  -- properties without content, before the end of an entry
   pub properties_alone_before : {i g m k : ℕ} {p q : PropertiesValue} {x : List CommentValue} → IsUtf8 t → Properties t n c i g p → MaySeparate t n c g m x
       → Visible t m → is_stop (code t m) ≡ true → Chosen (Properties t n c i) k q → (k ≡ g) × (q ≡ p)
   properties_alone_before u d s v f best = chosen_from u (ended_alone u s v f) d best
 
-  -- and those after which a separation is that they cannot pass
+  -- and those before a separation that they cannot pass
   pub properties_before_line : {m : ℤ} {d : Ctx} {i g l k : ℕ} {p q : PropertiesValue} {x : List CommentValue} → IsUtf8 t → Properties t n c i g p → Separate t m d g l x
       → ((h : ℕ) (y : List CommentValue) → Separate t n c g h y → Visible t h → ⊥) → Chosen (Properties t n c i) k q → (k ≡ g) × (q ≡ p)
   properties_before_line u e s f best = chosen_from u (ended_line u s f) e best
 
-  -- none that are derived there end later
+  -- no properties that are derived there end later
   pub properties_upto : {i g m k : ℕ} {p q : PropertiesValue} {x : List CommentValue} → IsUtf8 t → Properties t n c i g p → Separate t n c g m x
       → Visible t m → begins_properties (code t m) ≡ false → Properties t n c i k q → k ≤ g
   properties_upto u d s v f e = longest u (ended_before u s v f) d e

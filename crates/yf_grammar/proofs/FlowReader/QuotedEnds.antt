@@ -1,4 +1,4 @@
--- Quoted scalars: where one ends, what it is in another context, and that one of a key is on one line.
+-- Quoted scalars: their ends, their meanings in other contexts, and that one of a key is on one line.
 use Rattle.std.proofs.Common.{◌≡◌, ℕ, ℤ, ◌+◌, ◌<◌, ◌≤◌, true, false, inl, inr, List, Option, sym, ap, ◌∙◌, subst, arith}
 use Rattle.std.specs.Str.{IsUtf8}
 use Rattle.yf_chars.specs.declared.context.Ctx.{Ctx}
@@ -28,7 +28,7 @@ module _ {A : Type 0} {t : List ℕ} {put : List ℕ → List A} {C B : ℕ → 
       let f = chain_forward (step_functional l) b.steps in
       let g = l.order b.at j b.last b.gap in omega arith
 
-  -- a body that goes on after the quote at which another one closes has a character there
+  -- if a body continues after the closing quote of another one, it has a character there
   longer_body : {m p j k : ℕ} {last other z : List A} → Laws t put C B quote → Gap t put B m j last → code t j ≡ quote
       → Chain (Step t put C B) m p z → Gap t put B p k other → code t k ≡ quote → j < k → (h : ℕ) × (w : List A) × C j h w
   longer_body {m} {j = j} {k = k} {last = last} {other = other} l g q done h r o =
@@ -82,7 +82,7 @@ module _ {t : List ℕ} where
   pub double_widened : {n m : ℤ} {c d : Ctx} {i j : ℕ} {x : List Piece} → IsUtf8 t → is_key c ≡ true → is_block d ≡ false → DoubleQuoted t n c i j x → DoubleQuoted t m d i j x
   double_widened u e b q = quoted_widened (double_kind t) u e b q
 
-  -- one that is shorter than another one ends before a quote
+  -- a quoted scalar that is shorter than another one ends before a quote
   pub single_before_quote : {n : ℤ} {c : Ctx} {i j k : ℕ} {x y : List ℕ} → is_block c ≡ false → SingleQuoted t n c i j x → SingleQuoted t n c i k y → j < k → code t j ≡ 39
   single_before_quote {n} {c} b p q l =
       let w = some_width n c b in

@@ -1,4 +1,4 @@
--- The recursive reader is sound: what it finds is derived, within the limit.
+-- The recursive reader is sound: each outcome is derived, within the limit.
 use Rattle.std.proofs.Common.{◌≡◌, ℕ, suc, max, ◌+◌, ◌≤◌, ℤ, Bool, true, false, List, [], ◌++◌, Option, Some, None, refl, sym, ap, ◌∙◌, subst, arith}
 use Rattle.yf_chars.specs.declared.context.Ctx.{Ctx}
 use Rattle.yf_chars.specs.Text.{code}
@@ -20,13 +20,13 @@ pub record Made (t : List ℕ) (e : ℕ) (p : Production) (i : ℕ) (f : ParsedN
   pub derived : Derives t f.height p i f.end f.meaning
   pub within : f.height ≤ e
 
--- entries up to the closing bracket: none, or some, up to where their meaning ends
+-- entries up to the closing bracket: none, or some, up to the end of their meaning
 pub data Closed (t : List ℕ) (e : ℕ) (sequence : Bool) (n : ℤ) (c : Ctx) (i : ℕ) (f : ParsedNode) : Type 0 where
   closed_at_once : f.end ≡ i → f.height ≡ 0 → f.meaning ≡ only [] i → code t i ≡ closing sequence → Closed t e sequence n c i f
   closed_after : (x : Meaning) → Derives t f.height (Grammar.Entries sequence n c) i f.end x → f.height ≤ e → Same x f.meaning
       → code t f.end ≡ closing sequence → Closed t e sequence n c i f
 
--- what the outcome of each task says
+-- the claim about the outcome of each task
 abbrev pub Sound : List ℕ → ℕ → Task → Option ParsedNode → Type 0
 Sound t e task None = Unit {0}
 Sound t e (Parser.ANode n c i) (Some f) = is_block c ≡ false → Made t e (Grammar.NodeOf f.json n c) i f
@@ -56,7 +56,7 @@ closed_within : {t : List ℕ} {e i : ℕ} {n : ℤ} {c : Ctx} {f : ParsedNode} 
 closed_within sequence (closed_at_once s h m q) = omega arith
 closed_within sequence (closed_after x d w s q) = w
 
--- an entry, a comma and what is after it
+-- an entry, a comma and the text after it
 joined_closed : {t : List ℕ} {e i k m : ℕ} {sequence : Bool} {n : ℤ} {c : Ctx} {cs ds : List CommentValue} {f g : ParsedNode} → Made t e (Grammar.Entry sequence n c) i f
     → Gap t n c f.end k cs → code t k ≡ 44 → Gap t n c (k + 1) m ds → Closed t e sequence n c m g
     → Closed t e sequence n c i (record { end = g.end; height = max f.height g.height; json = true; meaning = noting f.meaning (cs ++ ds) ⊕ g.meaning })
@@ -155,7 +155,7 @@ sound (Parser.value_adjacent {c = c} {f = f} s p) = λ q a.
 sound (Parser.value_adjacent_empty {c = c} s p) = λ q a. record { derived = Grammar.empty_value (inside_not_block c q) a.colon a.follows; within = omega arith }
 sound (Parser.value_missing {c = c} s) = λ q a. record { derived = Grammar.empty_value (inside_not_block c q) a.colon a.follows; within = omega arith }
 
--- a flow node that was found is derived, and opens no more collections than it may
+-- a flow node that was found is derived, and opens no more collections than the limit
 pub found_is_derived : {t : List ℕ} {e i : ℕ} {n : ℤ} {c : Ctx} {f : ParsedNode} → is_block c ≡ false → Parses t e (Parser.ANode n c i) (Some f)
     → Derives t f.height (Grammar.NodeOf f.json n c) i f.end f.meaning × (f.height ≤ e)
 found_is_derived b p = let m = sound p b in (m.derived, m.within)

@@ -1,4 +1,4 @@
--- The way that each task of the recursive reader of flow nodes goes, over the outcomes of the tasks that it calls for.
+-- The way of each task of the recursive reader of flow nodes, over the outcomes of the tasks that it calls.
 use Rattle.std.proofs.Common.{◌≡◌, ◌≢◌, ℕ, max, ◌+◌, ◌<◌, ◌≤◌, ℤ, Bool, true, false, ◌==◌, ◌||◌, List, [], ◌++◌, Option, Some, None, encode_utf8_all}
 use Rattle.yf_chars.specs.declared.context.Ctx.{Ctx}
 use Rattle.yf_chars.specs.Text.{code}
@@ -13,11 +13,11 @@ use Rattle.yf_grammar.specs.FlowReader.Parser.{ParsedNode, Task, ColonAt, PairKe
 use Rattle.yf_grammar.specs.FlowReader.Parser as Parser
 use Rattle.yf_grammar.proofs.Ends.Ways.{Is, Never, Fork, Takes, Past, Finds, Limited, Somewhere, Flagged}
 
--- the outcomes of the tasks that a task calls for
+-- the outcomes of the tasks that a task calls
 abbrev pub Outcomes : Type 1
 Outcomes = ℕ → Task → Option ParsedNode → Type 0
 
--- what is after properties that end at g
+-- after properties that end at g
 abbrev pub AfterProperties : Outcomes → List ℕ → ℕ → ℤ → Ctx → ℕ → ℕ → PropertiesValue → Option ParsedNode → Type 0
 AfterProperties R t e n c i g p = Takes (Separate t n c g)
     (λ k cs. Fork (begins_content (code t k) ≡ true) (begins_content (code t k) ≡ false)
@@ -49,7 +49,7 @@ ContentWay R t e n c i = Fork (code t i ≡ 39) (code t i ≢ 39)
     (Takes (DoubleQuoted t n c i) (λ j x. Is (found j 0 true (scalar DoubleStyle (encode_utf8_all (text_of x)) (bad_escapes x) i j))) (Is None))
     (BracketWay R t e n c i))
 
--- what is after an entry
+-- after an entry
 abbrev pub AfterEntry : Outcomes → List ℕ → ℕ → Bool → ℤ → Ctx → ParsedNode → Option ParsedNode → Type 0
 AfterEntry R t e s n c f = Past t n c f.end (λ k cs. Fork (code t k ≡ closing s) (code t k ≢ closing s)
     (Is (found k f.height true (noting f.meaning cs)))
@@ -69,7 +69,7 @@ MappingWay R t e n c i = Fork (code t i ≡ 63) (code t i ≢ 63)
     (R e (Parser.AnImplicit n c i i)))
     (R e (Parser.AnImplicit n c i i))
 
--- an entry of a sequence that begins with no sign: what its node is
+-- an entry of a sequence that begins with no sign, from its first node on
 abbrev pub NodeItemWay : Outcomes → List ℕ → ℕ → ℤ → Ctx → ℕ → ParsedNode → Option ParsedNode → Type 0
 NodeItemWay R t e n c i f = Somewhere (PairKey t c i f)
     (λ k. Fork (f.height < e) (e ≤ f.height)
@@ -102,7 +102,7 @@ ExplicitWay R t e n c s i = Fork ((code t i == 44) || (code t i == 93) || (code 
     (Is (found i 0 false (entering s None (empty_node (s + 1)) ⊕ empty_node (s + 1))))
     (R e (Parser.AnImplicit n c s i))
 
--- what is after a key
+-- after a key
 abbrev pub AfterKey : Outcomes → List ℕ → ℕ → ℤ → Ctx → ℕ → ParsedNode → Option ParsedNode → Type 0
 AfterKey R t e n c s f = Past t n c f.end (λ k cs. Fork (ColonAt t f.json c k) (ColonAt t f.json c k → ⊥)
     (Finds (R e (Parser.AValue f.json n c k)) (λ g. Is (paired s k f cs g)) Never)

@@ -1,4 +1,4 @@
--- The value after a `:`, where what the reader finds of its node is known.
+-- The value after a `:`, if the reader's outcome for its node is known.
 use Rattle.std.proofs.Common.{◌≡◌, ℕ, ℤ, ◌+◌, Bool, true, false, List, Option, Some, None, refl, ap, ◌∙◌, subst}
 use Rattle.yf_chars.specs.declared.context.Ctx.{Ctx}
 use Rattle.yf_chars.specs.Chain.{Stuck}
@@ -43,7 +43,7 @@ module _ {t : List ℕ} {n : ℤ} {c : Ctx} where
   adjacent_exact j h x s g (value_adjacent {f = f} d r) = g (Some f) r
   adjacent_exact j h x s g (value_adjacent_empty d r) = let a = g None r in absurd (none_found j h a.0 x a.1)
 
-  -- an empty value, where no node begins after the longest separation
+  -- an empty value, if no node begins after the longest separation
   pub empty_exact : {e i l : ℕ} {json : Bool} {cs : List CommentValue} {o : Option ParsedNode} → MaySeparate t n c (i + 1) l cs → Visible t l
       → ((f : ParsedNode) → Parses t e (ANode n c l) (Some f) → ⊥) → Parses t e (AValue json n c i) o → o ≡ found (i + 1) 0 false (empty_node (i + 1))
   empty_exact {e = e} m v g (value_read {f = f} d r) =

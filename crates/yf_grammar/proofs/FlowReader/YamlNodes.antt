@@ -1,4 +1,5 @@
--- Nodes like those of YAML are found as they are derived, inside of a flow collection and before what can follow them.
+-- The reader finds nodes like those of YAML as they are derived, inside of a flow collection and before text that can
+-- follow them.
 use Rattle.std.proofs.Common.{◌≡◌, ℕ, ℤ, Bool, true, false, List, Option, None, sym, ◌∙◌, arith}
 use Rattle.std.specs.Str.{IsUtf8}
 use Rattle.yf_chars.specs.declared.context.Ctx.{Ctx}
@@ -18,7 +19,7 @@ use Rattle.yf_grammar.proofs.FlowReader.PlainEnds.{plain_leaps, first_no_bar, no
 use Rattle.yf_grammar.proofs.FlowReader.NodeExact.{Followed, plain_exact, plain_with_exact, alone_exact}
 use Rattle.yf_props.proofs.NameOrder.{properties_forward}
 
--- a node like YAML's, inside of a flow collection and before what can follow it, is found as it is derived
+-- the reader finds a node like YAML's, inside of a flow collection and before text that can follow it, as it is derived
 pub yaml_node_is_found : {t : List ℕ} {n : ℤ} {c : Ctx} {h e i j : ℕ} {x : Meaning} {o : Option ParsedNode} → IsUtf8 t → is_inside c ≡ true
     → Derives t h (NodeOf false n c) i j x → Clear t i j → Followed t n c false j → Parses t e (ANode n c i) o → o ≡ found j h false x
 yaml_node_is_found u s (an_alias b a) k f r = node_alias a r
@@ -52,7 +53,7 @@ past_none {i = i} {g = g} {p = p} (past_to_nothing a q) z = no_lone p i g (sym q
 past_none {i = i} {g = g} {p = p} (past_to_broken k cs a b r q) z = no_lone p i g (sym q ∙ z)
 past_none {i = i} {g = g} {p = p} (past_to_other k cs a b r q) z = no_lone p i g (sym q ∙ z)
 
--- where a node like YAML's is derived the reader finds one, in each context
+-- if a node like YAML's is derived, the reader finds one, in each context
 pub yaml_node_is_not_missed : {t : List ℕ} {n : ℤ} {c : Ctx} {h e i j : ℕ} {x : Meaning} {o : Option ParsedNode} → Derives t h (NodeOf false n c) i j x → Clear t i j
     → Parses t e (ANode n c i) o → o ≡ None → ⊥
 yaml_node_is_not_missed {i = i} {j = j} (an_alias {name = x} b a) k r z = no_found j 0 false (alias_to x i j) (sym (node_alias a r) ∙ z)

@@ -17,7 +17,7 @@ pub noting_last : (x y : Meaning) (cs : List CommentValue) → noting (x ⊕ y) 
 unfolding ◌⊕◌ noting
 noting_last x y cs = rw (append_assoc x.comments y.comments cs) refl
 
--- what was found, in another form
+-- an outcome in another form
 pub read_as : {t : List ℕ} {e : ℕ} {task : Task} {o p : Option ParsedNode} → o ≡ p → Parses t e task o → Parses t e task p
 read_as {t} {e} {task} q r = subst (λ w. Parses t e task w) q r
 

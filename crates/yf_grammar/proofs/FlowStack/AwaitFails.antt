@@ -1,5 +1,5 @@
--- Where a node of an entry is not derived, the flow collection that it is in is not: properties without the content after them
--- are a node, but neither a comma nor a bracket follows them.
+-- If a node of an entry is not derived, its flow collection is not: properties without the content after them are a
+-- node, but neither a comma nor a bracket follows them.
 use Rattle.std.proofs.Common.{◌≡◌, ◌≢◌, ℕ, suc, ℤ, Bool, true, false, List, [], ◌++◌, Some, None, refl, sym, ap, ◌∙◌, subst, arith, append-nil, true≢false}
 use Rattle.std.proofs.lemmas.Bool.Decides.{nat_tests}
 use Rattle.std.specs.Str.{IsUtf8}
@@ -31,7 +31,7 @@ use Rattle.yf_grammar.proofs.Ends.Ways.{gap_one}
 use Rattle.yf_grammar.proofs.Ends.WiderLemmas.{may_line_separate}
 use Rattle.yf_chars.proofs.CharFacts.{colon_ns}
 
--- separation is the same within a collection
+-- a collection's context and the one within it have equal separations
 same_keys : (c : Ctx) → is_key (in_flow c) ≡ is_key c
 same_keys BlockOut = refl
 same_keys BlockIn = refl
@@ -58,12 +58,12 @@ module _ {t : List ℕ} {n : ℤ} where
   gap_outside {c} g = gap_as (sym (same_keys c)) g
 
 module _ {t : List ℕ} {n : ℤ} {d : Ctx} where
-  -- where no separation begins the gap is empty
+  -- if no separation begins, the gap is empty
   pub gap_still : {j k : ℕ} {ds : List CommentValue} → Visible t j → Gap t n d j k ds → (k ≡ j) × (ds ≡ [])
   gap_still v (longest_gap s) = separate_still v s.derived
   gap_still v (no_gap s) = (refl, refl)
 
-  -- after the longest separation there is no further one
+  -- after the longest separation no further one begins
   pub gap_twice : {i j k : ℕ} {cs ds : List CommentValue} → IsUtf8 t → Gap t n d i j cs → Gap t n d j k ds → Visible t k → (k ≡ j) × (ds ≡ [])
   gap_twice u (no_gap s) g v = gap_one (no_gap s) g
   gap_twice u (longest_gap s) (no_gap r) v = (refl, refl)
@@ -99,7 +99,7 @@ in_line_separate : {t : List ℕ} {n : ℤ} (d : Ctx) {i j : ℕ} → SeparateIn
 in_line_separate d s true e = in_key e s
 in_line_separate d s false e = in_node e (in_line s)
 
--- no key ends where content begins after it
+-- no key ends before content
 no_key_before_content : {t : List ℕ} {n : ℤ} {d : Ctx} {s k : ℕ} {cs : List CommentValue} {f : ParsedNode} → Gap t n d f.end k cs → begins_content (code t k) ≡ true
     → (m : ℕ) → PairKey t d s f m → ⊥
 no_key_before_content {t} {n} {d} {k = k} {f = f} g b m q =
@@ -109,7 +109,7 @@ no_key_before_content {t} {n} {d} {k = k} {f = f} g b m q =
     (content_not_ended (code t k) b).1 z
 
 module _ {t : List ℕ} {n : ℤ} {c d : Ctx} {i h : ℕ} {x : Meaning} {s : ℕ} where
-  -- there is no node
+  -- the node is missing
   pub node_fails : {sequence pair : Bool} {e p g : ℕ} {y : Meaning} → NodeAwaited t n d s sequence e pair p g y → EntriesAwaited t (with_pair pair e) sequence n c d i h x s
       → code t s ≢ closing sequence → Parses t e (ANode n d p) None → Parses t (suc (with_pair pair e)) (AContent n c i) None
   node_fails (as_item w) a z r = entry_fails a z (item_fails w r)
@@ -119,7 +119,7 @@ module _ {t : List ℕ} {n : ℤ} {c d : Ctx} {i h : ℕ} {x : Meaning} {s : ℕ
       let m = not_ended sequence (code t p) q in
       entry_stays_open a z l.3 l.4 m.0 m.1
 
-  -- there is one, with content after it that belongs to no entry
+  -- the node is found, but content follows it that belongs to no entry
   pub lone_fails : {sequence pair : Bool} {e p g k : ℕ} {y : Meaning} {cs : List CommentValue} (f : ParsedNode) → NodeAwaited t n d s sequence e pair p g y
       → EntriesAwaited t (with_pair pair e) sequence n c d i h x s → code t s ≢ closing sequence → Parses t e (ANode n d p) (Some f) → Gap t n d f.end k cs
       → begins_content (code t k) ≡ true → Parses t (suc (with_pair pair e)) (AContent n c i) None
@@ -156,7 +156,7 @@ content_fails (properties_there {i = i} {g = g} {p = p} q s b) a z w r =
     lone_fails (record { end = g; height = 0; json = false; meaning = meaning_after p.comments (with_props p.props p.tag_offset i g (empty_node g)) }) w a z
     (read_as (lone_is p i g ∙ found_is g 0 false (meaning_after p.comments (with_props p.props p.tag_offset i g (empty_node g)))) (properties_before_broken q s b r)) (longest_gap s) b
 
--- where an entry ends no node is derived
+-- at the end of an entry no node is derived
 as_end : (c : ℕ) → is_entry_end c ≡ true → is_end c ≡ true
 unfolding is_end
 as_end c e = e

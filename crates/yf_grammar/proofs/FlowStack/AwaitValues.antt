@@ -84,7 +84,7 @@ module _ {t : List ℕ} {e s : ℕ} {n : ℤ} {d : Ctx} where
   }
 
 module _ {t : List ℕ} {e : ℕ} {sequence : Bool} {n : ℤ} {d : Ctx} {pair : Bool} {s : ℕ} {x : Meaning} {p : ℕ} where
-  -- what ends the entry after `?`, or something else
+  -- the end of the entry after `?`, or something else
   pub rest_ends : RestAwaited t e sequence n d pair s x p → (code t p == 44) || (code t p == 93) || (code t p == 125) ≡ true
       → IsEntry t (with_pair pair e) sequence n d s p (with_pair pair 0) (wrapped pair s (x ⊕ (entering s None (empty_node (s + 1)) ⊕ empty_node (s + 1))))
   rest_ends a b = a.some _ (read_as (found_is p 0 false (entering s None (empty_node (s + 1)) ⊕ empty_node (s + 1))) (explicit_nothing b))

@@ -1,4 +1,4 @@
--- What holds of each event of a tree that is in a text: its node begins at a visible character, and is spelled.
+-- Each event of a tree in a text has these properties: its node begins at a visible character, and is spelled.
 use Rattle.std.proofs.Common.{◌≡◌, ℕ, suc, zero, ◌<◌, Bool, true, false, List, [], ◌∷◌, ◌++◌, length, Option, Some, None, refl, sym, ap, ◌∙◌, subst, true≢false, arith}
 use Rattle.std.specs.Prelude.{slice_index_or}
 use Rattle.yf_props.specs.Props.{PropsValue}
@@ -31,7 +31,7 @@ events_all [] a f k d l = absurd (omega arith)
 events_all (e ∷ es) (event_is_at h a) f zero d l = f e h
 events_all {P = P} (e ∷ es) (event_is_at h a) f (suc k) d l = events_all {P = P} es a f k d (omega arith)
 
--- events that are no node's
+-- events that begin no node
 pub unplaced_is_at : {t : List ℕ} (e : EventValue) → begins_node e ≡ false → EventIsAt t (unplaced e)
 unplaced_is_at e b = record { visible = λ s q. absurd cc; spelled = λ q. absurd (true≢false (sym q ∙ b)) }
 

@@ -1,4 +1,4 @@
--- What a production means ends after it begins: its last node with characters, or its last sign.
+-- The meaning of a production ends after it begins: at its last node with characters, or its last sign.
 use Rattle.std.proofs.Common.{◌≡◌, ℕ, ℤ, ◌+◌, ◌<◌, ◌≤◌, false, List, refl, arith}
 use Rattle.std.specs.Str.{IsUtf8}
 use Rattle.yf_lines.specs.Basic.{is_block}

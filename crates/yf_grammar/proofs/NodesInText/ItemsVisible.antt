@@ -1,4 +1,5 @@
--- The items of a tree that is in a text, which are the beginnings of its entries and of its leaves with characters, are visible characters.
+-- The items of a tree in a text, which are the starts of its entries and of its leaves with characters, are visible
+-- characters.
 use Rattle.std.proofs.Common.{◌≡◌, ℕ, suc, zero, ◌<◌, List, [], ◌∷◌, ◌++◌, length, map, Option, Some, None, sym, subst, arith}
 use Rattle.std.specs.Prelude.{slice_index_or}
 use Rattle.yf_events.specs.declared.event.Entry.{Entry}

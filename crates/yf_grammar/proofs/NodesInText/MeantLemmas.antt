@@ -1,4 +1,4 @@
--- The trees that parts of a production mean make up the tree that it means.
+-- The trees of a production's parts make up the tree of the production.
 use Rattle.std.proofs.Common.{◌≡◌, ℕ, Bool, true, false, List, [], ◌∷◌, ◌++◌, Option, Some, None, refl, sym, ap, ◌∙◌, subst, append_assoc, append-nil}
 use Rattle.std.specs.Prelude.{is_some}
 use Rattle.yf_comments.specs.Comment.{CommentValue}

@@ -1,5 +1,6 @@
--- The nodes of a tree are in a text in order: each begins at a visible character and ends after it, what is in it is between its content's
--- beginning and its end, an entry begins before its node, its `:` is between key and value, and no value begins an entry.
+-- The nodes of a tree are in a text in order: each begins at a visible character and ends after it, its inner nodes are
+-- between the start and the end of its content, an entry begins before its node, its `:` is between key and value, and
+-- no value begins an entry.
 use Rattle.std.proofs.Common.{◌≡◌, ◌≢◌, ℕ, ℤ, ◌<◌, ◌≤◌, Bool, true, List, [], length, Option, Some, None, arith}
 use Rattle.yf_chars.specs.Text.{code}
 use Rattle.yf_chars.specs.declared.context.Ctx.{Ctx}
@@ -18,7 +19,7 @@ use Rattle.yf_grammar.specs.FlowReader.Parser.{begins_content}
 use Rattle.yf_grammar.specs.Productions.SpellableTexts.{IsSpelled}
 use Rattle.yf_grammar.proofs.Ends.GapLemmas.{Visible}
 
--- a tag that is written with a character at least
+-- a tag with at least one written character
 pub data HasText : TagValue → Type 0 where
   verbatim_text : {text : List ℕ} → HasText (IsVerbatim text)
   short_text : {handle suffix : List ℕ} → 0 < length handle → HasText (IsShort handle suffix)
@@ -35,18 +36,19 @@ pub data HasCharacters : PropsValue → ScalarStyle → List ℕ → Type 0 wher
   by_text : {props : PropsValue} {style : ScalarStyle} {text : List ℕ} → 0 < length text → HasCharacters props style text
   by_style : {props : PropsValue} {style : ScalarStyle} {text : List ℕ} → style ≢ Plain → HasCharacters props style text
 
--- a node begins at a place or after it, with a visible character
+-- a node begins at an offset or after it, with a visible character
 pub record Begins (t : List ℕ) (i a : ℕ) : Type 0 where
   pub order : i ≤ a
   pub visible : Visible t a
 
--- the content of a node with properties begins after them and what separates it from them, and with no sign of properties or comments
+-- the content of a node with properties begins after them and a separation, and with no sign of properties or comments
 pub data ContentFrom (t : List ℕ) : PropsValue → ℕ → ℕ → Type 0 where
   content_alone : {a : ℕ} → ContentFrom t no_props a a
   content_after : {n : ℤ} {c : Ctx} {a g k : ℕ} {p : PropertiesValue} {cs : List CommentValue} → Properties t n c a g p → Separate t n c g k cs
       → begins_content (code t k) ≡ true → ContentFrom t p.props a k
 
--- a collection begins at a, its entries are from k on, and it ends at b, after k; where it is a flow collection, k is where its content begins
+-- a collection begins at a, its entries are from k on, and it ends at b, after k; the content of a flow collection
+-- begins at k
 pub record Opens (t : List ℕ) (flow : Bool) (props : PropsValue) (i a k b : ℕ) : Type 0 where
   pub order : i ≤ a
   pub visible : Visible t a

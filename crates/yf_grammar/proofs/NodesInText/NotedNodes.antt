@@ -1,4 +1,4 @@
--- Notes on blank lines leave the nodes of a tree where they are, and as they are.
+-- Notes on blank lines change neither the nodes of a tree nor their offsets.
 use Rattle.std.proofs.Common.{◌≡◌, ℕ, Bool, List, [], ◌∷◌, ◌++◌, Option, Some, None, refl, sym, ap, ◌∙◌, subst, append_assoc}
 use Rattle.std.specs.Prelude.{is_some}
 use Rattle.yf_chars.proofs.Tests.{same_value}
@@ -98,11 +98,11 @@ module _ {t : List ℕ} where
   regrouped : {floor : ℕ} {ys : List EventInText} (x y z : List EventInText) → Noting t floor ((x ++ y) ++ z) ys → Noting t floor (x ++ (y ++ z)) ys
   regrouped {floor = floor} {ys = ys} x y z n = subst (λ w. Noting t floor w ys) (append_assoc x y z) n
 
--- a place, or none
+-- a span, or none
 spanned_as : {o p : Option Span} → p ≡ o → is_some o ≡ is_some p
 spanned_as e = ap is_some (sym e)
 
--- how the events of a collection, of an item and of a pair are joined
+-- the joined events of a collection, of an item and of a pair
 
 pub enclosed : (ys more more2 more3 inner : List EventInText) (first last : EventInText) → ys ≡ first ∷ more → more ≡ inner ++ more2 → more2 ≡ last ∷ more3
     → ys ≡ (first ∷ (inner ++ (last ∷ []))) ++ more3

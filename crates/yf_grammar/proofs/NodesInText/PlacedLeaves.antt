@@ -1,4 +1,4 @@
--- Leaves are where they are read, and their styles spell them.
+-- Leaves are at the offsets at which they are read, and their styles spell them.
 use Rattle.std.proofs.Common.{◌≡◌, ◌≢◌, ℕ, ℤ, ◌<◌, true, false, List, [], length, Option, None, refl, sym, ◌∙◌, arith, true≢false, length-append}
 use Rattle.std.proofs.lemmas.Bool.Decides.{nat_tests}
 use Rattle.std.proofs.lemmas.List.{length-take, length-drop}
@@ -41,7 +41,7 @@ use Rattle.yf_grammar.proofs.NodesInText.NodePlaces.{HasProps, has_tag, has_anch
 use Rattle.yf_grammar.proofs.NodesInText.PlacedNodes.{NodeAt}
 use Rattle.yf_grammar.proofs.BlockOutcomes.BlockGaps.{block_no_key}
 
--- What nodes begin with.
+-- The first characters of nodes.
 
 pub properties_seen : (c : ℕ) → begins_properties c ≡ true → is_ns_char c ≡ true
 unfolding begins_properties is_ns_char is_nb_char is_printable is_between is_break_char is_white
@@ -108,7 +108,7 @@ properties_written (by_anchor a) = has_anchor
 properties_written (tag_first g s a) = has_tag (tag_written g)
 properties_written (anchor_first a s g) = has_anchor
 
--- An empty node, and properties alone.
+-- An empty node, and properties without content.
 
 nothing_derived : Derives [] 0 (BlockIndented 0 BlockIn) 0 0 (noting (empty_node 0) [])
 nothing_derived = nothing_indented refl (past_rest (nothing (by_end refl)) done)

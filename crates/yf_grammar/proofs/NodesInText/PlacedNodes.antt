@@ -1,4 +1,4 @@
--- The trees that the parts of a production mean make up the tree that it means, with their nodes in order.
+-- The trees of a production's parts make up the tree of the production, with their nodes in order.
 use Rattle.std.proofs.Common.{◌≡◌, ℕ, ◌<◌, ◌≤◌, Bool, true, false, List, [], ◌∷◌, ◌++◌, Option, Some, None, refl, sym, ap, ◌∙◌, append_assoc, append-nil, arith}
 use Rattle.yf_comments.specs.Comment.{CommentValue}
 use Rattle.yf_props.specs.Props.{PropsValue, no_props}
@@ -12,8 +12,8 @@ use Rattle.yf_grammar.proofs.Ends.GapLemmas.{Visible}
 use Rattle.yf_grammar.proofs.NodesInText.MeantLemmas.{entered, entered_events}
 use Rattle.yf_grammar.proofs.NodesInText.NodePlaces.{Begins, ColonIsAt, ContentFrom, content_alone, Entered, NodeIsAt, Opens, is_at_nowhere, scalar_is_at, alias_is_at, sequence_is_at, mapping_is_at, ItemsStand, no_items_stand, item_is_at, PairsStand, no_pairs_stand, pair_is_at, node_after, node_upto, items_after, items_upto, pairs_after, pairs_upto}
 
--- What a production means that begins at i and ends at j: a node, the items of a sequence, the pairs of a mapping, and one of them. They end
--- where the meaning has its finish.
+-- The meaning of a production from i to j: a node, the items of a sequence, the pairs of a mapping, or one of them.
+-- They end at the finish of the meaning.
 
 pub record NodeAt (t : List ℕ) (i j : ℕ) (x : Meaning) : Type 0 where
   pub node : Node
@@ -57,7 +57,7 @@ pub record PairsAt (t : List ℕ) (i j : ℕ) (x : Meaning) : Type 0 where
   pub is_there : PairsStand t i x.finish pairs
   pub ends : x.finish ≤ j
 
--- by the kind of collection: true is a sequence
+-- for either kind of collection: true for a sequence
 pub data EntryAt (t : List ℕ) : Bool → ℕ → ℕ → Meaning → Type 0 where
   an_item : {i j : ℕ} {x : Meaning} → ItemAt t i j x → EntryAt t true i j x
   a_pair : {i j : ℕ} {x : Meaning} → PairAt t i j x → EntryAt t false i j x
@@ -244,7 +244,7 @@ pub entries_none : {t : List ℕ} {i j : ℕ} (s : Bool) (cs : List CommentValue
 entries_none true cs l = some_items (record { items = no_items; events = refl; is_there = no_items_stand l; ends = omega arith })
 entries_none false cs l = some_pairs (record { pairs = no_pairs; events = refl; is_there = no_pairs_stand l; ends = omega arith })
 
--- up to the finish alone
+-- only up to the finish
 pub node_narrow : {t : List ℕ} {i j : ℕ} {x : Meaning} → NodeAt t i j x → NodeAt t i x.finish x
 node_narrow a = record { node = a.node; events = a.events; no_entry = a.no_entry; is_there = a.is_there; ends = omega arith }
 

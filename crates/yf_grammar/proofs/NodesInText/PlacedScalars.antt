@@ -1,4 +1,4 @@
--- Block scalars are where they are read, with all lines that they reach, and their styles spell them.
+-- Block scalars are at the offsets at which they are read, with all lines that they reach, and their styles spell them.
 use Rattle.std.proofs.Common.{◌≡◌, ◌≢◌, ℕ, ℤ, ◌+◌, ◌≤◌, Bool, true, false, List, [], length, Option, None, refl, ap, ◌∙◌, arith}
 use Rattle.std.specs.Str.{IsUtf8}
 use Rattle.yf_chars.specs.Class.{is_ns_char, is_nb_char, is_printable, is_between, is_break_char, is_white}
@@ -31,7 +31,7 @@ use Rattle.yf_grammar.proofs.NodesInText.NodePlaces.{HasProps, by_props, by_styl
 use Rattle.yf_grammar.proofs.BlockOutcomes.OneScalars.{lines_one}
 use Rattle.yf_grammar.proofs.NodesInText.PlacedNodes.{NodeAt}
 
--- Where a block scalar ends: no later than what is read of it.
+-- A block scalar ends no later than the text that is read of it.
 
 module _ {t : List ℕ} (u : IsUtf8 t) where
   between : {i j count : ℕ} → LinesTo t i j count → LinesBetween t count i j
@@ -66,7 +66,7 @@ module _ {t : List ℕ} (u : IsUtf8 t) where
   pub between_forward : {i j count : ℕ} → LinesBetween t count i j → i ≤ j
   between_forward (counted c l) = chain_forward (line_functional t) c
 
--- What it begins with.
+-- Its first character.
 
 bar_seen : (is_ns_char 124 ≡ true) × (is_ns_char 62 ≡ true)
 unfolding is_ns_char is_nb_char is_printable is_between is_break_char is_white

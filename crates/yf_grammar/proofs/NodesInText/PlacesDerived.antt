@@ -1,4 +1,4 @@
--- Each node that is derived is a tree whose nodes are in order in the text, and whose scalars are spelled there.
+-- Each derived node is a tree whose nodes are in order in the text, and whose scalars are spelled there.
 use Rattle.std.proofs.Common.{◌≡◌, ℕ, ℤ, ◌+◌, ◌<◌, ◌≤◌, Bool, true, false, List, [], ◌++◌, Some, None, refl, sym, ap, ◌∙◌, true≢false, arith}
 use Rattle.std.specs.Prelude.{encode_utf8_all}
 use Rattle.std.specs.Str.{IsUtf8}

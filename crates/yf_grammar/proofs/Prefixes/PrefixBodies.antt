@@ -1,4 +1,4 @@
--- The header of a block scalar and its lines are in a prefix as in the text.
+-- A prefix derives the header of a block scalar and its lines as the text does.
 use Rattle.std.proofs.Common.{◌≡◌, ◌≢◌, ℕ, ◌+◌, ◌-◌, ◌<◌, ◌≤◌, ℤ, ⊎_elim, Bool, false, Option, None, List, [], ◌++◌, get_or, length, replicate, refl, sym, ap, ◌∙◌, subst, arith}
 use Rattle.std.proofs.lemmas.Bool.{cases_eq, cases_lt}
 use Rattle.yf_chars.specs.Text.{code, next}
@@ -25,7 +25,7 @@ use Rattle.yf_grammar.proofs.Prefixes.PrefixTexts.{Alike, alike_back, alike_next
 use Rattle.yf_grammar.proofs.Prefixes.PrefixLines.{Carried, chain_order, chain_there, passes_there, char_there, not_there, run_there, break_there, spaces_there, marker_there, no_marker_there}
 use Rattle.yf_grammar.proofs.Prefixes.PrefixComments.{PrefixText, no_nb_run, rest_in_prefix, line_end_chosen_in_prefix}
 
--- what is in one of two texts that are alike
+-- parts that are in one of two alike texts
 module _ {t s : List ℕ} {k : ℕ} (a : Alike t s k) where
   style_there : {i j : ℕ} {f : Bool} → Style t i j f → j ≤ k → Style s i j f
   style_there (literal_sign {i = i} e) l = literal_sign (char_there a i (omega arith) e)
@@ -54,7 +54,7 @@ module _ {t s : List ℕ} {k : ℕ} (a : Alike t s k) where
   indicators_there (digit_sign d e) l = let g = sign_order e in digit_sign (digit_there d (omega arith)) (sign_there e l)
   indicators_there (sign_digit d e) l = let g = digit_order e in sign_digit (sign_there d (omega arith)) (digit_there e l)
 
-  -- spaces from a place of the prefix on end in it
+  -- spaces from an offset of the prefix on end in it
   pub spaces_inside : {i m : ℕ} → Spaces t i m → i < k → i + m < k
   spaces_inside {i} {m} d l = ⊎_elim
       (λ (g : k - 1 - i < m).
@@ -131,7 +131,7 @@ module _ {t s : List ℕ} {k : ℕ} (a : Alike t s k) where
   marker_line_there (past_mark {i = i} e d) l =
       past_mark (char_there a i l e) (subst (λ j. MarkerLine s j) (alike_next a i l) (marker_line_there d (mark_inside i l e)))
 
--- the same of what is not there
+-- parts that are not in the text are not in the prefix
 module _ {t s : List ℕ} {k : ℕ} (f : PrefixText t s k) where
   other_in_prefix : {i : ℕ} → Other t i → i < k → Other s i
   other_in_prefix {i} d l = record {
@@ -150,7 +150,7 @@ module _ {t s : List ℕ} {k : ℕ} (f : PrefixText t s k) where
         clear = λ q. d.clear (marker_line_there (alike_back f.alike) q l);
       }
 
-  -- nothing but the end is at the end
+  -- only the end is at the end
   nothing_at_end : (c m i : ℕ) → c < 0x110000 → k ≤ i → code s (i + m) ≡ c → ⊥
   nothing_at_end c m i l g e = let z = f.closed in let p = code-past s (i + m) (omega arith) in absurd (omega arith)
 
@@ -216,7 +216,7 @@ module _ {t s : List ℕ} {k : ℕ} (f : PrefixText t s k) where
 all_taken : {t : List ℕ} {c i p count : ℕ} {ls : List (List ℕ)} {o : Bool} (d : LinesTaken t c i ls o count p) → Chain (Line t c) i p (ls ++ replicate (length d.tail.widths) [])
 all_taken d = chain_append (lines_chain d.lines) (empties d.tail.lines d.tail.within)
 
--- where the content's indentation is that of the line after the scalar, it has no content
+-- if the line after the scalar gives the content's indentation, the scalar has no content
 module _ {t : List ℕ} {n : ℤ} {i c p count : ℕ} {ls : List (List ℕ)} {o : Bool} (d : DetectedIndent t n i c) (a : LinesTaken t c i ls o count p) where
   detected_first : d.at ≤ p
   detected_first = (chain_chosen (line_functional t c) (all_taken a) a.most).longest d.at (replicate (length d.widths) []) (empties d.before d.within)
@@ -230,7 +230,7 @@ module _ {t : List ℕ} {n : ℤ} {i c p count : ℕ} {ls : List (List ℕ)} {o 
   }
 
 module _ {t s : List ℕ} {k : ℕ} (f : PrefixText t s k) where
-  -- a scalar whose first line of content is not in the prefix has no content there
+  -- if the first line of content is not in the prefix, the scalar has no content there
   without_in_prefix : {n : ℤ} {h : Header} {i p j c count : ℕ} {ls : List (List ℕ)} {o : Bool} {x : List CommentValue} → h.digit ≡ None → (d : DetectedIndent t n i c)
       → LinesTaken t c i ls o count p → Trail t c p j x → j ≤ k → k ≤ d.at
       → Body s n h i j (record { lines = ls; open_end = o; tail = count; comments = first_noted (is_gap_tail h.chomp count) x })

@@ -1,4 +1,5 @@
--- Comments, ends of lines and separation are in a prefix as in the text; and a line's rest in one of two texts that are alike is in the other.
+-- A prefix derives comments, ends of lines and separations as the text does; and two alike texts have the same rests of
+-- lines.
 use Rattle.std.proofs.Common.{◌≡◌, ℕ, ◌+◌, ◌-◌, ◌<◌, ◌≤◌, ℤ, ⊎_elim, Bool, true, false, true≢false, List, ◌++◌, length, refl, sym, ap, ◌∙◌, subst, arith}
 use Rattle.std.proofs.lemmas.Bool.{cases_lt}
 use Rattle.std.specs.Str.{IsUtf8}
@@ -54,7 +55,7 @@ nb_no_feed c l e = ⊎_elim
     l
 
 module _ {t s : List ℕ} {k : ℕ} (a : Alike t s k) where
-  -- what is before the place is the end of a break
+  -- the character before the offset ends a break
   pub last_of_break : before t k ≡ code t (k - 1)
   last_of_break =
       let f = a.later in
@@ -114,7 +115,7 @@ module _ {t s : List ℕ} {k : ℕ} (a : Alike t s k) where
       ⊎_elim (λ (w : code t (k - 1) ≡ 10). absurd (omega arith)) (λ (w : code t (k - 1) ≡ 13). absurd (omega arith)) a.last)
       (cases_lt (i + 1) j)
 
-  -- a row that moves on ends with a break
+  -- a row that is not empty ends with a break
   pub row_there : {i j : ℕ} {x : List CommentValue} → Row t i j x → j ≤ k → Row s i j x
   row_there {i} {j} {x} r l = record { rest = go r.rest r.later l; later = r.later } where
     go : {i j : ℕ} {x : List CommentValue} → LineRest t i j x → i < j → j ≤ k → LineRest s i j x
@@ -128,7 +129,7 @@ module _ {t s : List ℕ} {k : ℕ} (a : Alike t s k) where
         comment (in_line_there a d (omega arith)) (comment_there c (omega arith)) (by_break (break_there a b l))
     go (comment d c (by_end e)) f l = let w = a.within in absurd (no_comment_last c (omega arith))
 
--- a text and its prefix that ends at the place
+-- a text and its prefix that ends at the offset
 pub record PrefixText (t s : List ℕ) (k : ℕ) : Type 0 where
   pub alike : Alike t s k
   pub closed : length s ≡ k

@@ -1,4 +1,5 @@
--- Breaks, starts of lines, indentation, folds and document markers are in one of two texts that are alike up to a place as in the other.
+-- Two texts that are alike up to an offset have the same breaks, starts of lines, indentation, folds and document
+-- markers there.
 use Rattle.std.proofs.Common.{◌≡◌, ◌≢◌, ℕ, ◌+◌, ◌-◌, ◌<◌, ◌≤◌, ℤ, ⊎_elim, Bool, true, false, List, sym, ap, ◌∙◌, subst, arith, eqb, true≢false, ◌&&◌, ◌||◌}
 use Rattle.std.proofs.lemmas.Bool.{cases_Bool, cases_eq, and_parts, eqb-true, or_right}
 use Rattle.yf_chars.specs.Text.{code}
@@ -13,7 +14,7 @@ use Rattle.yf_lines.proofs.BasicLemmas.{break_forward}
 use Rattle.yf_grammar.proofs.Ends.Forward.{in_line_forward}
 use Rattle.yf_grammar.proofs.Prefixes.PrefixTexts.{Alike, alike_back, alike_next, goes_on_at}
 
--- a step never leads back, and one up to the place is one in the other text
+-- a step never leads back, and one up to the offset is one in the other text
 pub record Carried {A : Type 0} (k : ℕ) (S R : ℕ → ℕ → List A → Type 0) : Type 0 where
   pub order : (i j : ℕ) (x : List A) → S i j x → i ≤ j
   pub there : (i j : ℕ) (x : List A) → S i j x → j ≤ k → R i j x
@@ -154,7 +155,7 @@ module _ {t s : List ℕ} {k : ℕ} (a : Alike t s k) where
   pub fold_carried : (n : ℤ) → Carried k (FlowFolded t n) (FlowFolded s n)
   fold_carried n = record { order = λ i j x d. flow_folded_order d; there = λ i j x d l. flow_folded_there d l }
 
-  -- three of a character that ends no line, and what is after them
+  -- three copies of a character that ends no line, and the text after them
   three_there : (c i : ℕ) → c ≢ 10 → c ≢ 13 → i < k → is_three t i c ≡ true → (is_three s i c ≡ true) × (i + 3 < k)
   unfolding is_three
   three_there c i m n l e =

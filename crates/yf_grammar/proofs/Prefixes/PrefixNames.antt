@@ -1,4 +1,4 @@
--- Aliases, anchors, tags and properties are in a prefix as in the text.
+-- A prefix derives aliases, anchors, tags and properties as the text does.
 use Rattle.std.proofs.Common.{◌≡◌, ℕ, ◌+◌, ◌<◌, ◌≤◌, ℤ, ⊎_elim, Bool, true, false, true≢false, List, refl, sym, ap, ◌∙◌, arith}
 use Rattle.std.proofs.lemmas.Bool.{cases_lt}
 use Rattle.yf_chars.specs.Text.{code, no_char}
@@ -23,7 +23,7 @@ unfolding is_hex_digit is_digit is_between
 no_hex_digit = refl
 
 module _ {t s : List ℕ} {k : ℕ} (f : PrefixText t s k) where
-  -- no character is in the prefix at the place or after it
+  -- no character of the prefix is at the offset or after it
   pub inside : (p : ℕ → Bool) → p no_char ≡ false → (i : ℕ) → p (code s i) ≡ true → i < k
   inside p n i e = ⊎_elim
       (λ (l : i < k). l)

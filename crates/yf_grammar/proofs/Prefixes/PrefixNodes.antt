@@ -1,4 +1,5 @@
--- What a production derives in a text, it derives with the same meaning in each prefix that ends with a break.
+-- A production that derives a part of a text derives it with the same meaning in each prefix that holds it and ends
+-- with a break.
 use Rattle.std.proofs.Common.{◌≡◌, ℕ, ◌+◌, ◌<◌, ◌≤◌, ℤ, ⊎_elim, Bool, true, false, List, length, sym, ap, ◌∙◌, arith}
 use Rattle.std.proofs.lemmas.Bool.{cases_lt}
 use Rattle.std.specs.Str.{chars}
@@ -73,7 +74,7 @@ module _ {t s : List ℕ} {k : ℕ} (f : PrefixText t s k) where
         between_order : {count i j : ℕ} → LinesBetween t count i j → i ≤ j
         between_order (counted m e) = chain_order line_carried m
 
-  -- separation and what is beside
+  -- separations and the parts beside them
   may_in_prefix : {n : ℤ} {c : Ctx} {i j : ℕ} {x : List CommentValue} → MaySeparate t n c i j x → j ≤ k → MaySeparate s n c i j x
   may_in_prefix unseparated l = unseparated
   may_in_prefix (separated d) l = separated (separate_in_prefix f d l)
@@ -90,7 +91,7 @@ module _ {t s : List ℕ} {k : ℕ} (f : PrefixText t s k) where
   value_order true n c i j x d = may_forward d
   value_order false n c i j x d = separate_forward d
 
-  -- what a test says of the end, it says of each place after it
+  -- if a test has one result for the end of the text and for a code, it has it in the prefix
   class_in_prefix : (p : ℕ → Bool) {b : Bool} (i : ℕ) → p no_char ≡ b → p (code t i) ≡ b → p (code s i) ≡ b
   class_in_prefix p i n e = ⊎_elim
       (λ (l : i < k). ap p (sym (f.alike.codes i l)) ∙ e)

@@ -1,5 +1,5 @@
--- Notes on blank lines before entries are the same in a text and in its prefix, for entries that begin in it; and the entries of what
--- is derived begin before its end.
+-- A text and its prefix have equal notes on blank lines before the entries that begin in the prefix; and the entries of
+-- a derived part begin before its end.
 use Rattle.std.proofs.Common.{◌≡◌, ℕ, ◌+◌, ◌<◌, ◌≤◌, ℤ, Bool, true, false, List, [], ◌∷◌, ◌++◌, Option, Some, None, refl, sym, subst, arith}
 use Rattle.std.proofs.lemmas.Option.{same_Some}
 use Rattle.yf_chars.proofs.TextLemmas.{next_later}
@@ -23,7 +23,7 @@ use Rattle.yf_grammar.proofs.Prefixes.PrefixLines.{passes_there, break_there}
 use Rattle.yf_grammar.proofs.Prefixes.PrefixComments.{blank_alike}
 use Rattle.yf_grammar.proofs.Prefixes.PrefixNodes.{derived_order}
 
--- no entry begins after the place
+-- no entry begins after the offset
 pub data Begun (k : ℕ) : List EventInText → Type 0 where
   none_begun : Begun k []
   one_begun : {e : EventInText} {es : List EventInText} → ((f : Entry) → e.entry ≡ Some f → f.start ≤ k) → Begun k es → Begun k (e ∷ es)

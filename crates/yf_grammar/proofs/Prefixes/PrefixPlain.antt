@@ -1,4 +1,4 @@
--- Plain scalars are in a prefix as in the text.
+-- A prefix derives plain scalars as the text does.
 use Rattle.std.proofs.Common.{◌≡◌, ℕ, ◌+◌, ◌<◌, ◌≤◌, ℤ, true, true≢false, List, sym, ap, ◌∙◌, subst, arith}
 use Rattle.yf_chars.specs.Text.{code}
 use Rattle.yf_chars.specs.Chain.{Chain}

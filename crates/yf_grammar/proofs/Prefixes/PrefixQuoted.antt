@@ -1,4 +1,4 @@
--- Escapes and quoted scalars are in a prefix as in the text.
+-- A prefix derives escapes and quoted scalars as the text does.
 use Rattle.std.proofs.Common.{◌≡◌, ℕ, zero, suc, ◌+◌, ◌*◌, ◌<◌, ◌≤◌, ℤ, ⊎_elim, false, List, refl, sym, ap, ◌∙◌, subst, arith}
 use Rattle.std.proofs.lemmas.Bool.{cases_lt}
 use Rattle.std.specs.Char.{digit_value}

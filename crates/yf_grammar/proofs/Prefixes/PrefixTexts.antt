@@ -1,5 +1,5 @@
--- Two texts that are alike up to a place at which a line begins, since a break ends there in both; and that a text and its prefix up to
--- the end of a break are such texts.
+-- Two texts that are alike up to an offset at which a line begins, since a break ends there in both. A text and its
+-- prefix up to the end of a break are such texts.
 use Rattle.std.proofs.Common.{◌≡◌, ◌≢◌, ℕ, ◌+◌, ◌-◌, ◌<◌, ◌≤◌, ◌⊎◌, inl, inr, ⊎_elim, true, false, List, ◌++◌, length, take, drop, get_or-take, refl, sym, ap, ◌∙◌, subst, arith, append_assoc, lt-ltb}
 use Rattle.std.proofs.lemmas.Bool.{cases_Bool, cases_eq, cases_lt}
 use Rattle.std.proofs.lemmas.List.{take-take, drop-take, length-take-le, take-append-drop, drop-append-le}
@@ -14,7 +14,7 @@ use Rattle.yf_lines.specs.Basic.{Break}
 use Rattle.yf_lines.proofs.BasicLemmas.{break_end, break_forward}
 use Rattle.yf_lines.proofs.LineLemmas.{break_boundary}
 
--- what ends at a place: a line feed, or a carriage return
+-- the last character of a break: a line feed, or a carriage return
 abbrev pub FeedOrReturn : ℕ → Type 0
 FeedOrReturn c = (c ≡ 10) ⊎ (c ≡ 13)
 
@@ -85,7 +85,7 @@ module _ {t s : List ℕ} {k : ℕ} (a : Alike t s k) where
   pub goes_on_at : (c : ℕ) (i : ℕ) → i < k → code t i ≡ c → c ≢ 10 → c ≢ 13 → i + 1 < k
   goes_on_at c i l e m n = goes_on i l (λ q. m (sym e ∙ q)) (λ q. n (sym e ∙ q))
 
--- what is in a text is in its prefix
+-- parts of a text are in its prefix
 module _ (t : List ℕ) (k : ℕ) (u : IsUtf8 t) (b : IsCharBoundary t k) where
   prefix_utf8 : IsUtf8 (take k t)
   prefix_utf8 = S.IsUtf8-take t k u b

@@ -1,5 +1,6 @@
--- A block node of a text is one of the prefix of the text that ends with it, with the same part; and there the reader of whole nodes finds it.
--- So a reader that has found the last place at which a node may end may read the prefix up to that place alone.
+-- A block node of a text is one of the prefix that ends with it, with the same part; and the reader of whole nodes
+-- finds it there. So a reader that has found the last offset at which a node may end may read only the prefix up to
+-- that offset.
 use Rattle.std.proofs.Common.{◌≡◌, ℕ, ◌≤◌, ℤ, true, false, List, [], length, take, Option, Some, None, sym, ap, ◌∙◌, subst, arith}
 use Rattle.std.proofs.lemmas.List.{take_all, length-take-le}
 use Rattle.std.proofs.lemmas.Str as S
@@ -34,7 +35,7 @@ closed_boundary : {t : List ℕ} {k : ℕ} → IsUtf8 t → Closed t k → IsCha
 closed_boundary u (at_break b) = break_boundary u b
 closed_boundary {t} u (at_text e) = subst (λ j. IsCharBoundary t j) (sym e) (S.IsCharBoundary-end t)
 
--- a text and its prefix: the same text, or one that ends with a break of the text
+-- a text and its prefix, which is the whole text, or ends with a break of the text
 data Cut (t s : List ℕ) (k : ℕ) : Type 0 where
   cut_at_break : PrefixText t s k → Cut t s k
   cut_at_end : s ≡ t → k ≡ length t → Cut t s k
@@ -60,7 +61,7 @@ module _ {t s : List ℕ} {k : ℕ} where
   cut_clear (cut_at_break f) c l = clear_there f.alike c l
   cut_clear {i} {j} (cut_at_end e q) c l = subst (λ w. Clear w i j) (sym e) c
 
-  -- the notes of a prefix are those of the text
+  -- the notes of a prefix are the text's
   cut_noting : {floor : ℕ} {x y : List EventInText} → Cut t s k → Noting t floor x y → Begun k x → Noting s floor x y
   cut_noting (cut_at_break f) n b = noting_there f.alike n b
   cut_noting {floor} {x} {y} (cut_at_end e q) n b = subst (λ w. Noting w floor x y) (sym e) n
@@ -70,7 +71,7 @@ module _ {t s : List ℕ} {k : ℕ} where
   cut_noting_back {floor} {x} {y} (cut_at_end e q) n b = subst (λ w. Noting w floor x y) e n
 
 module _ {t : List ℕ} (u : IsUtf8 t) where
-  -- what is derived up to a place is derived in the prefix up to a break's end at it or after it
+  -- a part up to an offset is derived in the prefix up to the end of a break there or later
   pub derived_in_prefix : {h i j k : ℕ} {p : Production} {x : Meaning} → Closed t k → j ≤ k → Derives t h p i j x → Derives (take k t) h p i j x
   derived_in_prefix c l d = cut_derives (cut u c) d l
 
@@ -94,7 +95,7 @@ module _ {t : List ℕ} (u : IsUtf8 t) where
         escapes = d.escapes;
       }
 
-  -- In the prefix that ends with a block node, that node is what the reader of whole nodes finds.
+  -- The reader of whole nodes finds a block node in the prefix that ends with it.
   pub node_is_whole : {h e i j : ℕ} {n : ℤ} {c : Ctx} {x : Meaning} {o : Option ParsedNode} → Derives t h (BlockNode n c) i j x → h ≤ e → Clear t i j
       → Whole (take j t) e (Awaited false n c Nothing i) o → o ≡ found j h false x
   node_is_whole {j = j} d within clear r =
@@ -103,7 +104,7 @@ module _ {t : List ℕ} (u : IsUtf8 t) where
       node_at_end (cut_utf8 u z) (cut_derives z d l) within (cut_clear z clear l) (λ _. row_stuck_end (cut_closed z)) (text_ends (cut_closed z)) r
 
 module _ {t : List ℕ} (u : IsUtf8 t) {e i : ℕ} {n : ℤ} {c : Ctx} {f : ParsedNode} (block : is_block c ≡ true) (wide : Width n) (r : Halts t e [] (Awaited false n c Nothing i) (Some f)) where
-  -- What the last halt leaves of a node, the reader of whole nodes finds in the prefix that ends there.
+  -- The reader of whole nodes finds the part up to the last halt in the prefix that ends there.
   pub prefix_is_whole : {o : Option ParsedNode} → Whole (take f.end t) e (Awaited false n c Nothing i) o → o ≡ found f.end f.height false f.meaning
   prefix_is_whole w = let d = halt_is_node u block wide r in node_is_whole u d.derived d.within d.clear w
 
@@ -124,7 +125,8 @@ module _ {t : List ℕ} (u : IsUtf8 t) {e i : ℕ} {n : ℤ} {c : Ctx} {f : Pars
   pub prefix_length : length (take f.end t) ≡ f.end
   prefix_length = length-take-le f.end t prefix_boundary.0
 
-  -- So whatever that reader finds in the prefix is the longest part of the text, with one meaning, and it finds a node there.
+  -- So each outcome of that reader in the prefix is the longest part of the text, with one meaning, and it finds a node
+  -- there.
   pub prefix_reads : {g : ParsedNode} {part : Part} → Whole (take f.end t) e (Awaited false n c Nothing i) (Some g) → Fills (take f.end t) g.meaning part
       → Chosen (BlockNodePart t e n c i) g.end part
   unfolding found

@@ -1,4 +1,4 @@
--- What the reader of whole nodes finds ends at its last halt, and a node that is found has a character.
+-- Each outcome of the reader of whole nodes ends at its last halt, and a node that is found has a character.
 use Rattle.std.proofs.Common.{◌≡◌, ℕ, ◌<◌, ℤ, true, false, ⊎_elim, List, [], Option, Some, None, refl, arith}
 use Rattle.std.specs.Str.{IsUtf8}
 use Rattle.yf_chars.specs.declared.context.Ctx.{Ctx}
@@ -13,14 +13,14 @@ use Rattle.yf_grammar.proofs.BlockOutcomes.BlockStatements.{longest_part, no_par
 use Rattle.yf_grammar.proofs.Documents.DerivedNodes.{whole_is_node, halt_is_node}
 use Rattle.yf_grammar.proofs.BlockReader.SoundSteps.{Width}
 
--- the last halt is at the end of what was found
+-- the last halt is at the end of the outcome
 pub record EndsLast (g : ParsedNode) (h : Option ParsedNode) : Type 0 where
   pub last : ParsedNode
   pub is : h ≡ Some last
   pub end : last.end ≡ g.end
 
 module _ {t : List ℕ} (u : IsUtf8 t) {e i : ℕ} {n : ℤ} {c : Ctx} (block : is_block c ≡ true) (wide : Width n) where
-  -- all last halts are at one place
+  -- all last halts have one end
   pub one_last_end : {f g : ParsedNode} → Halts t e [] (Awaited false n c Nothing i) (Some f) → Halts t e [] (Awaited false n c Nothing i) (Some g) → f.end ≡ g.end
   one_last_end {f} {g} a b =
       let x = halt_is_node u block wide a in

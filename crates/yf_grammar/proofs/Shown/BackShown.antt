@@ -1,4 +1,4 @@
--- Flow collections by hand: their texts, and that they are derived wherever they are.
+-- Flow collections by hand: their texts, and that they are derived at each offset.
 use Rattle.std.proofs.Common.{◌+◌, true, false, [], Some, None, codes, refl}
 use lib.Utf8.{encode}
 use Rattle.yf_chars.specs.declared.context.Ctx.TheVariants.{FlowOut, FlowIn}
@@ -17,7 +17,7 @@ plain_a : IsPlain FlowIn (codes "a")
 unfolding encode is_plain_line is_plain_after starts_plain goes_on_plain is_sign is_plain_safe is_ns_char is_nb_char is_printable is_between is_break_char is_white is_indicator is_flow_indicator is_steady has_line_feed ends_with_colon is_only is_marker_of
 plain_a = record { chars = codes "a"; bytes = refl; line = refl; steady = refl }
 
--- [a, 'b', []] in a block, and what it means from an offset on
+-- [a, 'b', []] in a block, and its meaning from an offset on
 three_items : JsonBack FlowOut (codes "[a, 'b', []]") 2
     (λ q. collection true true q (q + 12)
     ((entering (q + 1) None (scalar Plain (codes "a") [] (q + 1) (q + 1 + 1)))

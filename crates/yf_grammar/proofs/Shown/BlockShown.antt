@@ -1,4 +1,4 @@
--- Small block nodes, each with the outcome that the reader has there, written out by hand: so it has one.
+-- Small block nodes, each with the reader's outcome there, written out by hand: so it has one.
 use Rattle.std.proofs.Common.{◌≡◌, ℕ, suc, zero, ◌+◌, ◌<◌, pos, negsuc, true, false, List, [], ◌∷◌, Some, None, codes, refl, arith}
 use Rattle.std.proofs.lemmas.Int.{ints}
 use Rattle.std.specs.Str.{IsUtf8, chars}
@@ -58,7 +58,7 @@ dash_blank_read =
     (below_node (text_start dash_blank_line) dash_blank_line (line_first refl) root_columns
     (sequence_read refl dash_blank_dash (items_last (item_read dash_blank_dash (awaited_below dash_blank_end (below_alone dash_blank_end (no_node (text_ends refl))))) (no_entry (text_ends refl)))))
 
--- in the grammar the blank line may stay out as well
+-- the grammar may leave the blank line out as well
 dash_blank_derived : {j : ℕ} → LineEnd dash_blank 1 j [] → Derives dash_blank 1 (BlockNode (negsuc 0) BlockIn) 0 j (collection true false 0 1 (entering 0 None (empty_node 1)))
 unfolding code begins chars is_ns_char is_nb_char is_printable is_between is_break_char is_white meaning_after noting empty_node collection entering
 dash_blank_derived e =
@@ -112,7 +112,7 @@ dash_comment_read =
     (below_node (text_start dash_comment_line) dash_comment_line (line_first refl) root_columns
     (sequence_read refl dash_comment_dash (items_last (item_read dash_comment_dash (awaited_below dash_comment_end (below_alone dash_comment_end (no_node (text_ends refl))))) (no_entry (text_ends refl)))))
 
--- a `?` alone: its value is empty
+-- only a `?`: its value is empty
 abbrev question : List ℕ
 question = codes "?"
 

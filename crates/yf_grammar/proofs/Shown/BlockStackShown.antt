@@ -53,7 +53,7 @@ dashes_end = line_ends (feed 1 refl refl) (seen 2 refl refl)
 abbrev root : BlockTask
 root = Awaited false (negsuc 0) BlockIn Nothing 0
 
--- the outermost node is awaited, and is on the first line; before it nothing may end
+-- the outermost node is awaited on the first line; nothing may end before it
 dashes_awaited : NodeAt dashes 1 root [] 1 [] root None
 dashes_awaited = node_is_at outermost refl
 
@@ -72,7 +72,7 @@ dashes_on_line = node_on_line
 dashes_begun : EntryAt dashes 1 root collection_layer [] 0 (First (negsuc 0)) 0 None
 dashes_begun = sequence_begins dashes_on_line refl dashes_first
 
--- an empty item up to the second line, where the node may end
+-- an empty item up to the second line, at which the node may end
 abbrev empty_to : ℕ → ℕ → ParsedNode
 empty_to j i = record { end = j; height = 0; json = false; meaning = empty_node i }
 
@@ -108,7 +108,7 @@ unfolding meaning_after noting empty_node alone found made_or headed collection 
 second_item = node_was_read (item_begins second_begun refl dashes_second) (awaited_below (text_stops refl) (below_alone (text_stops refl) (no_node (text_ends refl))))
     (halts_below (text_stops refl) (halts_alone (text_stops refl) (no_node (text_ends refl)) (alone_to (may_end_chosen (text_stops refl) none_open))))
 
--- the sequence ends with it, and is the outermost node; so much of it may be at the end
+-- the sequence ends with it, and is the outermost node; its last halt is the whole sequence
 dashes_read : Whole dashes 1 root both_items
 unfolding meaning_after found headed collection entering ◌⊕◌ only empty_node
 dashes_read = root_was_read (collection_ends (entry_was_read second_item (λ e. absurd (true≢false (sym e)))) (no_entry (text_ends refl)))

@@ -1,4 +1,5 @@
--- A small block node that is broken, of which nothing is left: it might end at a place before which no end is allowed.
+-- A small block node that is broken, and no part of which is left: it might end only at an offset at which no end is
+-- allowed.
 use Rattle.std.proofs.Common.{◌≡◌, ℕ, suc, zero, ◌+◌, ◌<◌, ℤ, pos, negsuc, true, false, List, [], ◌∷◌, Some, None, codes, refl, sym, subst, length, arith}
 use Rattle.std.specs.Str.{IsUtf8, chars}
 use lib.Utf8.{encode}
@@ -32,7 +33,7 @@ use Rattle.yf_grammar.proofs.Shown.BlockShown.{root_columns}
 use Rattle.yf_grammar.proofs.BlockContent.PlainCut.{no_plain_part}
 use Rattle.yf_grammar.proofs.Shown.ShownParts.{seen, feed, line_at, no_spaces, text_start, line_ends, no_deep_node, no_signs, no_scalar, no_properties, goes_on}
 
--- a `?` whose `:` is followed by what is no node: nothing may end before that `:`, so nothing is left
+-- a `?` whose `:` is followed by no node: nothing may end before that `:`, so nothing is left
 abbrev broken_value : List ℕ
 broken_value = codes "?\n: ]"
 
@@ -87,7 +88,7 @@ broken_value_no_key : (cols : Columns) → NoKeyAt broken_value 0 (pos 0) cols 4
 unfolding code begins chars begins_plain begins_alias begins_properties begins_content
 broken_value_no_key cols = unfit_node (plain_missed refl (broken_value_no_plain (pos 1))) key_missed
 
--- after the `?` a line ends where that `:` is, and nowhere else
+-- after the `?` a line ends before that `:`, and nowhere else
 no_line_here : LineStart broken_value 1 → ⊥
 unfolding code begins chars is_ns_char is_nb_char is_printable is_between is_break_char is_white
 no_line_here s = no_start_past broken_value_utf8 (after_byte 0 broken_value_utf8 refl (omega arith) refl) s

@@ -1,4 +1,5 @@
--- Small block nodes with a key, a plain scalar and a block scalar, each with the outcome that the reader has there, written out by hand.
+-- Small block nodes with a key, a plain scalar and a block scalar, each with the reader's outcome there, written out by
+-- hand.
 use Rattle.std.proofs.Common.{◌≡◌, ℕ, ◌+◌, ◌<◌, ◌≤◌, pos, negsuc, true, false, List, [], ◌∷◌, Some, None, codes, refl, sym, ap, ◌∙◌, subst, arith, true≢false, ⊎_elim}
 use Rattle.std.proofs.lemmas.Bool.{cases_lt}
 use Rattle.std.specs.Str.{IsUtf8, chars}
@@ -88,7 +89,8 @@ key_whole =
     (awaited_below (text_stops refl) (below_alone (text_stops refl) (no_node (text_ends refl)))))
     (no_entry (text_ends refl)))))
 
--- a plain scalar whose last line is a key's: the node that begins at it is broken, and ends with the line before the key
+-- a plain scalar whose last line is a key's: the node that begins at it is broken, and ends with the line before the
+-- key
 abbrev scalar_key : List ℕ
 scalar_key = codes "a\nb:"
 
@@ -180,7 +182,7 @@ scalar_key_halts =
     (halts_leaf (no_signs refl refl refl) scalar_key_no_key (no_properties refl)
     (halts_plain (no_scalar refl refl) (record { no_props = refl; no_alias = λ e. refl }) refl scalar_key_part)))
 
--- a block scalar, whose last line has no break
+-- a block scalar with no break after its last line
 abbrev literal : List ℕ
 literal = codes "|\na"
 

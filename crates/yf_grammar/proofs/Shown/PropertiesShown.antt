@@ -1,5 +1,5 @@
--- Properties on a line of their own, before properties on the next line: both are those of a leaf there; those of a line that
--- begins with a key are the key's, and the others the mapping's.
+-- Properties on a line of their own, before properties on the next line: a leaf there has both. If that line begins
+-- with a key, its properties are the key's, and the others are the mapping's.
 use Rattle.std.proofs.Common.{◌≡◌, ℕ, ◌+◌, ◌<◌, ◌≤◌, ℤ, pos, negsuc, false, ◌==◌, inl, List, [], Option, Some, None, codes, refl, ap, ◌∙◌, arith}
 use Rattle.std.proofs.lemmas.Int.{ints}
 use Rattle.std.specs.Str.{IsUtf8, chars}
@@ -57,7 +57,7 @@ module _ {t : List ℕ} (u : IsUtf8 t) where
   anchor_line : {n : ℤ} {i j : ℕ} {a : List ℕ} → Anchor t i j a → ContentBefore t j → is_white (code t j) ≡ false → Chosen (Properties t n FlowKey i) j (anchor_only a)
   anchor_line d b w = anchor_alone d (λ l m y v s e. (alone_stuck (inl refl) (in_line_nowhere w (λ z. no_start_past u b z))).none l y s)
 
-  -- a `!` alone before a space
+  -- a single `!` before a space
   mark_alone : {i : ℕ} → code t i ≡ 33 → code t (i + 1) ≡ 32 → Chosen (TagProperty t i) (i + 1) IsNonSpecific
   mark_alone {i} a b =
       let s : Stuck (TagChar t (i + 1)) = spelled_stuck t is_tag_char percent_tag (i + 1) (ap is_tag_char b ∙ space_no_tag) (λ e. omega arith) in
@@ -67,7 +67,7 @@ module _ {t : List ℕ} (u : IsUtf8 t) where
       → Chosen (Properties t n FlowKey i) (i + 1) (tag_only i IsNonSpecific)
   mark_line a b m l w h = tag_alone u (mark_alone a b) (no_anchor_after (alone_chosen (inl refl) (in_line_farthest (by_whites m l) w)) (no_anchor_here (differs h)))
 
-  -- the anchor of the first line waits for what the next line begins
+  -- the anchor of the first line is held for the node of the next line
   anchor_waits : {e : ℕ} {o : Option ParsedNode} → LineText t 0 0 0 → (code t 0 == 45) ≡ false → (code t 0 == 63) ≡ false → (code t 0 == 58) ≡ false → Anchor t 0 2 (codes "a")
       → ContentBefore t 2 → is_white (code t 2) ≡ false → Break t 2 3 → LineText t 3 0 3 → Visible t 3 → Whole t e (Inline (negsuc 0) BlockIn first_columns (Props anchored) 3) o
       → Whole t e (Awaited false (negsuc 0) BlockIn Nothing 0) (outcome_after Nothing [] (outcome_after (Props anchored) [] o))

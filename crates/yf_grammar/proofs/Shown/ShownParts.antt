@@ -1,4 +1,4 @@
--- Parts of small block nodes: where a line begins, ends or stops, and what is not at a character.
+-- Parts of small block nodes: the starts and ends of lines, and the signs that are not at a character.
 use Rattle.std.proofs.Common.{◌≡◌, ◌≢◌, ℕ, ◌+◌, ◌-◌, ◌<◌, ◌≤◌, ℤ, pos, Bool, true, false, ◌==◌, List, [], ◌∷◌, length, refl, sym, ap, ◌∙◌, arith, true≢false, ⊎_elim}
 use Rattle.std.proofs.lemmas.Bool.{eq-eqb, cases_lt}
 use Rattle.std.proofs.lemmas.Int.{ints}
@@ -47,7 +47,7 @@ module _ {t : List ℕ} where
   pub feed : (i : ℕ) → code t i ≡ 10 → (code t (i - 1) == 13) ≡ false → Break t i (i + 1)
   feed i e n = lone_lf e (differs n)
 
-  -- a line whose first character is after m spaces, and is not the first of a marker
+  -- a line with m spaces before its first character, which does not begin a marker
   pub line_at : (k m : ℕ) → Spaces t k m → Visible t (k + m) → is_marker t k ≡ false → LineText t k m (k + m)
   line_at k m s v n = line_from s v (λ f. true≢false (sym f.marker ∙ n))
 
@@ -68,7 +68,7 @@ module _ {t : List ℕ} where
   pub text_stops : {i : ℕ} → i ≡ length t → Chosen (LineEnd t i) i []
   text_stops e = line_end_chosen (past_rest (nothing (by_end e)) done) (row_stuck_end e)
 
-  -- where no line of a node begins, there is no node and no entry
+  -- if no line of a node begins, neither a node nor an entry does
   pub no_node : {n : ℤ} {c : Ctx} {i k : ℕ} → LinesEnd t k → NoNode t n c i k
   no_node e = record { none = λ m p w b. w.goes_on e }
 
@@ -79,7 +79,7 @@ module _ {t : List ℕ} where
   pub no_entry : {s : Bool} {m k : ℕ} → LinesEnd t k → NoEntry t s m k
   no_entry e = record { no_next = no_next e; not_deeper = λ l p w. absurd (w.goes_on e) }
 
-  -- nor where a line begins without spaces and without a `-`
+  -- nor does one on a line that begins without spaces and without a `-`
   shallow : {n k i m p : ℕ} {c : Ctx} → m ≡ 0 → (code t p == 45) ≡ false → k ≢ i → Begins t (pos n) c i k m p → ⊥
   shallow e d f (line_indented l) = omega (arith, ints)
   shallow e d f (line_first s) = f s
@@ -88,7 +88,7 @@ module _ {t : List ℕ} where
   pub no_deep_node : {n : ℕ} {c : Ctx} {i k p : ℕ} → LineText t k 0 p → (code t p == 45) ≡ false → k ≢ i → NoNode t (pos n) c i k
   no_deep_node {p = p} w d f = record { none = λ m q v b. let same = line_unique w v in shallow same.0 (ap (λ h. code t h == 45) same.1 ∙ d) f b }
 
-  -- what the character is not the sign of
+  -- the signs that the character is not
   pub no_signs : {cols : Columns} {p : ℕ} → (code t p == 45) ≡ false → (code t p == 63) ≡ false → (code t p == 58) ≡ false → NoSign t cols p
   no_signs a b c = record { no_dash = λ e d. differs a d.dash; no_question = λ e d. differs b d.sign_is_at; no_colon = λ e d. differs c d.sign_is_at }
 
@@ -114,7 +114,7 @@ module _ {t : List ℕ} where
     each = λ h l m. ⊎_elim (λ (b : h < j). o.each h l b) (λ (b : j ≤ h). let same : h ≡ j = omega arith in ap (λ k. is_break_char (code t k)) same ∙ f) (cases_lt h j);
   }
 
-  -- a plain scalar of one character, after which neither its line nor a next one goes on
+  -- a plain scalar of one character, which continues neither on its line nor on a next one
   pub plain_character : {n : ℤ} {i : ℕ} → is_plain_first t FlowOut i ≡ true → Clear t i (next t i) → is_white (code t (next t i)) ≡ false
       → is_plain_char t FlowOut (next t i) ≡ false → NoNextLine t n FlowOut (next t i) → Chosen (Plain t n FlowOut i) (next t i) (code t i ∷ [])
   plain_character {i = i} f c w e l =
@@ -126,6 +126,6 @@ module _ {t : List ℕ} where
   pub no_fold : {n : ℤ} {c : Ctx} {i : ℕ} → is_white (code t i) ≡ false → (code t i == 13) ≡ false → (code t i == 10) ≡ false → NoNextLine t n c i
   no_fold {i = i} w a b = no_next_fold (no_fold_break ([], done) w (no_break_here t i (differs a) (differs b)))
 
-  -- no marker begins at the place
+  -- no marker begins at the offset
   pub clear_place : {i : ℕ} → is_marker t i ≡ false → Clear t i (i + 1)
   clear_place {i} e = record { none = λ h l m f. let same : h ≡ i = omega arith in true≢false (sym f.marker ∙ ap (is_marker t) same ∙ e) }

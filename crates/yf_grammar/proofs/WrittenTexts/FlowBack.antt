@@ -1,4 +1,4 @@
--- Flow collections on one line are derived wherever they are: brackets, one space after each comma and each colon.
+-- Flow collections on one line are derived at each offset: brackets, one space after each comma and each colon.
 use Rattle.std.proofs.Common.{◌≡◌, ℕ, suc, max, ◌+◌, ◌<◌, ◌≤◌, ℤ, Bool, true, false, List, [], ◌∷◌, ◌++◌, None, length, refl, ap, ◌∙◌, subst, arith, append_assoc}
 use Rattle.std.proofs.lemmas.List.{length-append}
 use Rattle.std.proofs.lemmas.Bool.Decides.{nat_tests}

@@ -1,4 +1,4 @@
--- Notes on blank lines keep the nodes of a tree, with their places and where their entries begin.
+-- Notes on blank lines keep the nodes of a tree, with their offsets and the starts of their entries.
 use Rattle.std.proofs.Common.{◌≡◌, ℕ, Bool, false, List, [], ◌∷◌, ◌++◌, Option, Some, None, refl, sym, ap, ◌∙◌, subst, append_assoc}
 use Rattle.yf_props.specs.Props.{PropsValue}
 use Rattle.yf_events.specs.Event.{EventInText, sequence_starts, sequence_ends, mapping_starts, mapping_ends, scalar_node, alias_node}
@@ -13,7 +13,7 @@ pub data SameEntry (o p : Option Entry) : Type 0 where
   no_entry : o ≡ None → p ≡ None → SameEntry o p
   same_entry : (e : Entry) (b : Bool) → o ≡ Some e → p ≡ Some (record e { blank_before = b }) → SameEntry o p
 
--- where a node is
+-- the offsets of a node
 pub record SameStanding (at bt : NodeOffsets) : Type 0 where
   pub span : at.span ≡ bt.span
   pub entry : SameEntry at.entry bt.entry

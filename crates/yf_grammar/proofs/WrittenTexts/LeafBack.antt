@@ -1,4 +1,4 @@
--- Leaves on one line, with properties or without, are derived wherever they are.
+-- Leaves on one line, with properties or without, are derived at each offset.
 use Rattle.std.proofs.Common.{◌≡◌, ◌≢◌, ℕ, ◌+◌, ℤ, Bool, true, false, List, [], ◌∷◌, ◌++◌, None, length, refl, ap, subst, arith, append_assoc, append-nil, encode_utf8_all}
 use Rattle.std.proofs.lemmas.List.{length-append}
 use Rattle.std.specs.Str.{IsUtf8}
@@ -34,7 +34,7 @@ pub noting_nothing : (x : Meaning) → noting x [] ≡ x
 unfolding noting
 noting_nothing x = ap (λ cs. record x { comments = cs }) (append-nil x.comments)
 
--- what follows
+-- the text after a leaf
 pub space_follows : {r : List ℕ} → Follows is_after_name (32 ∷ r)
 unfolding is_after_name
 space_follows = byte_follows (omega arith) refl
@@ -76,7 +76,7 @@ double_json_back c {w} cs b line back = record { line = line; made = made } wher
 pub json_back : {c : Ctx} {w : List ℕ} {height : ℕ} {mean : ℕ → Meaning} → JsonBack c w height mean → Back true true c w height mean
 json_back b = record { line = b.line; made = λ n q r u f s. a_json (b.made n q r u s) }
 
--- properties, a space, and what is after it
+-- properties, a space, and the text after it
 pub record Propertied (t : List ℕ) (n : ℤ) (c : Ctx) (p : PropsValue) (q : ℕ) (r : List ℕ) : Type 0 where
   pub properties : Properties t n c q (q + length (props_bytes p)) (props_at q p)
   pub separate : Separate t n c (q + length (props_bytes p)) (q + length (props_bytes p) + 1) []

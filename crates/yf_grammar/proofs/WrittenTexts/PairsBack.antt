@@ -1,4 +1,4 @@
--- Keys, and the pairs of a flow mapping on one line, are derived wherever they are.
+-- Keys, and the pairs of a flow mapping on one line, are derived at each offset.
 use Rattle.std.proofs.Common.{◌≡◌, ℕ, suc, max, ◌+◌, ◌≤◌, ℤ, pos, Bool, true, false, List, [], ◌∷◌, ◌++◌, Some, None, length, sym, ap, ◌∙◌, subst, arith, append_assoc}
 use Rattle.std.proofs.lemmas.List.{length-append}
 use Rattle.std.specs.Str.{IsUtf8, chars}
@@ -19,12 +19,12 @@ use Rattle.yf_grammar.proofs.WrittenTexts.FlowBack.{colon_follows, value_made}
 use Rattle.yf_grammar.proofs.FlowReader.ParserLemmas.{after_nothing}
 use Rattle.yf_lines.proofs.VisibleLines.{visible_line, visible_at}
 
--- the characters of a text that is there
+-- the characters of a text in another one
 pub characters_written : {t : List ℕ} (w r : List ℕ) {q : ℕ} → IsAt t q (w ++ r) → characters_between t q (q + length w) ≡ length (chars w)
 unfolding characters_between
 characters_written w r s = ap (λ x. length (chars x)) (slice_back w r s)
 
--- implicit keys, which have a limit: the space before the colon is counted
+-- implicit keys, whose limit counts the space before the colon
 pub key_back : {t : List ℕ} {json : Bool} {c : Ctx} {w : List ℕ} {height : ℕ} {mean : ℕ → Meaning} (q : ℕ) (r : List ℕ) → IsUtf8 t → Back json true c w height mean
     → length (chars w) ≤ KEY_LIMIT → Follows is_after_text r → Rest t q (w ++ r) → Derives t height (KeyOf json c) q (q + length w) (mean q)
 key_back {t} {w = w} q r u b l f s =
@@ -65,7 +65,7 @@ pair_back {json} {like} {colon} {c} {w} {v} {height} {least} {key} {value} a b =
       (an_implicit_entry (key_and_value first unseparated second)) in
       subst (λ j. Derives t (max height least) (Entry false n c) q j (entering q (Some (q + length w)) (key q) ⊕ value (q + length w + 2))) (colon_length q w v) whole
 
--- the same with a space before the colon
+-- likewise with a space before the colon
 pub pair_apart_back : {json close like colon : Bool} {c : Ctx} {w v : List ℕ} {height least : ℕ} {key value : ℕ → Meaning} → Back json close c w height key
     → Back like colon c v least value
     → EntryBack false c (w ++ (32 ∷ 58 ∷ 32 ∷ v)) (max height least) (λ q. entering q (Some (q + length w + 1)) (key q) ⊕ value (q + length w + 1 + 2))

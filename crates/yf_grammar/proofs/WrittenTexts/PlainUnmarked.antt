@@ -1,4 +1,4 @@
--- A plain scalar that stays plain begins as no document marker.
+-- A plain scalar that stays plain begins no document marker.
 use Rattle.std.proofs.Common.{◌≡◌, ℕ, pos, false, List, [], ◌∷◌, arith}
 use Rattle.yf_chars.specs.declared.context.Ctx.{Ctx}
 use Rattle.yf_lines.specs.Basic.{is_block}

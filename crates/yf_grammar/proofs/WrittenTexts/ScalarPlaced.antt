@@ -16,7 +16,7 @@ use Rattle.yf_grammar.specs.Productions.BlockScalar.BlockScalar.{block_scalar}
 use Rattle.yf_grammar.specs.Productions.BlockScalar.LinesBetween.{counted}
 use Rattle.yf_grammar.specs.Productions.Meaning.{Meaning, from_to}
 
--- the event of a scalar with that header, those lines and so many line feeds after them, from one offset to another
+-- the event of a scalar with a header, lines and a number of line feeds after them, from one offset to another
 abbrev pub scalar_event : Header → List (List ℕ) → ℕ → ℕ → ℕ → EventInText
 scalar_event h ls count i j = record {
   event = scalar_node no_props (style_of h.folded) (content_of h ls count false);
@@ -38,7 +38,7 @@ pub record ScalarNode (t : List ℕ) (n : ℤ) (h : Header) (ls : List (List ℕ
 abbrev event_of : ScalarStyle → List ℕ → List (List ℕ) → ℕ → ℕ → EventInText
 event_of style text lines i j = record { event = scalar_node no_props style text; span = from_to i j; tag_offset = None; entry = None; folded = lines }
 
--- how far it reaches, by its sign
+-- its reach, from its sign
 pub record Reaching (t : List ℕ) (c : Chomp) (lines tail i : ℕ) : Type 0 where
   pub end : ℕ
   pub between : LinesBetween t (reach c lines tail) i end

@@ -1,7 +1,7 @@
--- What is left to do of the entries of a block collection while they are read one after another: from the outcomes of the next
--- entries come the outcomes of all of them. Entries that were read whole, x, lie between p and i, where the next one begins; h
--- collections were open at once in them. `Whole` and `Halts` run together: o is the part up to the last place at which all may
--- end so far, which stays the outcome of `Halts` where nothing from i on has an end.
+-- The rest of the entries of a block collection while they are read one after another: the outcomes of all entries
+-- follow from the outcomes of the next ones. The entries x were read whole, from p to i, at which the next one begins;
+-- at most h collections were open at once in them. `Whole` and `Halts` run together: o is the part up to the last
+-- offset so far at which all nodes may end, and stays the outcome of `Halts` if nothing from i on has an end.
 use Rattle.std.specs.Prelude.{ℕ, max, Bool, false, List, Option, Some, None}
 use Rattle.yf_grammar.specs.Productions.Meaning.{Meaning, ◌⊕◌}
 use Rattle.yf_grammar.specs.FlowReader.Parser.{ParsedNode}
@@ -12,7 +12,7 @@ use Rattle.yf_grammar.specs.BlockReader.Halts.{Halts}
 abbrev pub after_entries : ℕ → Meaning → ParsedNode → ParsedNode
 after_entries h x g = record { end = g.end; height = max h g.height; json = false; meaning = x ⊕ g.meaning }
 
--- the last part that may end, after a further entry whose last part is the second
+-- the last halt of all entries: that of the further ones, with the entries before them, or o if they have none
 unfoldable pub kept_halt : ℕ → Meaning → Option ParsedNode → Option ParsedNode → Option ParsedNode
 kept_halt h x o None = o
 kept_halt h x o (Some g) = Some (after_entries h x g)

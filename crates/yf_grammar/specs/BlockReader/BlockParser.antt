@@ -1,8 +1,8 @@
--- The recursive reader of block nodes, line by line: it is between the grammar and the code, as `Parser` does for flow
--- nodes. `Whole t e task o` says that o is the outcome of a task with a limit of e further collections. It proceeds as the
--- code does: each line end is taken as far as it goes, properties are kept from line to line until it is known whose they
--- are, and a key, a `-`, a `?` or a `:` commits to a collection. Nothing is left out: what is found ends where what is
--- around it goes on or ends too, and where that is not so, nothing is found.
+-- The recursive reader of block nodes, line by line. It is between the grammar and the code, as `Parser` is for flow
+-- nodes. `Whole t e task o` means that o is the outcome of a task with a limit of e further collections. It proceeds as
+-- the code does: it takes each line end as far as it goes, keeps properties from line to line until their node is
+-- known, and commits to a collection at a key, a `-`, a `?` or a `:`. It leaves nothing out: a node is found only if
+-- the nodes around it go on or end where it ends.
 use Rattle.std.specs.Prelude.{◌≡◌, ◌≢◌, ℕ, suc, max, ◌+◌, ◌-◌, ◌<◌, ◌≤◌, ℤ, pos, ◌+ℤ◌, ◌≤ℤ◌, Bool, true, false, List, [], ◌++◌, Option, Some, None, length}
 use Rattle.yf_chars.specs.declared.context.Ctx.{Ctx}
 use Rattle.yf_chars.specs.declared.context.Ctx.TheVariants.{BlockOut, BlockIn, FlowOut, FlowKey}
@@ -19,7 +19,8 @@ use Rattle.yf_grammar.specs.Productions.Grammar.{characters_between, KEY_LIMIT, 
 use Rattle.yf_grammar.specs.Productions.Meaning.{Meaning, ◌⊕◌, meaning_after, noting, empty_node, collection, with_props, entering}
 use Rattle.yf_grammar.specs.FlowReader.Parser.{ParsedNode, found, Parses, ANode, OnOneLine, begins_alias, begins_properties}
 
--- the `-` of an entry, with no ns-char after it; a `?` or `:`, with white, a break or the end of the text after it
+-- the `-` of an entry, with no ns-char after it; a `?` or `:`, with white space, a break or the end of the text after
+-- it
 pub record DashAt (t : List ℕ) (i : ℕ) : Type 0 where
   pub dash : code t i ≡ 45
   pub follows : is_ns_char (code t (i + 1)) ≡ false
@@ -34,7 +35,7 @@ pub data LinesEnd (t : List ℕ) (k : ℕ) : Type 0 where
   mark_is_at : code t k ≡ 0xFEFF → LinesEnd t k
   marker_is_at : ForbiddenLine t k → LinesEnd t k
 
--- a character that is neither white nor the beginning of a comment or of a line's end
+-- a character that is not white space and begins neither a comment nor the end of a line
 pub record Content (t : List ℕ) (p : ℕ) : Type 0 where
   pub no_white : is_white (code t p) ≡ false
   pub no_hash : code t p ≢ 35
@@ -49,12 +50,12 @@ pub record LineText (t : List ℕ) (k m p : ℕ) : Type 0 where
   pub run : Many t is_white (k + m) p whites
   pub content : Content t p
 
--- the columns at which a sequence or a mapping may begin at a place
+-- the columns at which a sequence or a mapping may begin at an offset
 pub record Columns : Type 0 where
   pub sequence : Option ℕ
   pub mapping : Option ℕ
 
--- after an indicator that ends at i: both where spaces alone stand up to p, in a compact form
+-- after an indicator that ends at i: both if only spaces are up to p, in a compact form
 pub data Compact (t : List ℕ) : Bool → ℤ → ℕ → ℕ → Columns → Type 0 where
   compact_columns : {m i l : ℕ} → Spaces t i l → Compact t true (pos m) i (i + l) (record { sequence = Some (m + 1 + l); mapping = Some (m + 1 + l) })
   no_columns : {b : Bool} {n : ℤ} {i p : ℕ} → (b ≡ true → Spaces t i (p - i) → ⊥) → Compact t b n i p (record { sequence = None; mapping = None })
@@ -68,8 +69,8 @@ pub record LineColumns (n : ℤ) (c : Ctx) (k m p : ℕ) (cols : Columns) : Type
   pub sequence : ColumnIf k m p (least_column true n c) cols.sequence
   pub mapping : ColumnIf k m p (least_column false n c) cols.mapping
 
--- a node in an indentation n begins on that line, whose node is awaited from i on: it has n + 1 spaces, or is the first line
--- that is read, or has the `-` of a sequence
+-- a node in an indentation n begins on that line, and is awaited from i on: the line has n + 1 spaces, or is the first
+-- line that is read, or has the `-` of a sequence
 pub data Begins (t : List ℕ) (n : ℤ) (c : Ctx) (i k m p : ℕ) : Type 0 where
   line_indented : (n +ℤ pos 1) ≤ℤ pos m → Begins t n c i k m p
   line_first : k ≡ i → Begins t n c i k m p
@@ -85,8 +86,8 @@ pub record PropertiesHeld : Type 0 where
   pub start : ℕ
   pub end : ℕ
 
--- what is before a node that is awaited: nothing, and it may not be empty; an indicator, which ends at the offset, and it
--- may be empty; or properties, which it may be alone
+-- the text before an awaited node: nothing, and the node is not empty; an indicator, which ends at the offset, and the
+-- node may be empty; or properties, and the node may have nothing else
 pub data Ahead : Type 0 where
   Nothing : Ahead
   Indicator : ℕ → Ahead
@@ -95,13 +96,13 @@ pub data Ahead : Type 0 where
 unfoldable pub with_comments : PropertiesHeld → List CommentValue → PropertiesHeld
 with_comments h ds = record h { value = record h.value { comments = h.value.comments ++ ds } }
 
--- a node after what is ahead of it
+-- a node with its `Ahead`
 unfoldable pub headed : Ahead → Meaning → Meaning
 headed Nothing x = x
 headed (Indicator i) x = x
 headed (Props h) x = meaning_after h.value.comments (with_props h.value.props h.value.tag_offset h.start h.end x)
 
--- comments after what is ahead: properties keep them, else they go before the node (`outcome_after`)
+-- comments after an `Ahead`: properties keep them, otherwise they go before the node (`outcome_after`)
 unfoldable pub past : Ahead → List CommentValue → Ahead
 past (Props h) ds = Props (with_comments h ds)
 past a ds = a
@@ -112,13 +113,13 @@ outcome_after (Props h) ds (Some f) = Some f
 outcome_after Nothing ds (Some f) = Some (record f { meaning = meaning_after ds f.meaning })
 outcome_after (Indicator i) ds (Some f) = Some (record f { meaning = meaning_after ds f.meaning })
 
--- nothing but what is ahead, with the comments after it, up to k
+-- only the `Ahead`, with the comments after it, up to k
 unfoldable pub alone : Ahead → ℕ → List CommentValue → Option ParsedNode
 alone Nothing k ds = None
 alone (Indicator i) k ds = found k 0 false (noting (empty_node i) ds)
 alone (Props h) k ds = found k 0 false (noting (headed (Props h) (empty_node h.end)) ds)
 
--- properties of one line after those of lines before: no two of one kind
+-- properties of one line after those of earlier lines: at most one anchor and one tag
 unfoldable pub one_of : {A : Type 0} → Option A → Option A → Option A
 one_of None x = x
 one_of (Some a) x = Some a
@@ -138,7 +139,7 @@ pub data Clash (h : PropertiesHeld) (q : PropertiesValue) : Type 0 where
   anchors_clash : {a b : List ℕ} → h.value.props.anchor ≡ Some a → q.props.anchor ≡ Some b → Clash h q
   tags_clash : {a b : TagValue} → h.value.props.tag ≡ Some a → q.props.tag ≡ Some b → Clash h q
 
--- what is ahead of what follows properties from p to g; or the two do not go together
+-- the `Ahead` after properties from p to g; or the properties of both clash
 pub data Joins (a : Ahead) (q : PropertiesValue) (p g : ℕ) : Ahead → Type 0 where
   first_held : ((h : PropertiesHeld) → a ≡ Props h → ⊥) → Joins a q p g (Props (record { value = q; start = p; end = g }))
   more_held : {h : PropertiesHeld} → a ≡ Props h → (Clash h q → ⊥) → Joins a q p g (both h q g)
@@ -148,8 +149,8 @@ pub record Apart (a : Ahead) (q : PropertiesValue) : Type 0 where
   pub is : a ≡ Props held
   pub clash : Clash held q
 
--- an implicit key of a block mapping: a flow node that was found from i on, outside of brackets, is on one line and not too
--- long, and white space follow and a `:` with white or the end after it
+-- an implicit key of a block mapping: a flow node that was found from i on, outside of brackets, is on one line and not
+-- too long; white space may follow it, and then a `:` with white space, a break or the end of the text after it
 pub record KeyBefore (t : List ℕ) (i : ℕ) (f : ParsedNode) (k : ℕ) : Type 0 where
   pub whites : List ℕ
   pub run : Many t is_white f.end k whites
@@ -161,12 +162,13 @@ pub data NoKey (t : List ℕ) (i : ℕ) : Option ParsedNode → Type 0 where
   key_missed : NoKey t i None
   key_unfit : {f : ParsedNode} → ((k : ℕ) → KeyBefore t i f k → ⊥) → NoKey t i (Some f)
 
--- no key begins there: the flow node is none, or the line ends after its properties
+-- no key begins there: no flow node there is one, or the line ends after its properties
 pub data Keyless (t : List ℕ) (e : ℕ) (n : ℤ) (i : ℕ) : Type 0 where
   node_unfit : {o : Option ParsedNode} → Parses t e (ANode n FlowOut i) o → NoKey t i o → Keyless t e n i
   properties_end_line : {g l : ℕ} {q : PropertiesValue} {ds : List CommentValue} → Chosen (Properties t (pos 0) FlowKey i) g q → LineEnd t g l ds → Keyless t e n i
 
--- the next entry of a collection of that kind and column is on the line; a line that is none, and not deeper
+-- the next entry of a collection of that kind and column is on the line; no such entry and no deeper line; a deeper
+-- line
 pub data NextEntry (t : List ℕ) : Bool → ℕ → ℕ → Type 0 where
   next_item : {m k p : ℕ} → LineText t k m p → DashAt t (k + m) → NextEntry t true m k
   next_pair : {m k p : ℕ} → LineText t k m p → NextEntry t false m k
@@ -181,8 +183,8 @@ pub record DeeperLine (t : List ℕ) (m k : ℕ) : Type 0 where
   pub line : LineText t k column first
   pub deep : m < column
 
--- an entry after others; or the first one, whose key was read in the node's indentation, before it was known that a mapping
--- begins with it, and so with one collection less open
+-- an entry after others; or the first one, whose key was read in the node's indentation, before the reader knew that a
+-- mapping begins with it, and so with one collection less open
 pub data Origin : Type 0 where
   Later : Origin
   First : ℤ → Origin
@@ -196,15 +198,15 @@ key_indent m Later = pos m +ℤ pos 1
 key_indent m (First n) = n +ℤ pos 1
 
 pub data BlockTask : Type 0 where
-  -- a node awaited after an indicator, or where the reader is called; the flag: a collection may begin on the line
+  -- a node awaited after an indicator, or at the outermost call; the flag: a collection may begin on the line
   Awaited : Bool → ℤ → Ctx → Ahead → ℕ → BlockTask
   -- a node awaited after the end of a line, which is read from the offset on
   Below : ℤ → Ctx → Ahead → ℕ → BlockTask
-  -- a node whose first character on the line is at the offset
+  -- a node with its first character on the line at the offset
   Inline : ℤ → Ctx → Columns → Ahead → ℕ → BlockTask
-  -- a block scalar, or a flow node without properties, after which the line ends
+  -- a block scalar, or a flow node without properties at the end of a line
   Leaf : ℤ → Ahead → ℕ → BlockTask
-  -- entries at a column, the first of which begins at the offset; one entry
+  -- entries at a column, the first at the offset; one entry
   Items : Bool → ℕ → Origin → ℕ → BlockTask
   Item : Bool → ℕ → Origin → ℕ → BlockTask
 
@@ -243,12 +245,13 @@ pub record NoSign (t : List ℕ) (cols : Columns) (p : ℕ) : Type 0 where
   pub no_question : {m : ℕ} → cols.mapping ≡ Some m → SignAt t 63 p → ⊥
   pub no_colon : {m : ℕ} → cols.mapping ≡ Some m → SignAt t 58 p → ⊥
 
--- and none with a key: none may begin there, or the flow node that is there is no key
+-- and none with a key: none may begin there, or the flow node there is no key
 pub data NoKeyAt (t : List ℕ) (e : ℕ) (n : ℤ) (cols : Columns) (p : ℕ) : Type 0 where
   no_column : cols.mapping ≡ None → NoKeyAt t e n cols p
   unfit_node : {o : Option ParsedNode} → Parses t e (ANode (n +ℤ pos 1) FlowOut p) o → NoKey t p o → NoKeyAt t e n cols p
 
--- a flow node without properties of its own may be what is awaited: it has none, and after properties it is no alias
+-- the awaited node may be a flow node without properties of its own: none begin there, and after properties it is no
+-- alias
 pub record MayLeaf (t : List ℕ) (a : Ahead) (p : ℕ) : Type 0 where
   pub no_props : begins_properties (code t p) ≡ false
   pub no_alias : {h : PropertiesHeld} → a ≡ Props h → begins_alias (code t p) ≡ false

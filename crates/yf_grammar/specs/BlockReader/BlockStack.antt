@@ -1,5 +1,5 @@
--- The open collections of a block node, the innermost first, as a reader with a stack has them: of each, what has been read of it,
--- and what its outcome will be once the node is read that is awaited in the innermost one.
+-- The open collections of a block node, the innermost first, as the stack of a reader: the part of each that has been
+-- read, and its outcome once the awaited node of the innermost one is read.
 use Rattle.std.specs.Prelude.{◌≡◌, ℕ, suc, ◌+◌, pos, Bool, true, false, List, [], ◌∷◌, Option, None}
 use Rattle.yf_chars.specs.declared.context.Ctx.TheVariants.{BlockOut}
 use Rattle.yf_comments.specs.Comment.{CommentValue}
@@ -9,8 +9,8 @@ use Rattle.yf_grammar.specs.BlockReader.BlockParser.{SignAt, Ahead, Indicator, O
 use Rattle.yf_grammar.specs.BlockReader.BlockAwaits.{after_entries}
 use Rattle.yf_grammar.specs.BlockReader.BlockSteps.{TaskAwaited, TaskHalted, made_or, as_item, as_lone_key, as_lone_value, as_value, as_collection, as_after}
 
--- where the present entry of a collection has come to: its `-` is at the offset, or its `?`, whose key is awaited; a `:` without
--- a key; or a key was found, with its `:` at the second offset
+-- the progress of the present entry of a collection: its `-` is at the offset, or its `?`, and the key is awaited, or a
+-- `:` without a key; or a key was found, with its `:` at the second offset
 pub data Stage : Type 0 where
   AtItem : ℕ → Stage
   AtKey : ℕ → Stage
@@ -21,15 +21,15 @@ abbrev pub asks : Stage → Bool
 asks (AtKey i) = true
 asks _ = false
 
--- the entry that is made of the node that is awaited in it, where nothing more of the entry follows
+-- the entry made of its awaited node, if nothing more of the entry follows
 abbrev pub entry_made : Stage → ParsedNode → ParsedNode
 entry_made (AtItem i) f = as_item i f
 entry_made (AtKey i) f = as_lone_key i f
 entry_made (AtLoneValue i) f = as_lone_value i f
 entry_made (AtValue i k g) f = as_value i k g f
 
--- an open collection: what is ahead of it, the comments before that, where its first entry begins, how many collections were
--- open at once in the entries before the present one, and what these mean
+-- an open collection: its `Ahead`, the comments before that, the start of its first entry, the number of collections
+-- open at once in the entries before the present one, and the meaning of these entries
 pub record Layer : Type 0 where
   pub sequence : Bool
   pub column : ℕ
@@ -40,21 +40,21 @@ pub record Layer : Type 0 where
   pub known : Meaning
   pub stage : Stage
 
--- the collection that is made of the present entry and those after it
+-- the collection made of the present entry and those after it
 abbrev pub collection_made : Layer → ParsedNode → ParsedNode
 collection_made l g = as_after l.comments (as_collection l.ahead l.sequence l.first (after_entries l.high l.known g))
 
--- the outermost node, where all collections end with the node that is awaited
+-- the outermost node, if all collections end with the awaited node
 abbrev pub rounds : List Layer → ParsedNode → ParsedNode
 rounds [] f = f
 rounds (l ∷ ls) f = rounds ls (collection_made l (entry_made l.stage f))
 
--- entries of a collection are awaited from an offset on, in a node that is awaited itself; o is the last halt of that node so far
+-- entries of a collection are awaited from an offset on, in an awaited node; o is the last halt of that node so far
 pub record EntriesIn (t : List ℕ) (e : ℕ) (ws : List ℕ) (l : Layer) (q : Origin) (i : ℕ) (o : Option ParsedNode) (outer : BlockTask) : Type 0 where
   pub awaited : TaskAwaited t e (Items l.sequence l.column q i) (collection_made l) (suc e) outer
   pub halted : TaskHalted t e ws (Items l.sequence l.column q i) (collection_made l) o (suc e) ws outer
 
--- the node of the present entry is awaited, and nothing of the entry after it; o is the last halt of the entry so far
+-- the node of the present entry is awaited, and nothing of the entry follows it; o is the last halt of the entry so far
 pub record EntryIn (t : List ℕ) (e : ℕ) (ws : List ℕ) (l : Layer) (q : Origin) (i : ℕ) (o : Option ParsedNode) (inner : BlockTask) : Type 0 where
   pub awaited : TaskAwaited t e inner (entry_made l.stage) e (Item l.sequence l.column q i)
   pub halted : TaskHalted t e ws inner (entry_made l.stage) o e ws (Item l.sequence l.column q i)
@@ -68,8 +68,8 @@ abbrev pub asked : List Layer → List ℕ
 asked [] = []
 asked (l ∷ ls) = column_if (asks l.stage) l.column (asked ls)
 
--- the collections round a node that is awaited, in the outermost node with the limit d: e more may be opened, and r is the
--- outermost node's last halt where the awaited one has none
+-- the collections round an awaited node, in the outermost node with the limit d: e more may be opened, and r is the
+-- outermost node's last halt if the awaited one has none
 pub data Around (t : List ℕ) (d : ℕ) (root : BlockTask) : List Layer → ℕ → BlockTask → Option ParsedNode → Type 0 where
   outermost : Around t d root [] d root None
   in_entry : {e i : ℕ} {ls : List Layer} {l : Layer} {q : Origin} {outer inner : BlockTask} {r o z : Option ParsedNode}

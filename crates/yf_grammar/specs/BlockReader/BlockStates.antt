@@ -1,5 +1,6 @@
--- The states of a reader of block nodes with a stack, as far as they are tied to the relations `Whole` and `Halts`: what has been
--- read, and what is known of the outermost node. In each of them h is the outermost node's last halt, should the text go wrong next.
+-- The states of a reader of block nodes with a stack, as far as the relations `Whole` and `Halts` determine them: the
+-- part that has been read, and the outermost node. In each state h is the outermost node's last halt if the text goes
+-- wrong next.
 use Rattle.std.specs.Prelude.{◌≡◌, ℕ, suc, max, ◌<◌, ◌≤◌, Bool, List, [], ◌∷◌, true, Option, Some, None}
 use Rattle.yf_comments.specs.Comment.{CommentValue}
 use Rattle.yf_grammar.specs.Productions.Grammar.{ColonLine}
@@ -10,7 +11,7 @@ use Rattle.yf_grammar.specs.BlockReader.Halts.{Halts}
 use Rattle.yf_grammar.specs.BlockReader.BlockSteps.{TaskAwaited, TaskHalted, made_or, as_after}
 use Rattle.yf_grammar.specs.BlockReader.BlockStack.{Layer, Stage, AtItem, AtKey, AtLoneValue, AtValue, asks, collection_made, rounds, EntriesIn, asked, Around}
 
--- a node is awaited, after so many comments, where e more collections may be opened
+-- a node is awaited after the comments ds, and e more collections may be opened
 pub record NodeAt (t : List ℕ) (d : ℕ) (root : BlockTask) (ls : List Layer) (e : ℕ) (ds : List CommentValue) (task : BlockTask)
     (h : Option ParsedNode) : Type 0 where
   pub outer : BlockTask
@@ -61,31 +62,32 @@ pub record NodeIsBroken (t : List ℕ) (d : ℕ) (root : BlockTask) (h : Option 
   pub whole : Whole t d root None
   pub halted : Halts t d [] root h
 
--- a collection with a further entry, and one whose present entry has come to a stage
+-- a collection with a further entry, and one with its present entry at a stage
 abbrev pub with_entry : Layer → ParsedNode → Layer
 with_entry l f = record l { high = max l.high f.height; known = l.known ⊕ f.meaning }
 
 abbrev pub at_stage : Layer → Stage → Layer
 at_stage l s = record l { stage = s }
 
--- a collection no entry of which has been read
+-- a collection before its first entry is read
 abbrev pub new_layer : Bool → ℕ → Ahead → List CommentValue → ℕ → Layer
 new_layer sequence m a ds p = record { sequence = sequence; column = m; ahead = a; comments = ds; first = p; high = 0; known = only [] 0; stage = AtItem p }
 
--- where the present entry begins
+-- the start of the present entry
 abbrev pub place_of : Stage → ℕ
 place_of (AtItem i) = i
 place_of (AtKey i) = i
 place_of (AtLoneValue i) = i
 place_of (AtValue i k f) = i
 
--- the comments that go before a node, and not to the properties ahead of it
+-- the comments that go before a node, and not to the properties of its `Ahead`
 abbrev pub outcome_before : Ahead → List CommentValue → List CommentValue
 outcome_before Nothing ds = ds
 outcome_before (Indicator i) ds = ds
 outcome_before (Props h) ds = []
 
--- the line at an offset, or the want of one, ends a collection after its present node; and several, the innermost first
+-- the line at an offset, or the end of the lines, ends a collection after its present node; or several, the innermost
+-- first
 pub record EndsHere (t : List ℕ) (at : ℕ) (l : Layer) : Type 0 where
   pub no_entry : NoEntry t l.sequence l.column at
   pub no_colon : asks l.stage ≡ true → ColonLine t l.column at → ⊥
@@ -94,12 +96,12 @@ pub data AllEnd (t : List ℕ) (at : ℕ) : List Layer → Type 0 where
   all_ended : AllEnd t at []
   one_ends : {l : Layer} {ls : List Layer} → EndsHere t at l → AllEnd t at ls → AllEnd t at (l ∷ ls)
 
--- collections whose columns are all greater
+-- collections whose columns are all greater than m
 pub data AllDeeper (m : ℕ) : List Layer → Type 0 where
   no_more : AllDeeper m []
   one_deeper : {l : Layer} {ls : List Layer} → m < l.column → AllDeeper m ls → AllDeeper m (l ∷ ls)
 
--- collections no column of which is greater; and those none of which is less deep than one round it
+-- collections with no column greater than m; and collections none of which is less deep than one round it
 pub data AllWithin (m : ℕ) : List Layer → Type 0 where
   none_within : AllWithin m []
   one_within : {l : Layer} {ls : List Layer} → l.column ≤ m → AllWithin m ls → AllWithin m (l ∷ ls)

@@ -1,5 +1,5 @@
--- What is left to do of a task of the reader of block nodes while another one, on which it rests, is read: from the outcome of
--- the inner one comes that of the outer one. So a reader with a stack of open collections has the outcomes of `Whole` and `Halts`.
+-- The rest of a task of the reader of block nodes while an inner task is read: the outer outcome follows from the inner
+-- one. So a reader with a stack of open collections has the outcomes of `Whole` and `Halts`.
 use Rattle.std.specs.Prelude.{ℕ, suc, max, Bool, false, List, Option, Some, None}
 use Rattle.yf_comments.specs.Comment.{CommentValue}
 use Rattle.yf_grammar.specs.Productions.Meaning.{◌⊕◌, meaning_after, empty_node, collection, entering}
@@ -7,24 +7,24 @@ use Rattle.yf_grammar.specs.FlowReader.Parser.{ParsedNode}
 use Rattle.yf_grammar.specs.BlockReader.BlockParser.{Ahead, Nothing, Indicator, Props, headed, BlockTask, Whole}
 use Rattle.yf_grammar.specs.BlockReader.Halts.{Halts}
 
--- what is found of the outer task is made of what is found of the inner one; without the one there is none of the other
+-- the outer outcome is made of the inner one, and is `None` if the inner one is
 pub record TaskAwaited (t : List ℕ) (e : ℕ) (inner : BlockTask) (made : ParsedNode → ParsedNode) (d : ℕ) (outer : BlockTask) : Type 0 where
   pub some : (g : ParsedNode) → Whole t e inner (Some g) → Whole t d outer (Some (made g))
   pub none : Whole t e inner None → Whole t d outer None
 
--- the same of last halts; where the inner task has none, o is that of the outer one
+-- likewise for last halts; if the inner task has none, the outer one's is o
 pub record TaskHalted (t : List ℕ) (e : ℕ) (vs : List ℕ) (inner : BlockTask) (made : ParsedNode → ParsedNode) (o : Option ParsedNode) (d : ℕ) (ws : List ℕ)
     (outer : BlockTask) : Type 0 where
   pub some : (g : ParsedNode) → Halts t e vs inner (Some g) → Halts t d ws outer (Some (made g))
   pub none : Halts t e vs inner None → Halts t d ws outer o
 
--- what is made of an outcome, where o is the last halt before
+-- `made` of an outcome, or o if the outcome is `None`
 unfoldable pub made_or : (ParsedNode → ParsedNode) → Option ParsedNode → Option ParsedNode → Option ParsedNode
 made_or made o None = o
 made_or made o (Some g) = Some (made g)
 
--- a node as the item of a sequence at i, as the key after a `?` whose value is empty, as the value after a `:` without a key, and
--- as the value of a key, whose `:` is at k
+-- a node as the item of a sequence at i, as the key after a `?` with an empty value, as the value after a `:` without a
+-- key, and as the value of a key with its `:` at k
 abbrev pub as_item : ℕ → ParsedNode → ParsedNode
 as_item i f = record { end = f.end; height = f.height; json = false; meaning = entering i None f.meaning }
 

@@ -1,7 +1,7 @@
--- What is left of a node that is broken further on: `Halts t e ws task o` says that o is the part of a task up to the last
--- place at which it may end, where nothing of the text after that place is read. ws are the columns of the entries with a `?`
--- round the task whose value would be left empty there: it may not end before their `:`. It rests on `Whole`, which tells where
--- an entry ends that others follow.
+-- The rest of a broken node: `Halts t e ws task o` means that o is the part of a task up to the last offset at which it
+-- may end, without the text after that offset. ws are the columns of the entries with a `?` round the task whose values
+-- would be empty then: it may not end before their `:`. `Halts` uses `Whole` for the end of an entry that others
+-- follow.
 use Rattle.std.specs.Prelude.{◌≡◌, ℕ, suc, ◌+◌, ◌<◌, ◌≤◌, ℤ, pos, ◌+ℤ◌, Bool, true, false, List, [], ◌∷◌, Option, Some, None, encode_utf8_all}
 use Rattle.yf_chars.specs.declared.context.Ctx.{Ctx}
 use Rattle.yf_chars.specs.declared.context.Ctx.TheVariants.{BlockOut, BlockIn, FlowOut, FlowKey}
@@ -24,7 +24,7 @@ pub data NoColonAt (t : List ℕ) (j : ℕ) : List ℕ → Type 0 where
   none_open : NoColonAt t j []
   one_open : {w : ℕ} {ws : List ℕ} → (ColonLine t w j → ⊥) → NoColonAt t j ws → NoColonAt t j (w ∷ ws)
 
--- the end of a line, and comment lines, up to a place at which all may end
+-- the end of a line, and comment lines, up to an offset at which all nodes may end
 pub record MayEnd (t : List ℕ) (ws : List ℕ) (i j : ℕ) (ds : List CommentValue) : Type 0 where
   pub line : LineEnd t i j ds
   pub allowed : NoColonAt t j ws
@@ -39,17 +39,17 @@ pub record ScalarPart (t : List ℕ) (n : ℤ) (ws : List ℕ) (i j : ℕ) (x : 
   pub scalar : BlockScalar t n i j x
   pub allowed : NoColonAt t j ws
 
--- nothing but what is ahead
+-- only the `Ahead`
 pub data Alone (t : List ℕ) (ws : List ℕ) (a : Ahead) (i : ℕ) : Option ParsedNode → Type 0 where
   alone_to : {k : ℕ} {ds : List CommentValue} → Chosen (MayEnd t ws i) k ds → Alone t ws a i (alone a k ds)
   alone_nowhere : Stuck (MayEnd t ws i) → Alone t ws a i None
 
--- nothing is found, or not that after it
+-- nothing is found, or P does not hold at its end
 pub data NoneAfter (P : ℕ → Type 0) : Option ParsedNode → Type 0 where
   not_found : NoneAfter P None
   not_after : {f : ParsedNode} → (P f.end → ⊥) → NoneAfter P (Some f)
 
--- what is made of an outcome
+-- `f` of an outcome, or `None` if the outcome is `None`
 unfoldable pub then_found : (ParsedNode → Option ParsedNode) → Option ParsedNode → Option ParsedNode
 then_found f None = None
 then_found f (Some x) = f x
@@ -65,7 +65,7 @@ pub data Halts (t : List ℕ) : ℕ → List ℕ → BlockTask → Option Parsed
       → Halts t e ws (Inline n c cols a p) o → Halts t e ws (Awaited b n c a i) o
   halts_missed : {e i : ℕ} {ws : List ℕ} {b : Bool} {n : ℤ} {c : Ctx} {a : Ahead} → Stuck (LineEnd t i) → is_white (code t i) ≡ false
       → Halts t e ws (Awaited b n c a i) None
-  -- where a node begins on a line but has no end at all, what is ahead may end before it
+  -- if a node begins on a line but has no end, the task may end after its `Ahead`, before that node
   halts_alone : {e i k : ℕ} {ws : List ℕ} {n : ℤ} {c : Ctx} {a : Ahead} {ds : List CommentValue} {o : Option ParsedNode} → Chosen (LineEnd t i) k ds
       → NoNode t n c i k → Alone t ws a i o → Halts t e ws (Below n c a i) o
   halts_node : {e i k m p : ℕ} {ws : List ℕ} {n : ℤ} {c : Ctx} {a : Ahead} {cols : Columns} {ds : List CommentValue} {f : ParsedNode}
@@ -118,7 +118,7 @@ pub data Halts (t : List ℕ) : ℕ → List ℕ → BlockTask → Option Parsed
   halts_content_missed : {e p : ℕ} {ws : List ℕ} {n : ℤ} {a : Ahead} → Stuck (BlockScalar t n p) → MayLeaf t a p
       → begins_plain (code t p) ≡ false → Parses t e (ANode (n +ℤ pos 1) FlowOut p) None → Halts t e ws (Leaf n a p) None
   halts_refused : {e p : ℕ} {ws : List ℕ} {n : ℤ} {a : Ahead} → Stuck (BlockScalar t n p) → (MayLeaf t a p → ⊥) → Halts t e ws (Leaf n a p) None
-  -- entries: as far as those after a whole entry have an end, else within that entry
+  -- entries: up to the last halt of those after a whole entry, otherwise within that entry
   halts_item : {e m i : ℕ} {ws : List ℕ} {s : Bool} {q : Origin} {r o : Option ParsedNode} → Whole t e (Item s m q i) r → NoneAfter (NextEntry t s m) r
       → Halts t e ws (Item s m q i) o → Halts t e ws (Items s m q i) o
   halts_before_item : {e m i : ℕ} {ws : List ℕ} {s : Bool} {q : Origin} {f : ParsedNode} {o : Option ParsedNode} → Whole t e (Item s m q i) (Some f) → NextEntry t s m f.end

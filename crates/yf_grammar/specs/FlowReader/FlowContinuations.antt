@@ -1,5 +1,5 @@
--- What is left to do of a flow collection while it is read: from the outcome of what is awaited comes the outcome of the
--- collection. So a reader with a stack of open collections has the outcome of the recursive reader.
+-- The rest of a flow collection while it is read: the outcome of the collection follows from the outcome of its awaited
+-- part. So a reader with a stack of open collections has the outcome of the recursive reader.
 use Rattle.std.specs.Prelude.{◌≡◌, ℕ, suc, max, ◌+◌, ℤ, Bool, true, false, ◌==◌, ◌||◌, List, [], ◌++◌, Some, None}
 use Rattle.yf_chars.specs.declared.context.Ctx.{Ctx}
 use Rattle.yf_chars.specs.Text.{code}
@@ -10,25 +10,26 @@ use Rattle.yf_props.specs.Names.{Properties, PropertiesValue}
 use Rattle.yf_grammar.specs.Productions.Meaning.{Meaning, ◌⊕◌, meaning_after, noting, collection, entering, with_props}
 use Rattle.yf_grammar.specs.FlowReader.Parser.{ParsedNode, Gap, ColonAt, ANode, AContent, TheEntries, AnEntry, AnExplicit, AnImplicit, AValue, Parses, begins_content, only}
 
--- the collection that begins at i, of entries x in which h collections are open at once, and of further ones
+-- the collection that begins at i, of entries x with h collections open at once, and of further ones
 abbrev pub closed : Bool → ℕ → ℕ → Meaning → ParsedNode → ParsedNode
 closed sequence i h x g =
     record { end = g.end + 1; height = suc (max h g.height); json = true; meaning = collection sequence true i (g.end + 1) (x ⊕ g.meaning) }
 
--- the same without further ones, closed by the bracket at k
+-- the collection without further entries, closed by the bracket at k
 abbrev pub ended_at : Bool → ℕ → ℕ → Meaning → ℕ → ParsedNode
 ended_at sequence i h x k = record { end = k + 1; height = suc h; json = true; meaning = collection sequence true i (k + 1) x }
 
--- further entries of the collection are awaited at k, or its closing bracket; c is the context of the collection, d that within it
+-- further entries of the collection are awaited at k, or its closing bracket; c is the context of the collection, d
+-- that within it
 pub record EntriesAwaited (t : List ℕ) (e : ℕ) (sequence : Bool) (n : ℤ) (c d : Ctx) (i h : ℕ) (x : Meaning) (k : ℕ) : Type 0 where
   pub some : (g : ParsedNode) → Parses t e (TheEntries sequence n d k) (Some g) → Parses t (suc e) (AContent n c i) (Some (closed sequence i h x g))
   pub none : Parses t e (TheEntries sequence n d k) None → Parses t (suc e) (AContent n c i) None
 
--- the same before the separation that may be there
+-- further entries are awaited after a separation, which may be missing
 pub record SeparationAwaited (t : List ℕ) (e : ℕ) (sequence : Bool) (n : ℤ) (c d : Ctx) (i h : ℕ) (x : Meaning) (at : ℕ) : Type 0 where
   pub past : (k : ℕ) (cs : List CommentValue) → Gap t n d at k cs → EntriesAwaited t e sequence n c d i h (noting x cs) k
 
--- an entry from s to j; its kind plays no part
+-- an entry from s to j, of either kind
 pub record IsEntry (t : List ℕ) (e : ℕ) (sequence : Bool) (n : ℤ) (d : Ctx) (s j h : ℕ) (x : Meaning) : Type 0 where
   pub json : Bool
   pub read : Parses t e (AnEntry sequence n d s) (Some (record { end = j; height = h; json = json; meaning = x }))
@@ -42,24 +43,24 @@ abbrev pub wrapped : Bool → ℕ → Meaning → Meaning
 wrapped false s x = x
 wrapped true s x = entering s None (collection false true s x.finish x)
 
--- after `?` and its separation, x is known of the entry that begins at s, and its rest is awaited at p
+-- after `?` and its separation: x is the part so far of the entry that begins at s, and the rest is awaited at p
 pub record RestAwaited (t : List ℕ) (e : ℕ) (sequence : Bool) (n : ℤ) (d : Ctx) (pair : Bool) (s : ℕ) (x : Meaning) (p : ℕ) : Type 0 where
   pub some : (f : ParsedNode) → Parses t e (AnExplicit n d s p) (Some f)
       → IsEntry t (with_pair pair e) sequence n d s f.end (with_pair pair f.height) (wrapped pair s (x ⊕ f.meaning))
   pub none : Parses t e (AnExplicit n d s p) None → Parses t (with_pair pair e) (AnEntry sequence n d s) None
 
--- the same of a key, or of a value without one
+-- likewise for a key, or for a value without one
 pub record KeyAwaited (t : List ℕ) (e : ℕ) (sequence : Bool) (n : ℤ) (d : Ctx) (pair : Bool) (s : ℕ) (x : Meaning) (p : ℕ) : Type 0 where
   pub some : (f : ParsedNode) → Parses t e (AnImplicit n d s p) (Some f)
       → IsEntry t (with_pair pair e) sequence n d s f.end (with_pair pair f.height) (wrapped pair s (x ⊕ f.meaning))
   pub none : Parses t e (AnImplicit n d s p) None → Parses t (with_pair pair e) (AnEntry sequence n d s) None
 
--- of a value, from its `:` at v on, after a key of that kind in which h collections are open at once
+-- for a value, from its `:` at v on, after a key of that kind with h collections open at once
 pub record ValueAwaited (t : List ℕ) (e : ℕ) (sequence : Bool) (n : ℤ) (d : Ctx) (pair : Bool) (s : ℕ) (json : Bool) (h : ℕ) (x : Meaning) (v : ℕ) : Type 0 where
   pub some : (g : ParsedNode) → Parses t e (AValue json n d v) (Some g)
       → IsEntry t (with_pair pair e) sequence n d s g.end (with_pair pair (max h g.height)) (wrapped pair s (x ⊕ g.meaning))
 
--- of the node of that value at p, and what comes where there is none
+-- for the node of that value at p, and for the end of the entry if no node is there
 pub record ValueNodeAwaited (t : List ℕ) (e : ℕ) (sequence : Bool) (n : ℤ) (d : Ctx) (pair : Bool) (s h : ℕ) (x : Meaning) (p : ℕ) : Type 0 where
   pub some : (g : ParsedNode) → Parses t e (ANode n d p) (Some g)
       → IsEntry t (with_pair pair e) sequence n d s g.end (with_pair pair (max h g.height)) (wrapped pair s (x ⊕ g.meaning))
@@ -67,16 +68,17 @@ pub record ValueNodeAwaited (t : List ℕ) (e : ℕ) (sequence : Bool) (n : ℤ)
   pub none : Parses t e (ANode n d p) None
       → (j : ℕ) × (cs : List CommentValue) × (y : Meaning) × IsEntry t (with_pair pair e) sequence n d s j (with_pair pair h) y × Gap t n d j p cs
 
--- a comma or a closing bracket, after which there is nothing more of an entry
+-- a comma or a closing bracket, which ends an entry
 abbrev pub is_entry_end : ℕ → Bool
 is_entry_end c = (c == 44) || (c == 93) || (c == 125)
 
--- neither `?` with a separation nor a value is at the entry, so a node is awaited there
+-- the entry begins neither with `?` and a separation nor with a value, so a node is awaited there
 pub record ItemAwaited (t : List ℕ) (n : ℤ) (d : Ctx) (s : ℕ) : Type 0 where
   pub no_sign : code t s ≡ 63 → Stuck (Separate t n d (s + 1))
   pub no_value : ColonAt t false d s → ⊥
 
--- in the entry that begins at s a node is awaited at p: h collections were open at once in what is read of the entry, x
+-- a node is awaited at p in the entry that begins at s: x is the part of the entry before it, with h collections open
+-- at once
 pub data NodeAwaited (t : List ℕ) (n : ℤ) (d : Ctx) (s : ℕ) : Bool → ℕ → Bool → ℕ → ℕ → Meaning → Type 0 where
   as_item : {e : ℕ} → ItemAwaited t n d s → NodeAwaited t n d s true e false s 0 (only [] 0)
   as_key : {sequence pair : Bool} {e p : ℕ} {x : Meaning} → KeyAwaited t e sequence n d pair s x p → (ColonAt t false d p → ⊥)
@@ -84,7 +86,7 @@ pub data NodeAwaited (t : List ℕ) (n : ℤ) (d : Ctx) (s : ℕ) : Bool → ℕ
   as_value : {sequence pair : Bool} {e p h : ℕ} {x : Meaning} → ValueNodeAwaited t e sequence n d pair s h x p → is_entry_end (code t p) ≡ false
       → NodeAwaited t n d s sequence e pair p h x
 
--- what is before the content of a node: nothing, or properties up to g from i on and a separation
+-- the text before the content of a node: nothing, or properties from i to g and a separation
 pub data Before : Type 0 where
   Bare : Before
   Propertied : PropertiesValue → List CommentValue → ℕ → ℕ → Before
@@ -93,13 +95,13 @@ abbrev pub over : Before → Meaning → Meaning
 over Bare x = x
 over (Propertied p cs i g) x = meaning_after (p.comments ++ cs) (with_props p.props p.tag_offset i g x)
 
--- a node whose content begins at k with a quote or a bracket
+-- a node with content that begins at k with a quote or a bracket
 pub data NodeOver (t : List ℕ) (n : ℤ) (d : Ctx) : ℕ → ℕ → Before → Type 0 where
   bare_there : {i : ℕ} → begins_content (code t i) ≡ true → NodeOver t n d i i Bare
   properties_there : {i g k : ℕ} {p : PropertiesValue} {cs : List CommentValue} → Chosen (Properties t n d i) g p → Chosen (Separate t n d g) k cs
       → begins_content (code t k) ≡ true → NodeOver t n d i k (Propertied p cs i g)
 
--- from the end of an entry at j up to a place where its separation has been read, if there is one, or not yet
+-- from the end of an entry at j to an offset before or after its separation, if it has one
 pub data Within (t : List ℕ) (n : ℤ) (d : Ctx) (j : ℕ) : ℕ → List CommentValue → Type 0 where
   not_yet : Within t n d j j []
   gap_past : {k : ℕ} {cs : List CommentValue} → Gap t n d j k cs → Within t n d j k cs

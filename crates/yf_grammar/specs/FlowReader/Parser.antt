@@ -1,7 +1,7 @@
--- The recursive reader that is between the grammar and the code: it takes the longest part of each leaf production,
--- reads each entry once, and never goes back. It is told as a relation between a task at a place and what is found there,
--- since the leaf readers are known by their relations alone; it has one outcome at each place. The readers of the crates
--- above do the same in one pass, with a stack of what is left of its calls.
+-- The recursive reader between the grammar and the code. It takes the longest part of each leaf production, reads each
+-- entry once, and never goes back. It is a relation between a task at an offset and its outcome, since the leaf readers
+-- are known only by their relations. It has one outcome at each offset. The readers of the crates above find that
+-- outcome in one pass, with a stack of its unfinished calls.
 use Rattle.std.specs.Prelude.{◌≡◌, ◌≢◌, ℕ, suc, max, ◌+◌, ◌<◌, ◌≤◌, ℤ, Bool, true, false, not, ◌==◌, ◌||◌, List, [], ◌++◌, Option, Some, None, encode_utf8_all}
 use Rattle.yf_chars.specs.declared.context.Ctx.{Ctx}
 use Rattle.yf_chars.specs.Text.{code}
@@ -16,8 +16,8 @@ use Rattle.yf_quoted.specs.Quoted.{Piece, text_of, SingleQuoted, DoubleQuoted}
 use Rattle.yf_grammar.specs.Productions.Grammar.{bad_escapes, in_flow, opening, closing, characters_between, KEY_LIMIT, MayBeColon}
 use Rattle.yf_grammar.specs.Productions.Meaning.{Meaning, ◌⊕◌, meaning_after, noting, scalar, alias_to, empty_node, collection, with_props, entering}
 
--- where a node or a list of entries ends, how many collections are open in it at once, whether it is a node like those of
--- JSON, and what it means
+-- the end of a node or of a list of entries, the number of collections open in it at once, whether it is a node like
+-- those of JSON, and its meaning
 pub record ParsedNode : Type 0 where
   pub end : ℕ
   pub height : ℕ
@@ -27,16 +27,16 @@ pub record ParsedNode : Type 0 where
 unfoldable pub found : ℕ → ℕ → Bool → Meaning → Option ParsedNode
 found end height json meaning = Some (record { end = end; height = height; json = json; meaning = meaning })
 
--- the longest separation from a place, or nothing where there is none
+-- the longest separation from an offset, or nothing if none begins there
 pub data Gap (t : List ℕ) (n : ℤ) (c : Ctx) : ℕ → ℕ → List CommentValue → Type 0 where
   longest_gap : {i j : ℕ} {cs : List CommentValue} → Chosen (Separate t n c i) j cs → Gap t n c i j cs
   no_gap : {i : ℕ} → Stuck (Separate t n c i) → Gap t n c i i []
 
--- no character of a break is between
+-- no character of a break is between the offsets
 pub record OnOneLine (t : List ℕ) (i j : ℕ) : Type 0 where
   pub each : (h : ℕ) → i ≤ h → h < j → is_break_char (code t h) ≡ false
 
--- what a node begins with: an alias, properties, a quote or bracket; else it is a plain scalar
+-- the first character of an alias, of properties, of content (a quote or bracket), or otherwise of a plain scalar
 unfoldable pub begins_alias : ℕ → Bool
 begins_alias c = c == 42
 
@@ -54,7 +54,7 @@ pub record ColonAt (t : List ℕ) (json : Bool) (c : Ctx) (i : ℕ) : Type 0 whe
   pub colon : code t i ≡ 58
   pub follows : MayBeColon json t (i + 1) c
 
--- a key of a single pair: on one line, and not too long; white space may be after it
+-- a key of a single pair: on one line, and not too long; white space may follow it
 pub record PairKey (t : List ℕ) (c : Ctx) (i : ℕ) (f : ParsedNode) (k : ℕ) : Type 0 where
   pub whites : List ℕ
   pub run : Many t is_white f.end k whites
@@ -62,7 +62,7 @@ pub record PairKey (t : List ℕ) (c : Ctx) (i : ℕ) (f : ParsedNode) (k : ℕ)
   pub short : characters_between t i k ≤ KEY_LIMIT
   pub colon : ColonAt t f.json c k
 
--- where a flag stands for the kind of a collection, true is a sequence
+-- a flag for the kind of a collection is true for a sequence
 pub data Task : Type 0 where
   -- a flow node; a quoted scalar or flow collection
   ANode : ℤ → Ctx → ℕ → Task
@@ -70,7 +70,7 @@ pub data Task : Type 0 where
   -- entries up to the closing bracket, from an entry or that bracket on; one entry
   TheEntries : Bool → ℤ → Ctx → ℕ → Task
   AnEntry : Bool → ℤ → Ctx → ℕ → Task
-  -- what is after `?` and its separation, of an entry of a mapping that begins at the first offset
+  -- the rest after `?` and its separation of an entry of a mapping that begins at the first offset
   AnExplicit : ℤ → Ctx → ℕ → ℕ → Task
   -- a key or a lone value of an entry of a mapping that begins at the first offset
   AnImplicit : ℤ → Ctx → ℕ → ℕ → Task
@@ -81,7 +81,7 @@ pub data Task : Type 0 where
 unfoldable pub propertied : PropertiesValue → List CommentValue → ℕ → ℕ → ParsedNode → Option ParsedNode
 propertied p cs i g f = Some (record f { meaning = meaning_after (p.comments ++ cs) (with_props p.props p.tag_offset i g f.meaning) })
 
--- the properties alone, which end at g
+-- only the properties, which end at g
 unfoldable pub lone_properties : PropertiesValue → ℕ → ℕ → Option ParsedNode
 lone_properties p i g = found g 0 false (meaning_after p.comments (with_props p.props p.tag_offset i g (empty_node g)))
 
@@ -105,7 +105,7 @@ paired s k f cs g = found g.end (max f.height g.height) false (noting (entering 
 unfoldable pub pair_entry : ℕ → ParsedNode → Option ParsedNode
 pair_entry i f = found f.end (suc f.height) false (entering i None (collection false true i f.meaning.finish f.meaning))
 
--- nothing but comments
+-- only comments
 unfoldable pub only : List CommentValue → ℕ → Meaning
 only cs finish = record { events = []; comments = cs; escapes = []; finish = finish }
 
@@ -181,12 +181,12 @@ pub data Parses (t : List ℕ) : ℕ → Task → Option ParsedNode → Type 0 w
       → Parses t e (AnImplicit n c i i) o → Parses t e (AnEntry false n c i) o
   mapping_implicit : {e i : ℕ} {n : ℤ} {c : Ctx} {o : Option ParsedNode} → code t i ≢ 63
       → Parses t e (AnImplicit n c i i) o → Parses t e (AnEntry false n c i) o
-  -- after `?`: nothing before a comma or a bracket, else a key or a value
+  -- after `?`: nothing before a comma or a bracket, otherwise a key or a value
   explicit_nothing : {e s i : ℕ} {n : ℤ} {c : Ctx} → (code t i == 44) || (code t i == 93) || (code t i == 125) ≡ true
       → Parses t e (AnExplicit n c s i) (found i 0 false (entering s None (empty_node (s + 1)) ⊕ empty_node (s + 1)))
   explicit_something : {e s i : ℕ} {n : ℤ} {c : Ctx} {o : Option ParsedNode} → (code t i == 44) || (code t i == 93) || (code t i == 125) ≡ false
       → Parses t e (AnImplicit n c s i) o → Parses t e (AnExplicit n c s i) o
-  -- a key with or without a value, or a value alone
+  -- a key with or without a value, or only a value
   lone_value : {e s i : ℕ} {n : ℤ} {c : Ctx} {f : ParsedNode} → ColonAt t false c i → Parses t e (AValue false n c i) (Some f)
       → Parses t e (AnImplicit n c s i) (Some (record f { meaning = entering s (Some i) (empty_node i) ⊕ f.meaning }))
   key_missed : {e s i : ℕ} {n : ℤ} {c : Ctx} → (ColonAt t false c i → ⊥) → Parses t e (ANode n c i) None
@@ -219,7 +219,7 @@ pub data Parses (t : List ℕ) : ℕ → Task → Option ParsedNode → Type 0 w
   item_read : {e i : ℕ} {n : ℤ} {c : Ctx} {f : ParsedNode} → (code t i ≡ 63 → Stuck (Separate t n c (i + 1))) → (ColonAt t false c i → ⊥)
       → Parses t e (ANode n c i) (Some f) → ((k : ℕ) → PairKey t c i f k → ⊥)
       → Parses t e (AnEntry true n c i) (Some (record f { meaning = entering i None f.meaning }))
-  -- a value: the node after the separation, which only after a key like JSON's may be missing; else it is empty
+  -- a value: the node after the separation, which may be missing only after a key like JSON's; otherwise an empty node
   value_read : {e i k : ℕ} {json : Bool} {n : ℤ} {c : Ctx} {cs : List CommentValue} {f : ParsedNode} → Chosen (Separate t n c (i + 1)) k cs
       → Parses t e (ANode n c k) (Some f) → Parses t e (AValue json n c i) (Some (record f { meaning = meaning_after cs f.meaning }))
   value_empty : {e i k : ℕ} {json : Bool} {n : ℤ} {c : Ctx} (cs : List CommentValue) → Chosen (Separate t n c (i + 1)) k cs

@@ -1,4 +1,4 @@
--- A block scalar as a node: its header and its lines (YAML 1.2.2, section 8.1), and where it ends.
+-- A block scalar as a node: its header, its lines and its end (YAML 1.2.2, section 8.1).
 use Rattle.std.specs.Prelude.{◌≡◌, ℕ, ◌+◌, ℤ, Bool, true, false, List, [], ◌∷◌, ◌++◌, None, length}
 use Rattle.yf_chars.specs.Chain.{Chain}
 use Rattle.yf_lines.specs.Lines.{OneLine}
@@ -23,13 +23,13 @@ abbrev pub kept_lines : Bool → List (List ℕ) → List (List ℕ)
 kept_lines true lines = lines
 kept_lines false lines = []
 
--- how many lines after its header the scalar reaches: to its last content line, or through its kept tail
+-- the number of lines after its header that the scalar reaches: to its last content line, or through its kept tail
 abbrev pub reach : Chomp → ℕ → ℕ → ℕ
 reach Strip lines tail = lines
 reach Clip lines tail = lines
 reach Keep lines tail = lines + tail
 
--- so many lines are from i to j
+-- `count` lines are from i to j
 pub data LinesBetween (t : List ℕ) (count : ℕ) : ℕ → ℕ → Type 0 where
   counted : {i j : ℕ} {ls : List Line} → Chain (OneLine t) i j ls → length ls ≡ count → LinesBetween t count i j
 

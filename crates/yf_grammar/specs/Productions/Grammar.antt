@@ -1,5 +1,5 @@
--- The nested productions as one inductive relation: `Derives t h p i j x` says that the production p derives the
--- characters of the text t from i to j with the meaning x, and that h collections are open at once at most (a single
+-- The nested productions as one inductive relation: `Derives t h p i j x` means that the production p derives the
+-- characters of the text t from i to j with the meaning x, and that at most h collections are open at once (a single
 -- pair counts as a mapping). n is an indentation, from -1; c is a context; m is the column of the entries of a block
 -- collection. Flow nodes: YAML 1.2.2, chapter 7; block nodes: chapter 8.
 use Rattle.std.specs.Prelude.{◌≡◌, ℕ, suc, max, ◌+◌, ◌-◌, ◌≤◌, ℤ, pos, ◌+ℤ◌, ◌≤ℤ◌, Bool, true, false, List, [], ◌∷◌, ◌++◌, Some, None, length, take, drop, encode_utf8_all}
@@ -19,8 +19,8 @@ use Rattle.yf_quoted.specs.Quoted.{Piece, text_of, SingleQuoted, DoubleQuoted}
 pub use Rattle.yf_quoted.specs.Quoted.{bad_escapes}
 use Rattle.yf_grammar.specs.Productions.Meaning.{Meaning, ◌⊕◌, meaning_after, noting, scalar, alias_to, empty_node, collection, with_props, entering}
 
--- where a flag stands for the kind of a collection, true is a sequence; where one stands for the kind of a node, true is
--- a node like those of JSON: a quoted scalar or a flow collection, with or without properties
+-- a flag for the kind of a collection is true for a sequence; a flag for the kind of a node is true for a node like
+-- those of JSON: a quoted scalar or a flow collection, with or without properties
 pub data Production : Type 0 where
   -- ns-flow-node(n,c)
   FlowNode : ℤ → Ctx → Production
@@ -46,7 +46,7 @@ pub data Production : Type 0 where
   -- one entry of them
   BlockEntries : Bool → ℕ → Production
   BlockEntry : Bool → ℕ → Production
-  -- s-l+block-indented(n,c), where n is a column
+  -- s-l+block-indented(n,c), for a column n
   BlockIndented : ℕ → Ctx → Production
   -- c-l-block-map-implicit-value: the `:` and the value
   BlockValue : ℕ → Production
@@ -79,20 +79,21 @@ pub data MaySeparateInLine (t : List ℕ) : ℕ → ℕ → Type 0 where
   unseparated_in_line : {i : ℕ} → MaySeparateInLine t i i
   separated_in_line : {i j : ℕ} → SeparateInLine t i j → MaySeparateInLine t i j
 
--- how many characters are between two offsets
+-- the number of characters between two offsets
 unfoldable pub characters_between : List ℕ → ℕ → ℕ → ℕ
 characters_between t i j = length (chars (take (j - i) (drop i t)))
 
--- an implicit key has at most so many characters, the white space after it counted
+-- the maximum number of characters of an implicit key, with the white space after it
 abbrev pub KEY_LIMIT : ℕ
 KEY_LIMIT = 1024
 
--- a `:` before the offset may be read after a node of that kind: where that is like YAML's, no plain character follows
+-- a `:` before the offset may be read after a node of that kind: after a node like YAML's, no plain character may
+-- follow it
 abbrev pub MayBeColon : Bool → List ℕ → ℕ → Ctx → Type 0
 MayBeColon true t i c = Unit {0}
 MayBeColon false t i c = is_plain_safe (code t i) c ≡ false
 
--- the separation before the value: it may be missing after a JSON key alone
+-- the separation before the value, which may be missing only after a JSON key
 abbrev pub ValueSeparate : Bool → List ℕ → ℤ → Ctx → ℕ → ℕ → List CommentValue → Type 0
 ValueSeparate true = MaySeparate
 ValueSeparate false = Separate
@@ -102,7 +103,8 @@ abbrev pub least_column : Bool → ℤ → Ctx → ℤ
 least_column true n BlockOut = n
 least_column _ n _ = n +ℤ pos 1
 
--- an explicit entry's `:` is at the column m of the line that begins at j (s-indent, `:`, and white or the line's end)
+-- an explicit entry's `:` is at the column m of the line that begins at j (s-indent, `:`, and white space or the line's
+-- end)
 pub record ColonLine (t : List ℕ) (m j : ℕ) : Type 0 where
   pub indent : Spaces t j m
   pub colon : code t (j + m) ≡ 58
@@ -220,8 +222,8 @@ pub data Derives (t : List ℕ) : ℕ → Production → ℕ → ℕ → Meaning
   -- c-l-block-seq-entry(n)
   a_dash_entry : {h m i j : ℕ} {x : Meaning} → code t i ≡ 45 → is_ns_char (code t (i + 1)) ≡ false
       → Derives t h (BlockIndented m BlockIn) (i + 1) j x → Derives t h (BlockEntry true m) i j (entering i None x)
-  -- c-l-block-map-explicit-entry(n): white or the line's end follows `?` and `:`; the value is empty only where no such
-  -- `:` is on the next line
+  -- c-l-block-map-explicit-entry(n): white space or the line's end follows `?` and `:`; the value is empty only if no
+  -- such `:` is on the next line
   an_explicit_entry_with : {h g m i k j : ℕ} {x y : Meaning} → code t i ≡ 63 → is_white_or_end (code t (i + 1)) ≡ true
       → Derives t h (BlockIndented m BlockOut) (i + 1) k x → ColonLine t m k
       → Derives t g (BlockIndented m BlockOut) (k + m + 1) j y

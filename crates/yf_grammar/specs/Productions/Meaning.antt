@@ -1,5 +1,5 @@
--- What a production means: its events with their places, its comments, and the offsets of its escapes that are no
--- character, each in order of the text, and where its last node with characters or its last indicator ends.
+-- The meaning of a production: its events with their offsets, its comments, and the offsets of its escapes that are no
+-- character, each in text order, and the end of its last node with characters or its last indicator.
 use Rattle.std.specs.Prelude.{ℕ, Bool, true, false, List, [], ◌∷◌, ◌++◌, Option, Some, None}
 use Rattle.yf_comments.specs.Comment.{CommentValue}
 use Rattle.yf_props.specs.Props.{PropsValue, no_props}
@@ -39,7 +39,7 @@ plain_event event span = record { event = event; span = span; tag_offset = None;
 unfoldable pub from_to : ℕ → ℕ → Option Span
 from_to i j = Some (record { start = i; end = j })
 
--- a scalar without properties, an alias, an empty node after what ends at an offset
+-- a scalar without properties, an alias, and an empty node, which has no span
 unfoldable pub scalar : ScalarStyle → List ℕ → List ℕ → ℕ → ℕ → Meaning
 scalar style text escapes i j = record {
   events = plain_event (scalar_node no_props style text) (from_to i j) ∷ [];
@@ -54,7 +54,7 @@ alias_to name i j = record { events = plain_event (alias_node name) (from_to i j
 unfoldable pub empty_node : ℕ → Meaning
 empty_node finish = record { events = plain_event (scalar_node no_props Plain []) None ∷ []; comments = []; escapes = []; finish = finish }
 
--- a collection's events round those of its entries: a sequence or a mapping, in flow style or not
+-- a collection's events around those of its entries: a sequence or a mapping, in flow style or not
 abbrev pub start_of : Bool → Bool → EventValue
 start_of true flow = sequence_starts flow no_props
 start_of false flow = mapping_starts flow no_props
@@ -80,7 +80,7 @@ abbrev pub span_since : ℕ → ℕ → Option Span → Option Span
 span_since i j (Some span) = from_to i span.end
 span_since i j None = from_to i j
 
--- i and j: where the properties begin and end; tag: where the tag begins
+-- the properties are from i to j, and the tag begins at `tag`
 abbrev pub first_with : PropsValue → Option ℕ → ℕ → ℕ → List EventInText → List EventInText
 first_with props tag i j [] = []
 first_with props tag i j (e ∷ es) =
@@ -89,7 +89,7 @@ first_with props tag i j (e ∷ es) =
 unfoldable pub with_props : PropsValue → Option ℕ → ℕ → ℕ → Meaning → Meaning
 with_props props tag i j x = record x { events = first_with props tag i j x.events }
 
--- the first event begins an entry; whether a blank line is before it is noted afterwards (`Noting`)
+-- the first event begins an entry; the note whether a blank line is before it is filled in later (`Noting`)
 abbrev pub first_entering : Entry → List EventInText → List EventInText
 first_entering entry [] = []
 first_entering entry (e ∷ es) = record e { entry = Some entry } ∷ es

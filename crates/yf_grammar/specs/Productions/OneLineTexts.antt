@@ -1,5 +1,5 @@
--- Texts of nodes that are written on one line: wherever such a text is, and whatever follows that may follow, its production
--- derives it with the meaning that it has from that offset on.
+-- Texts of nodes that are written on one line: at each offset, and before any text that may follow, the production
+-- derives such a text with its meaning from that offset on.
 use Rattle.std.specs.Prelude.{ℕ, ◌+◌, ℤ, Bool, true, false, List, ◌++◌, length}
 use Rattle.std.specs.Str.{IsUtf8}
 use Rattle.yf_chars.specs.declared.context.Ctx.{Ctx}
@@ -8,12 +8,12 @@ use Rattle.yf_lines.specs.Rest.{Rest}
 use Rattle.yf_grammar.specs.Productions.Grammar.{Derives, NodeOf, JsonContent, Entry, Entries}
 use Rattle.yf_grammar.specs.Productions.Meaning.{Meaning}
 
--- what may follow: after a name no colon may
+-- the characters that may follow: after a name a colon may not
 abbrev pub follower : Bool → ℕ → Bool
 follower true = is_after_text
 follower false = is_after_name
 
--- a node; the first flag says that it is like those of JSON, the second that a colon may follow at once
+-- a node; the first flag means that it is like those of JSON, the second that a colon may follow at once
 pub record Back (json colon : Bool) (c : Ctx) (w : List ℕ) (height : ℕ) (mean : ℕ → Meaning) : Type 0 where
   pub line : IsLineText w
   pub made : {t : List ℕ} (n : ℤ) (q : ℕ) (r : List ℕ) → IsUtf8 t → Follows (follower colon) r → Rest t q (w ++ r)

@@ -1,5 +1,5 @@
--- What the readers of nodes give: a part that a production derives within a limit of open collections, that covers no
--- forbidden line, and whose entries carry the note whether a blank line is before them.
+-- The results of the readers of nodes: a part that a production derives within a limit of open collections, that covers
+-- no forbidden line, and whose entries note whether a blank line is before them.
 use Rattle.std.specs.Prelude.{◌≡◌, ℕ, ◌≤◌, ℤ, pos, Bool, true, false, List, [], ◌∷◌, Option, Some, None}
 use Rattle.yf_chars.specs.declared.context.Ctx.{Ctx}
 use Rattle.yf_chars.specs.Text.{code, next}
@@ -13,8 +13,8 @@ use Rattle.yf_events.specs.declared.part.Part.{Part}
 use Rattle.yf_grammar.specs.Productions.Grammar.{Production, FlowNode, NodeOf, BlockNode, Derives}
 use Rattle.yf_grammar.specs.Productions.Meaning.{Meaning}
 
--- going back from the place over white space, breaks and marks, a line of white space alone is met that begins at the floor or
--- after it
+-- the walk back from the offset over white space, breaks and marks meets a line of only white space that begins at the
+-- floor or after it
 pub data BlankSince (t : List ℕ) (floor : ℕ) : ℕ → Type 0 where
   blank_line : {i j : ℕ} → floor ≤ i → Blank t i → Break t i j → BlankSince t floor j
   past_gap : {i : ℕ} → BlankSince t floor i → is_gap (code t i) ≡ true → BlankSince t floor (next t i)
@@ -60,6 +60,6 @@ FlowNodePart t limit n c = DerivedPart t limit (FlowNode n c)
 abbrev pub BlockNodePart : List ℕ → ℕ → ℤ → Ctx → ℕ → ℕ → Part → Type 0
 BlockNodePart t limit n c = DerivedPart t limit (BlockNode n c)
 
--- the node of an implicit key: like YAML's or like JSON's, with n = 0, and without what separates it from its `:`
+-- the node of an implicit key: like YAML's or like JSON's, with n = 0, and without the white space before its `:`
 pub data KeyPart (t : List ℕ) (limit : ℕ) (c : Ctx) (i j : ℕ) (part : Part) : Type 0 where
   key_node : (json : Bool) → DerivedPart t limit (NodeOf json (pos 0) c) i j part → KeyPart t limit c i j part

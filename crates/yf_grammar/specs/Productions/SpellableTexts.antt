@@ -1,4 +1,4 @@
--- When a style of scalars can spell a text: some text has such a scalar.
+-- A style of scalars can spell a text if some text has such a scalar.
 use Rattle.std.specs.Prelude.{◌≡◌, ℕ, List, [], ◌∷◌}
 use Rattle.std.specs.Str.{IsUtf8}
 use Rattle.yf_events.specs.Event.{EventValue, sequence_starts, mapping_starts, scalar_node}
@@ -7,13 +7,13 @@ use Rattle.yf_events.specs.declared.event.ScalarStyle.TheVariants.{Plain}
 use Rattle.yf_grammar.specs.Productions.Grammar.{Production, Derives}
 use Rattle.yf_grammar.specs.Productions.Meaning.{Meaning}
 
--- of a collection, its properties alone
+-- for a collection, only its properties
 abbrev pub as_leaf : EventValue → EventValue
 as_leaf (sequence_starts flow props) = scalar_node props Plain []
 as_leaf (mapping_starts flow props) = scalar_node props Plain []
 as_leaf e = e
 
--- the grammar derives a node of some text that has this event alone, wherever it is there
+-- the grammar derives a node of some text whose only event is this one, at some offsets
 pub record IsSpelled (e : EventValue) (lines : List (List ℕ)) : Type 0 where
   pub text : List ℕ
   pub utf8 : IsUtf8 text

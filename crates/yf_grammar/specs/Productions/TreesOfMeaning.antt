@@ -1,14 +1,15 @@
--- What a production means as trees: trees whose events it has, and that differ from given ones by nothing but where their nodes are.
+-- The meaning of a production as trees: trees that have its events, and that differ from given ones only in the offsets
+-- of their nodes.
 use Rattle.std.specs.Prelude.{◌≡◌, ℕ, suc, max, List, []}
 use Rattle.yf_events.specs.Alike.{Alike, AlikeItems, AlikePairs}
 use Rattle.yf_events.specs.Tree.{Node, scalar, alias, sequence, mapping, Items, no_items, item, Pairs, no_pairs, pair, flat, flat_items, flat_pairs}
 use Rattle.yf_grammar.specs.Productions.Meaning.{Meaning}
 
--- nothing is asked of where a key and its value are
+-- the offsets of a key and its value have no condition
 abbrev pub Anywhere : Node → Node → Node → Node → Type 0
 Anywhere k v l w = Unit {0}
 
--- a node, with no escape that is no character
+-- a node, without escapes that are no character
 pub record MeansTrees (x : Node) (m : Meaning) : Type 0 where
   pub node : Node
   pub alike : Alike Anywhere x node
@@ -28,7 +29,7 @@ pub record PairsMeant (ps : Pairs) (m : Meaning) : Type 0 where
   pub events : m.events ≡ flat_pairs pairs
   pub escapes : m.escapes ≡ []
 
--- how many collections are open at once in a node
+-- the number of collections open at once in a node
 abbrev mutual
   pub tall : Node → ℕ
   tall (scalar at props style text lines) = 0

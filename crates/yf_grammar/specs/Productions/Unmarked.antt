@@ -1,4 +1,4 @@
--- A text that, at the start of a line, begins no line with a document marker there, whatever follows that may follow.
+-- A text that begins no document marker at the start of a line, before any text that may follow.
 use Rattle.std.specs.Prelude.{ℕ, List, ◌++◌}
 use Rattle.std.specs.Str.{IsUtf8}
 use Rattle.yf_lines.specs.Basic.{ForbiddenLine}

@@ -1,4 +1,5 @@
--- Each comment of a block node carries whether a blank line is before it, seen from the floor that the block scalars before it set: the induction.
+-- Each comment of a block node notes whether a blank line is before it, from the floor that the block scalars before it
+-- set: the induction.
 use Rattle.std.proofs.Common.{◌≡◌, ◌≢◌, ℕ, ℤ, ◌+◌, ◌<◌, ◌≤◌, Bool, true, false, List, [], length, Some, None, refl, sym, ap, ◌∙◌, subst, arith}
 use Rattle.std.specs.Str.{IsUtf8}
 use Rattle.yf_chars.specs.Text.{code, no_char}
@@ -74,7 +75,7 @@ solid_more : is_gap 62 ≡ false
 unfolding is_gap is_white is_break_char
 solid_more = refl
 
--- where a scalar ends, and its comments after that
+-- the end of a scalar, and its comments after that
 pub record BodyEnd (t : List ℕ) (e i j : ℕ) (cs : List CommentValue) : Type 0 where
   pub order : i ≤ e
   pub upto : e ≤ j

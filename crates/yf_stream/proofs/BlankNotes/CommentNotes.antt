@@ -1,4 +1,4 @@
--- Comments of line ends, separations and properties: each is within them, and carries its note, whatever floor lies before them.
+-- Comments of line ends, separations and properties: each is within them, and has its note with each floor before them.
 use Rattle.std.proofs.Common.{◌≡◌, ℕ, ℤ, ◌<◌, ◌≤◌, Bool, true, false, List, [], ◌∷◌, ◌++◌, sym, subst, arith}
 use Rattle.std.specs.Str.{IsUtf8}
 use Rattle.yf_chars.specs.declared.context.Ctx.{Ctx}
@@ -48,14 +48,14 @@ module _ {X : Type 0} {P : X → Type 0} where
   each_both f no_element b = no_element
   each_both f (one_element {x = x} p a) (one_element q b) = one_element (f x p q) (each_both f a b)
 
--- a comment between two places, with the note that it has where no block scalar is before it
+-- a comment between two offsets, with its note if no block scalar is before it
 pub record NotedComment (t : List ℕ) (i j : ℕ) (c : CommentValue) : Type 0 where
   pub after : i ≤ c.offset
   pub before : c.offset < j
   pub sign : code t c.offset ≡ 35
   pub note : NotedSince t 0 c.offset c.blank_before
 
--- a floor before a place, with a visible character between them; or none
+-- a floor before an offset, with a visible character between them; or none
 pub data Guard (t : List ℕ) (f i : ℕ) : Type 0 where
   no_floor : f ≡ 0 → Guard t f i
   guarded : (p : ℕ) → code t p < no_char → is_gap (code t p) ≡ false → f ≤ p → p < i → Guard t f i

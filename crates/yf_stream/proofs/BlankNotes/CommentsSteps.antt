@@ -1,4 +1,4 @@
--- The notes of comments after one step more of the reader of streams.
+-- The notes of comments after one more step of the reader of streams.
 use Rattle.std.proofs.Common.{◌≡◌, ◌≢◌, ℕ, ◌+◌, ◌<◌, ◌≤◌, Bool, true, false, not, ⊎_elim, List, [], ◌∷◌, ◌++◌, length, refl, sym, ap, ◌∙◌, subst, arith, append_assoc, true≢false}
 use Rattle.std.specs.Str.{IsUtf8}
 use Rattle.yf_chars.specs.Text.{code}
@@ -39,7 +39,7 @@ use Rattle.yf_stream.proofs.BlankNotes.PartsSteps.{events_end, signs_solid}
 use Rattle.yf_stream.proofs.BlankNotes.PartsUpto.{EventsRead}
 use Rattle.yf_stream.proofs.Reader.StreamUpto.{ReadUpto, followed}
 
--- notes of entries leave where floors are what they are
+-- notes of entries keep the floors
 noting_floors : {t : List ℕ} {f i j : ℕ} {xs ys : List EventInText} → Noting t f xs ys → Each (FloorIn i j) xs → Each (FloorIn i j) ys
 noting_floors no_event no_element = no_element
 noting_floors (without_entry e n) (one_element x r) = one_element x (noting_floors n r)
@@ -100,7 +100,7 @@ module _ {t : List ℕ} (u : IsUtf8 t) where
         bare = n.ends.bare;
       }
 
-  -- one document more
+  -- one more document
   document_noted : {k at : ℕ} {a b : Parts} {after : StreamCursor} {y : Meaning} (cs : List CommentValue) (x : Documents) → CommentsNotedTo t k a.part.events cs a.part.comments → k ≤ at
       → Guard t (floor_of 0 a.part.events) at → x.comments ≡ cs ++ y.comments → NodeNoted t at a b after y → CommentsRead t after x b
   document_noted {k} {at} {a} {b} {after} {y} cs x c l g e n =
@@ -189,7 +189,7 @@ module _ {t : List ℕ} (u : IsUtf8 t) {cursor : StreamCursor} {x : Documents} {
       let g = subst (λ z. Guard t z cursor.at) (sym (opened_floor start false [] a)) (r.bare q) in
       document_noted u x.comments _ (noted_silent r.comments (silent_start false)) (omega arith) g refl (node_noted u d)
 
--- what has been read up to a cursor, and the parts of it
+-- the text that has been read up to a cursor, and its parts
 pub record ReadSoFar (t : List ℕ) (cursor : StreamCursor) (p : Parts) : Type 0 where
   pub documents : Documents
   pub read : ReadUpto t cursor.may_be_bare cursor.at documents
@@ -205,7 +205,7 @@ begins_empty {t} {b} cursor k e f = record {
   bare = λ q. no_floor (ap (λ z. floor_of 0 z) e);
 }
 
--- before anything has been read, but the start of the stream
+-- only the start of the stream has been read
 pub comments_begin : {t : List ℕ} {a b : Parts} (cursor : StreamCursor) → cursor.floor ≡ 0 → a ≡ no_parts → b ≡ with_event a stream_starts → CommentsRead t cursor (only_comments []) b
 comments_begin cursor k e f =
     let all = f ∙ ap (λ z. with_event z stream_starts) e in begins_empty cursor k (ap (λ z. z.part.events) all) (ap (λ z. z.part.comments) all)

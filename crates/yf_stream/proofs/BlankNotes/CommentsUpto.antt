@@ -1,4 +1,5 @@
--- What the reader of streams has read so far of comments: each carries its note of blank lines, with the floor that the events before it set.
+-- The comments that the reader of streams has read so far: each has its note of blank lines, with the floor that the
+-- events before it set.
 use Rattle.std.proofs.Common.{◌≡◌, ℕ, ◌<◌, ◌≤◌, Bool, true, List, ◌++◌, length, refl, sym, ap, ◌∙◌, subst, arith}
 use Rattle.std.specs.Str.{IsUtf8}
 use Rattle.yf_chars.specs.Text.{code}
@@ -41,7 +42,7 @@ floor_top {j = j} f l (one_element {x = e} {xs = es} (floor_kept k) r) = let sam
 floor_top {j = j} f l (one_element {x = e} {xs = es} (floor_set s q k a b) r) =
     let same : floor_after_event f e e.event ≡ s.end = k f e ∙ ap (λ z. end_or f z) q in floor_top (floor_after_event f e e.event) (omega (arith, same)) r
 
--- the comments up to a place, and the notes of them
+-- the comments up to an offset, and their notes
 pub record CommentsNotedTo (t : List ℕ) (k : ℕ) (es : List EventInText) (cs ns : List CommentValue) : Type 0 where
   pub noted : NotedComments t es cs ns
   pub within : Each (Within t 0 k) cs
@@ -126,7 +127,7 @@ module _ {t : List ℕ} where
     floors = each_join (floor_wider (omega arith) (omega arith) n.floors) (floor_wider (omega arith) (omega arith) f);
   }
 
-  -- what is between documents
+  -- the lines between documents
   pub rows_within : {i j : ℕ} {cs : List CommentValue} → Chain (PrefixRow t) i j cs → Each (Within t i j) cs
   rows_within done = no_element
   rows_within (step (mark_row {i = i} e) c) = let l = next_later t i in within_wider (omega arith) (omega arith) (rows_within c)
@@ -135,7 +136,7 @@ module _ {t : List ℕ} where
       let f = chain_forward prefix_functional c in
       each_join (within_wider (omega arith) f (told_within (rest_told r.rest))) (within_wider (omega arith) (omega arith) (rows_within c))
 
--- the floor that the reader has, and the one that events set
+-- the reader's floor, and the one that events set
 pub data Since (t : List ℕ) (s f at : ℕ) : Type 0 where
   same_floor : s ≡ f → Since t s f at
   past_floor : s ≡ 0 → Guard t f at → Since t s f at
@@ -158,7 +159,7 @@ module _ {t : List ℕ} where
   since_there u (same_floor e) bl o b l q n = subst (λ z. NotedSince t z o b) e (note_here bl o b q n)
   since_there u (past_floor e g) bl o b l q n = since_guarded u g l (subst (λ z. NotedSince t z o b) e (note_here bl o b q n))
 
-  -- comment lines and byte order marks after what has been read
+  -- comment lines and byte order marks after the text that has been read
   pub comments_past_prefix : {cursor s : StreamCursor} {x : Documents} {a b : Parts} → IsUtf8 t → s ≡ record cursor { at = s.at }
       → (r : PrefixRead t cursor.floor cursor.at s.at a.part.comments b.part.comments) → b.part.events ≡ a.part.events → CommentsRead t cursor x a
       → CommentsRead t s (followed x (only_comments r.upto.comments)) b

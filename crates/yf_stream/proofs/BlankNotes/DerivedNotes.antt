@@ -1,4 +1,5 @@
--- Each comment of a block node carries whether a blank line is before it, seen from the floor that the block scalars before it set: the induction.
+-- Each comment of a block node notes whether a blank line is before it, from the floor that the block scalars before it
+-- set: the induction.
 use Rattle.std.proofs.Common.{◌≡◌, ◌≢◌, ℕ, ℤ, ◌+◌, ◌≤◌, Bool, true, false, List, [], Option, Some, None, refl, sym, ap, ◌∙◌, true≢false, not, ◌&&◌, ◌||◌, ◌==◌, arith}
 use Rattle.std.specs.Str.{IsUtf8}
 use Rattle.yf_chars.specs.Text.{code}
@@ -40,7 +41,7 @@ solid_colon : is_gap 58 ≡ false
 unfolding is_gap is_white is_break_char
 solid_colon = refl
 
--- after a sign no floor matters that is before it
+-- no floor before a sign matters after it
 module _ {t : List ℕ} {i : ℕ} where
   pub after_dash : (f : ℕ) → code t i ≡ 45 → f ≤ i → Guard t f (i + 1)
   after_dash f e l = guarded i (omega arith) (ap is_gap e ∙ solid_dash) l (omega arith)
@@ -51,7 +52,7 @@ module _ {t : List ℕ} {i : ℕ} where
   pub after_colon : (f : ℕ) → code t i ≡ 58 → f ≤ i → Guard t f (i + 1)
   after_colon f e l = guarded i (omega arith) (ap is_gap e ∙ solid_colon) l (omega arith)
 
--- a visible character is none of a gap
+-- a visible character is no gap
 ns_parts : (p w b m : Bool) → (p && (not b && not m)) && not w ≡ true → w || b || m ≡ false
 ns_parts false w b m e = absurd (true≢false (sym e))
 ns_parts true w true m e = absurd (true≢false (sym e))
@@ -131,7 +132,7 @@ module _ {t : List ℕ} where
     notes = λ f g. each_join (notes_early u g e.floors o d) (e.notes f (λ c. let q = guard_order (g c) in omega arith));
   }
 
-  -- a key before its value: nothing but its entry's first character is before its comments
+  -- a key before its value: only its entry's first character is before its comments
   key_notes : {i k : ℕ} {x : Meaning} → IsUtf8 t → Visible t i → Each (Within t i k) x.comments → FlowNotes t x → EntryNotes t i k x
   key_notes {i} u v w a = record {
     floors = unlined_floors a.events;
@@ -141,7 +142,7 @@ module _ {t : List ℕ} where
         record { after = omega arith; before = d.before; sign = d.sign }) w);
   }
 
-  -- nothing after a sign but the end of its line
+  -- only the end of a line after a sign
   nothing_after : {i j : ℕ} (k : ℕ) {cs : List CommentValue} → IsUtf8 t → Each (NotedComment t i j) cs → NodeNotes t i j (noting (empty_node k) cs)
   unfolding noting empty_node plain_event
   nothing_after {i} k u d = record {

@@ -1,5 +1,5 @@
--- Whether a blank line is before an offset does not depend on a floor after which another character than white space, breaks and
--- marks is: the walk back from the offset ends there.
+-- The note whether a blank line is before an offset does not depend on the floor, if a character other than white
+-- space, breaks and marks is after the floor: the walk back from the offset ends there.
 use Rattle.std.proofs.Common.{◌≡◌, ℕ, ◌+◌, ◌<◌, ◌≤◌, Bool, true, false, ◌⊎◌, ⊎_elim, List, sym, ap, ◌∙◌, arith, true≢false}
 use Rattle.std.proofs.lemmas.Bool.{cases_lt}
 use Rattle.std.specs.Str.{IsUtf8}

@@ -1,4 +1,4 @@
--- The floor that some events set for a place: none of those that end after it, and else the last one.
+-- The floor that some events set for an offset: none of those that end after it, otherwise the last one.
 use Rattle.std.proofs.Common.{◌≡◌, ℕ, ◌<◌, ◌≤◌, Bool, true, false, cond, nat_le, List, [], ◌∷◌, ◌++◌, Option, Some, refl, sym, ap, ◌∙◌, subst, arith}
 use Rattle.std.proofs.lemmas.Bool.Decides.{nat_tests}
 use Rattle.yf_props.specs.Props.{PropsValue}
@@ -11,7 +11,7 @@ use Rattle.yf_grammar.specs.Productions.ReadParts.{floor_after_event, end_or}
 use Rattle.yf_stream.specs.ReadingOf.{end_before, floor_at}
 use Rattle.yf_stream.proofs.BlankNotes.CommentNotes.{Each, no_element, one_element}
 
--- an event that sets no floor; one that ends a block scalar after a place and up to another
+-- an event that sets no floor; one that ends a block scalar after an offset and up to another
 pub data FloorIn (i j : ℕ) (e : EventInText) : Type 0 where
   floor_kept : ((f : ℕ) (p : EventInText) → floor_after_event f p e.event ≡ f) → FloorIn i j e
   floor_set : (s : Span) → e.span ≡ Some s → ((f : ℕ) (p : EventInText) → floor_after_event f p e.event ≡ end_or f p.span) → i < s.end → s.end ≤ j → FloorIn i j e
@@ -21,7 +21,7 @@ floor_wider {h} {i} {j} {k} l m no_element = no_element
 floor_wider {h} {i} {j} {k} l m (one_element (floor_kept f) r) = one_element (floor_kept f) (floor_wider l m r)
 floor_wider {h} {i} {j} {k} l m (one_element (floor_set s q f a b) r) = one_element (floor_set s q f (omega arith) (omega arith)) (floor_wider l m r)
 
--- what one event does to a floor
+-- the floor after one event
 if_same : (b : Bool) (f : ℕ) → cond b f f ≡ f
 if_same true f = refl
 if_same false f = refl
@@ -50,7 +50,7 @@ floor_early o f l (one_element {x = e} {xs = es} (floor_kept k) r) =
 floor_early o f l (one_element {x = e} {xs = es} (floor_set s q k a b) r) =
     ap (λ (z : ℕ). floor_at o z es) (ap (λ (z : ℕ). end_before o f z) (set_end e f s q k) ∙ end_later o f s.end (omega arith)) ∙ floor_early o f l r
 
--- no floor is set after a place up to which all of them are
+-- events up to an offset set no floor after it
 pub floor_upto : {i j k : ℕ} {es : List EventInText} (o f : ℕ) → f ≤ k → j ≤ k → Each (FloorIn i j) es → floor_at o f es ≤ k
 floor_upto o f l m no_element = l
 floor_upto {k = k} o f l m (one_element {x = e} {xs = es} (floor_kept n) r) =

@@ -1,4 +1,4 @@
--- The floor at an offset, of events one after the other, by the floor after all of them.
+-- The floor that events set at an offset, and the floor after all of them.
 use Rattle.std.proofs.Common.{◌≡◌, ℕ, ◌≤◌, ◌⊎◌, inl, inr, ⊎_elim, List, Some, refl, sym, ap, ◌∙◌, arith}
 use Rattle.yf_events.specs.Event.{EventInText}
 use Rattle.yf_events.specs.declared.event.Span.{Span}
@@ -8,7 +8,7 @@ use Rattle.yf_stream.proofs.BlankNotes.CommentNotes.{Each, no_element, one_eleme
 use Rattle.yf_stream.proofs.BlankNotes.FloorWalk.{FloorIn, end_taken, floor_kept, floor_set, set_end}
 use Rattle.yf_stream.proofs.BlankNotes.NotingLemmas.{floor_of}
 
--- notes of blank lines leave it what it is
+-- notes of blank lines keep the floor
 pub noting_floor : {t : List ℕ} {g : ℕ} {xs ys : List EventInText} (o f : ℕ) → Noting t g xs ys → floor_at o f xs ≡ floor_at o f ys
 noting_floor o f no_event = refl
 noting_floor o f (without_entry {e = e} n r) = noting_floor o (end_before o f (floor_after_event f e e.event)) r
@@ -19,7 +19,7 @@ noting_last f no_event = refl
 noting_last f (without_entry {e = e} n r) = noting_last (floor_after_event f e e.event) r
 noting_last f (with_entry {e = e} entry n s r) = noting_last (floor_after_event f e e.event) r
 
--- where all of them end at the offset or before it
+-- if all events end at the offset or before it
 pub floor_late : {i j : ℕ} {es : List EventInText} (o f : ℕ) → f ≤ o → j ≤ o → Each (FloorIn i j) es → floor_at o f es ≡ floor_of f es
 floor_late o f l m no_element = refl
 floor_late o f l m (one_element {x = e} {xs = es} (floor_kept k) r) =
@@ -31,7 +31,7 @@ floor_late o f l m (one_element {x = e} {xs = es} (floor_set s q k a b) r) =
     ap (λ (z : ℕ). floor_at o z es) (end_taken o f (floor_after_event f e e.event) (omega (arith, same)))
     ∙ floor_late o (floor_after_event f e e.event) (omega (arith, same)) m r
 
--- the floor after them is one whatever was before, or they leave it
+-- the floor after them doesn't depend on the floor before, or they keep it
 pub floor_sets : {i j : ℕ} {es : List EventInText} → Each (FloorIn i j) es → ((f g : ℕ) → floor_of f es ≡ floor_of g es) ⊎ ((f : ℕ) → floor_of f es ≡ f)
 floor_sets no_element = inr (λ f. refl)
 floor_sets (one_element {x = e} {xs = es} (floor_kept k) r) =

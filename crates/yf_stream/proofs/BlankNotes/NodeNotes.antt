@@ -1,4 +1,5 @@
--- Each comment of a block node carries whether a blank line is before it, seen from the floor that the node's block scalars before it set.
+-- Each comment of a block node notes whether a blank line is before it, from the floor that the node's block scalars
+-- before it set.
 use Rattle.std.proofs.Common.{◌≡◌, ℕ, ℤ, ◌<◌, ◌≤◌, Bool, true, false, List, [], ◌∷◌, ◌++◌, Option, None, refl, sym, ap, ◌∙◌, subst, arith}
 use Rattle.std.specs.Str.{IsUtf8}
 use Rattle.yf_chars.specs.declared.context.Ctx.{Ctx}
@@ -19,7 +20,7 @@ use Rattle.yf_stream.specs.ReadingOf.{end_before, floor_at}
 use Rattle.yf_stream.proofs.BlankNotes.CommentNotes.{Each, no_element, one_element, each_join, each_weaker, each_both, NotedComment, told_wider, Guard, since_guarded, separate_told}
 use Rattle.yf_stream.proofs.BlankNotes.FloorWalk.{FloorIn, floor_kept, floor_early, floor_join, end_same, kept_event}
 
--- a comment within two places
+-- a comment between two offsets
 pub record Within (t : List ℕ) (i j : ℕ) (c : CommentValue) : Type 0 where
   pub after : i ≤ c.offset
   pub before : c.offset < j

@@ -1,4 +1,5 @@
--- The notes of blank lines before the entries of events: of events one after the other, and with another floor before a visible character.
+-- The notes of blank lines before the entries of events: for events in sequence, and with another floor before a
+-- visible character.
 use Rattle.std.proofs.Common.{◌≡◌, ℕ, ◌<◌, ◌≤◌, Bool, false, ◌⊎◌, inl, ⊎_elim, List, [], ◌∷◌, ◌++◌, Option, Some, None, refl, sym, subst, arith}
 use Rattle.std.specs.Str.{IsUtf8}
 use Rattle.yf_chars.specs.Text.{code, no_char}
@@ -24,7 +25,7 @@ pub floor_join : (f : ℕ) (xs ys : List EventInText) → floor_of f (xs ++ ys) 
 floor_join f [] ys = refl
 floor_join f (x ∷ xs) ys = floor_join (floor_after_event f x x.event) xs ys
 
--- entries begin after a place
+-- entries begin after an offset
 abbrev pub EntryAfter : ℕ → Option Entry → Type 0
 EntryAfter p None = Unit {0}
 EntryAfter p (Some e) = p < e.start
@@ -33,7 +34,7 @@ abbrev pub EntriesAfter : ℕ → List EventInText → Type 0
 EntriesAfter p [] = Unit {0}
 EntriesAfter p (e ∷ es) = EntryAfter p e.entry × EntriesAfter p es
 
--- two floors that are one, or lie before a place both
+-- two floors that are equal, or are both before an offset
 abbrev pub Alike : ℕ → ℕ → ℕ → Type 0
 Alike p f g = (f ≡ g) ⊎ ((f ≤ p) × (g ≤ p))
 
@@ -75,7 +76,7 @@ module _ {t : List ℕ} (u : IsUtf8 t) (p : ℕ) (real : code t p < no_char) (so
   noting_over {f} {g} a l (with_entry {e = e} entry n s r) =
       with_entry entry n (one_over a (entry_there n l.0) s) (noting_over (alike_after p f g e e.event a) l.1 r)
 
--- the entries of a node that is after a place begin after it
+-- the entries of a node after an offset begin after it
 entries_join : (p : ℕ) (xs ys : List EventInText) → EntriesAfter p xs → EntriesAfter p ys → EntriesAfter p (xs ++ ys)
 entries_join p [] ys a b = b
 entries_join p (x ∷ xs) ys a b = (a.0, entries_join p xs ys a.1 b)

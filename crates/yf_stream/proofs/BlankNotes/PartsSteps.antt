@@ -1,4 +1,4 @@
--- What the parts hold after one step more of the reader of streams.
+-- The parts after one more step of the reader of streams.
 use Rattle.std.proofs.Common.{◌≡◌, ◌≢◌, ℕ, ◌+◌, ◌≤◌, Bool, true, false, not, inr, List, [], ◌∷◌, ◌++◌, length, map, flat_map, Option, Some, None, refl, sym, ap, ◌∙◌, subst, arith, append_assoc, append-nil, true≢false}
 use Rattle.std.specs.Str.{IsUtf8}
 use Rattle.yf_chars.specs.Text.{code}
@@ -37,7 +37,7 @@ use Rattle.yf_stream.proofs.Reader.PrefixLemmas.{rows_prefix}
 use Rattle.yf_stream.proofs.Reader.StreamUpto.{followed, one_document}
 use Rattle.yf_comments.proofs.RowLemmas.{end_code}
 
--- the parts of the text that events have end at a place or before it
+-- the spans of events end at an offset or before it
 abbrev pub SpanWithin : ℕ → Option Span → Type 0
 SpanWithin m None = Unit {0}
 SpanWithin m (Some s) = s.end ≤ m
@@ -121,7 +121,7 @@ escapes_last : (ds : List Document) (d : Document) → flat_map (λ (d : Documen
 escapes_last [] d = append-nil d.escapes
 escapes_last (x ∷ ds) d = ap (λ z. x.escapes ++ z) (escapes_last ds d) ∙ sym (append_assoc x.escapes (flat_map (λ (d : Document). d.escapes) ds) d.escapes)
 
--- a document's node, and what the parts have of it after the start of the document
+-- a document's node, and its parts after the start of the document
 record NodeParts (t : List ℕ) (at : ℕ) (start : ℕ) (marked : Bool) (dirs : List Directive) (a b : Parts) (after : StreamCursor) (y : Meaning) : Type 0 where
   from : ℕ
   order : at ≤ from
@@ -177,7 +177,7 @@ module _ {t : List ℕ} (u : IsUtf8 t) where
       let after : EntriesAfter p y.events = subst (λ z. EntriesAfter p z) (sym a.events) (node_entries p (omega arith) a.is_there (none_after p a.no_entry)) in
       noting_over u p r s (inr (omega arith, o)) after n
 
-  -- one document more
+  -- one more document
   document_more : {k m at start : ℕ} {marked : Bool} {dirs : List Directive} {a b : Parts} {after : StreamCursor} {y : Meaning} (x : Documents) (cs : List CommentValue)
       (c : ClosedParts t k x.documents a) → Guard t (floor_of 0 c.derived) m → m ≤ at → k ≤ at → NodeParts t at start marked dirs a b after y
       → EventsRead t after (followed x (one_document cs (document_of start marked dirs y))) b
@@ -203,7 +203,7 @@ module _ {t : List ℕ} (u : IsUtf8 t) where
         escapes = n.escapes ∙ ap (λ z. z ++ y.escapes) c.escapes ∙ sym (escapes_last x.documents d);
       }
 
--- where no document is open
+-- if no document is open
 written_of : {t : List ℕ} {o : Bool} {k : ℕ} {ds : List Document} {es : List EventInText} → o ≡ false → EventsUpto t o k ds es → DocumentsWritten t ds es
 written_of e (all_closed w) = w
 written_of e (last_open d w l c) = absurd (true≢false e)
@@ -248,7 +248,7 @@ module _ {t : List ℕ} (u : IsUtf8 t) {cursor : StreamCursor} {x : Documents} {
       } in
       document_more u x y.comments parts s.guard (omega arith) (omega arith) (node_parts u d)
 
--- before anything has been read, but the start of the stream
+-- only the start of the stream has been read
 pub events_begin : {t : List ℕ} {a b : Parts} (cursor : StreamCursor) → cursor.at ≡ 0 → not cursor.may_be_bare ≡ false → a ≡ no_parts → b ≡ with_event a stream_starts
     → EventsRead t cursor (only_comments []) b
 events_begin {t} cursor k o e f =

@@ -1,4 +1,5 @@
--- What the reader of streams has read so far, and what its parts hold of it: the events with their notes, the documents and the escapes.
+-- The text that the reader of streams has read so far, in its parts: the events with their notes, the documents and the
+-- escapes.
 use Rattle.std.proofs.Common.{◌≡◌, ◌≢◌, ℕ, ◌≤◌, Bool, true, false, not, List, [], ◌∷◌, ◌++◌, map, flat_map, refl, sym, ap, ◌∙◌, subst, arith, append_assoc, append-nil}
 use Rattle.yf_chars.specs.Text.{code}
 use Rattle.yf_chars.specs.Chain.{Chain, Stuck}
@@ -24,13 +25,13 @@ use Rattle.yf_stream.proofs.Uniqueness.OneDirective.{dot_still}
 use Rattle.yf_stream.proofs.Reader.PrefixLemmas.{prefix_functional, prefixes_rows, rows_parts, still}
 use Rattle.yf_stream.proofs.Reader.StreamUpto.{followed}
 
--- the events of documents; the last of them may be open, and its end is not yet among them
+-- the events of documents; the last one may be open, without its end among them
 pub data EventsUpto (t : List ℕ) : Bool → ℕ → List Document → List EventInText → Type 0 where
   all_closed : {k : ℕ} {ds : List Document} {x : List EventInText} → DocumentsWritten t ds x → EventsUpto t false k ds x
   last_open : {k j : ℕ} {ds : List Document} (d : Document) {x : List EventInText} {cs more : List CommentValue} → DocumentsWritten t ds x → LineEnd t d.finish j cs
       → Chain (PrefixRow t) j k more → EventsUpto t true k (ds ++ d ∷ []) (x ++ (unplaced (document_starts d.marked) ∷ d.events))
 
--- where a document may begin without `---`
+-- a cursor at which a document may begin without `---`
 pub record BareCursor (t : List ℕ) (cursor : StreamCursor) (f : ℕ) : Type 0 where
   pub no_document : not cursor.may_be_bare ≡ false
   pub guard : Guard t f cursor.at
@@ -44,7 +45,7 @@ pub record EventsRead (t : List ℕ) (cursor : StreamCursor) (x : Documents) (p 
   pub documents : p.documents ≡ map doc_of x.documents
   pub escapes : p.part.escapes ≡ flat_map (λ (d : Document). d.escapes) x.documents
 
--- the parts of the stream x, but for its comments
+-- the parts of the stream x, without its comments
 pub record EventsWritten (t : List ℕ) (x : Documents) (p : Parts) : Type 0 where
   pub derived : List EventInText
   pub written : DocumentsWritten t x.documents derived
@@ -52,7 +53,7 @@ pub record EventsWritten (t : List ℕ) (x : Documents) (p : Parts) : Type 0 whe
   pub documents : p.documents ≡ map doc_of x.documents
   pub escapes : p.part.escapes ≡ flat_map (λ (d : Document). d.escapes) x.documents
 
--- the same where no document is open
+-- the parts if no document is open
 pub record ClosedParts (t : List ℕ) (k : ℕ) (ds : List Document) (p : Parts) : Type 0 where
   pub derived : List EventInText
   pub written : DocumentsWritten t ds derived
@@ -75,7 +76,7 @@ module _ {t : List ℕ} where
       (sym (append_assoc d.events (unplaced (document_ends b) ∷ x) tail))
       (document_written l m (written_last last w k n))
 
-  -- whether the end of a document is marked, by what is after document prefixes
+  -- whether the end of a document is marked, from the text after document prefixes
   pub mark_there : {j k : ℕ} {cs : List CommentValue} → ForbiddenLine t k → code t k ≡ 46 → LineOrEnd t j → Chain (PrefixRow t) j k cs → EndIsMarked t j true
   mark_there f e l c = marked_end (rows_parts l c) f e
 
@@ -84,7 +85,7 @@ module _ {t : List ℕ} where
       let same = (stuck_unique prefix_functional (prefixes_rows d) (still (λ b. absurd (omega arith)) (dot_still e)) c (still m r)).0 in
       n (subst (λ z. ForbiddenLine t z) same f) (ap (code t) (sym same) ∙ e))
 
-  -- the end of the document that is open
+  -- the end of the open document
   pub parts_closed : {cursor : StreamCursor} {x : Documents} {p : Parts} (b : Bool)
       → ((j : ℕ) (cs : List CommentValue) → LineOrEnd t j → Chain (PrefixRow t) j cursor.at cs → EndIsMarked t j b) → EventsRead t cursor x p
       → ClosedParts t cursor.at x.documents (closed b (not cursor.may_be_bare) p)
@@ -105,7 +106,7 @@ module _ {t : List ℕ} where
           escapes = e;
         }
 
--- comment lines and byte order marks after what has been read
+-- comment lines and byte order marks after the text that has been read
 same_flag : (cursor s : StreamCursor) → s ≡ record cursor { at = s.at } → (not s.may_be_bare ≡ not cursor.may_be_bare) × (s.may_be_bare ≡ cursor.may_be_bare)
 same_flag cursor s e = (ap (λ z. not z.may_be_bare) e, ap (λ z. z.may_be_bare) e)
 

@@ -1,4 +1,5 @@
--- The comments of a block scalar: its header's before its lines, and those after it, which carry whether a blank line is between.
+-- The comments of a block scalar: its header's before its lines, and those after it, which note whether a blank line is
+-- between.
 use Rattle.std.proofs.Common.{◌≡◌, ℕ, ◌+◌, ◌-◌, ◌<◌, ◌≤◌, Bool, true, false, nat_lt, ⊎_elim, List, ◌++◌, length, refl, sym, ap, ◌∙◌, subst, arith}
 use Rattle.std.proofs.lemmas.Bool.Decides.{nat_tests}
 use Rattle.std.specs.Str.{IsUtf8}
@@ -43,7 +44,7 @@ hash_solid = refl
 positive : (n : ℕ) → 0 < n → nat_lt 0 n ≡ true
 positive n l = grind (arith, nat_tests)
 
--- where a scalar ends, and the note of a comment that is next
+-- the end of a scalar, and the note of the next comment
 pub record TailEnd (t : List ℕ) (e i q : ℕ) (b : Bool) : Type 0 where
   pub order : i ≤ e
   pub upto : e ≤ q
@@ -65,7 +66,7 @@ module _ {t : List ℕ} where
   spaces_blank : {i m : ℕ} → Spaces t i m → Blank t i → Blank t (i + m)
   spaces_blank {i} {m} s b = whites_blank (spaces_whites t i m s).1 b
 
-  -- spaces alone hold no blank line
+  -- a run of spaces has no blank line
   space_there : {q m : ℕ} (i : ℕ) → Spaces t q m → q ≤ i → i < q + m → code t i ≡ 32
   space_there {q} {m} i s l o =
       let k : i - q < m = omega arith in
@@ -88,7 +89,7 @@ module _ {t : List ℕ} where
   closed_blank (at_break b) s = break_ends b
   closed_blank (at_text e) (bare m a) = let f = break_forward a.ends in let g = break_within a.ends in absurd (omega arith)
 
-  -- a blank line is between the lines of a scalar and the comment after it where its tail is no part of it
+  -- if the tail is no part of the scalar, a blank line is between its lines and the comment after it
   pub tail_since : {p q m count : ℕ} {xs : List ℕ} → Chain (EmptyLines t) p q xs → length xs ≡ count → Closed t p → Spaces t q m → NotedSince t p (q + m) (nat_lt 0 count)
   tail_since {q = q} {m = m} done e c s = subst (λ k. NotedSince t q (q + m) (nat_lt 0 k)) e (not_noted (λ d. spaces_none s d (omega arith)))
   tail_since {p} {q} {m} {count} (step {y = y} (bare w a) r) e c s =
@@ -107,7 +108,7 @@ module _ {t : List ℕ} where
       let same : e ≡ q = lines_one s (counted b.chain b.counts) d in
       record { order = omega arith; upto = omega arith; first = λ m x. subst (λ z. NotedSince t z (q + m) false) (sym same) (not_noted (λ y. spaces_none x y (omega arith))) }
 
--- a comment after a scalar that ends at a place
+-- a comment after a scalar that ends at an offset
 pub record AfterEnd (t : List ℕ) (e : ℕ) (c : CommentValue) : Type 0 where
   pub after : e ≤ c.offset
   pub note : NotedSince t e c.offset c.blank_before

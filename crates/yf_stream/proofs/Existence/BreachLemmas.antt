@@ -1,4 +1,4 @@
--- Whether nodes and directives break a rule depends on what they are, and not on where they are.
+-- The offsets of nodes and directives don't matter to the rules that they break.
 use Rattle.std.proofs.Common.{◌≡◌, ℕ, suc, Bool, true, false, List, [], ◌∷◌, ◌++◌, length, map, Option, Some, None, refl, sym, ap, ◌∙◌, subst, arith, is_some, ◌||◌, not}
 use Rattle.yf_chars.proofs.Tests.{same_head, same_tail}
 use Rattle.yf_props.specs.Handles.{Declaration, is_declared}
@@ -13,7 +13,7 @@ use Rattle.yf_stream.specs.WellFormed.{alias_breaches, alias_of, breach_if, brea
 use Rattle.yf_stream.specs.declared.breaches.BreachKind.{BreachKind}
 use Rattle.yf_stream.specs.declared.breaches.BreachKind.TheVariants.{UnknownHandle, UnknownAlias, RepeatedDirective, BadVersion}
 
--- What is asked of an event, and of a directive.
+-- The parts of an event, and of a directive, that the rules depend on.
 
 abbrev pub values : List EventInText → List EventValue
 values es = map (λ (e : EventInText). e.event) es
@@ -99,7 +99,7 @@ declarations_same decl (d ∷ ds) (f ∷ fs) s =
     declarations_same (with_declaration decl (declaration_of d.words)) ds fs (same_tail s)
     ∙ ap (λ w. declarations (with_declaration decl (declaration_of w)) fs) (same_head s)
 
--- Documents with the same nodes and directives, where the second has no escape that is no character.
+-- Documents with equal nodes and directives; all escapes of the second are characters.
 pub record SameDocument (d e : Document) : Type 0 where
   pub directives : words d.directives ≡ words e.directives
   pub nodes : signs d.events ≡ signs e.events
@@ -123,7 +123,7 @@ documents_quiet no_same_documents n = refl
 documents_quiet (same_documents {d = d} a more) n =
     let both = both_empty (document_breaches d) _ n in empty_both (document_quiet a both.0) (documents_quiet more both.1)
 
--- the resolved tags of the same nodes
+-- the resolved tags of equal nodes
 pub tags_same : {ds : List Declaration} {xs : List EventInText} {tags : List (Option (List ℕ))} (ys : List EventInText) → signs xs ≡ signs ys → EventTags ds xs tags → EventTags ds ys tags
 tags_same [] s no_event = no_event
 tags_same (y ∷ ys) s no_event = some_none (sym s)
@@ -132,7 +132,7 @@ tags_same (y ∷ ys) s (untagged e a) = untagged (ap (λ (w : Sign). w.0.tag) (s
 tags_same [] s (tagged e f a) = some_none s
 tags_same (y ∷ ys) s (tagged e f a) = tagged (ap (λ (w : Sign). w.0.tag) (sym (same_head s)) ∙ e) f (tags_same ys (same_tail s) a)
 
--- Trees that differ by nothing but places.
+-- Trees that differ only in offsets.
 
 pub values_append : (xs ys : List EventInText) → values (xs ++ ys) ≡ values xs ++ values ys
 values_append [] ys = refl

@@ -13,7 +13,7 @@ use Rattle.yf_lines.specs.declared.line.Line.{Line}
 use Rattle.yf_lines.proofs.BasicLemmas.{break_forward}
 use Rattle.yf_lines.proofs.LineLemmas.{apart_after_break, apart_at_end, apart_at_start, break_char_cases, break_within, cr_breaks, line_by, line_to_break, line_to_end, unbroken_more, unbroken_nothing, unbroken_spaces}
 
--- spaces from a place on, and no more
+-- all spaces from an offset on
 record SpacesFrom (t : List ℕ) (i : ℕ) : Type 0 where
   end : ℕ
   order : i ≤ end

@@ -1,4 +1,5 @@
--- Where the last node or indicator of a block node ends, the rest of its line and comment lines follow, up to where the node ends.
+-- After the end of the last node or indicator of a block node, the rest of its line and comment lines follow, up to the
+-- node's end.
 use Rattle.std.proofs.Common.{◌≡◌, ℕ, ℤ, ◌+◌, inl, inr, ⊎_elim, List, [], length, refl, sym, subst, arith}
 use Rattle.std.specs.Str.{IsUtf8}
 use Rattle.yf_chars.specs.Chain.{Chain}
@@ -44,7 +45,7 @@ pub record LineEndsAt (t : List ℕ) (i : ℕ) : Type 0 where
   pub comments : List CommentValue
   pub line : LineEnd t i end comments
 
--- and more comment lines after them, up to a place
+-- and more comment lines after them, up to an offset
 pub record LineRows (t : List ℕ) (i j : ℕ) : Type 0 where
   pub ends : LineEndsAt t i
   pub more : List CommentValue
@@ -108,7 +109,7 @@ module _ {t : List ℕ} where
   bares_rows l done = done
   bares_rows l (step (bare m a) c) = step (bare_row l (bare m a)) (bares_rows (after_break a.ends) c)
 
-  -- at the end of the text is no further line
+  -- no further line is at the end of the text
   bares_within : {i j : ℕ} {x : List ℕ} → LineOrEnd t i → Chain (EmptyLines t) i j x → Chain (Row t) i j []
   bares_within l done = done
   bares_within {i} l (step (bare m a) c) =

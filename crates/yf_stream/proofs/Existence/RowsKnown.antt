@@ -1,4 +1,4 @@
--- Whether a comment line is at the start of a line is known of every text, and so is whether a document's end is marked.
+-- Each text has a comment line at the start of a line or has none there; and a document's end is marked or is not.
 use Rattle.std.proofs.Common.{◌≡◌, ◌≢◌, ℕ, zero, suc, ◌+◌, ◌-◌, ◌<◌, ◌≤◌, Bool, true, false, ◌⊎◌, inl, inr, ⊎_elim, List, [], ◌∷◌, ◌++◌, length, refl, sym, ap, ◌∙◌, arith, true≢false}
 use Rattle.std.proofs.lemmas.Bool.{cases_Bool, cases_eq, cases_lt}
 use Rattle.std.specs.Str.{IsUtf8}
@@ -30,7 +30,7 @@ use Rattle.yf_stream.proofs.Uniqueness.OneDirective.{dot_still}
 use Rattle.yf_stream.proofs.Reader.PrefixLemmas.{prefix_functional, prefixes_rows, row_next, rows_parts, still}
 use Rattle.yf_chars.proofs.CharFacts.{end_no_white}
 
--- the characters of a class from a place on
+-- the characters of a class from an offset on
 record RunFrom (t : List ℕ) (p : ℕ → Bool) (i : ℕ) : Type 0 where
   end : ℕ
   characters : List ℕ
@@ -72,7 +72,7 @@ stop_known t h = ⊎_elim (λ (e : h ≡ length t). inl (h, by_end e)) (λ (n : 
       (cases_eq (code t h) 10))
       (cases_eq (code t h) 13)
 
--- a row at a place
+-- a row at an offset
 record RowAt (t : List ℕ) (i : ℕ) : Type 0 where
   end : ℕ
   comments : List CommentValue
@@ -103,7 +103,7 @@ module _ {t : List ℕ} (u : IsUtf8 t) where
         (λ (none : Nowhere (BreakOrEnd t w.end)). inr (row_stuck (stuck_after_whites before w.stops e none)))
         (stop_known t w.end)
 
--- all document prefixes that are at a place
+-- all document prefixes at an offset
 pub record PrefixesFrom (t : List ℕ) (i : ℕ) : Type 0 where
   pub end : ℕ
   pub comments : List CommentValue
@@ -153,7 +153,7 @@ module _ {t : List ℕ} (u : IsUtf8 t) where
   pub prefixes_from : (i : ℕ) → LineOrEnd t i → PrefixesFrom t i
   prefixes_from i s = prefixes_upto (length t) i (omega arith) s
 
-  -- a `...` that document prefixes lead to is where they end
+  -- a `...` after document prefixes is at the end of the longest run of prefixes
   dot_there : {i q : ℕ} {cs : List CommentValue} (p : PrefixesFrom t i) → Prefixes t i q cs → code t q ≡ 46 → q ≡ p.end
   dot_there {q = q} p d e =
       (stuck_unique prefix_functional (prefixes_rows d) (still (λ m. absurd (omega arith)) (dot_still e)) p.rows p.last).0

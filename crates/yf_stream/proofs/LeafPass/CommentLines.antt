@@ -1,4 +1,4 @@
--- The comments of a reading are in order, each on one line; so which of them are on the lines of leaves is what the pass finds.
+-- The comments of a reading are in order, each on one line. So the pass finds which of them are on the lines of leaves.
 use Rattle.std.proofs.Common.{◌≡◌, ℕ, ◌-◌, ◌≤◌, true, List, ◌∷◌, drop, length, refl, sym, ap, ◌∙◌, subst, arith, length-take}
 use Rattle.std.proofs.lemmas.List.Elements.{All-weaker}
 use Rattle.std.specs.Str.{IsUtf8}

@@ -47,7 +47,7 @@ module _ {t : List ℕ} where
   last_breaks {j = j} b =
       ⊎_elim (λ (e : code t (j - 1) ≡ 10). lf_breaks t (j - 1) e) (λ (e : (code t (j - 1) ≡ 13) × (code t j ≢ 10)). cr_breaks t (j - 1) e.0) (break_end b)
 
-  -- a line that holds the offset is the one that begins and ends there
+  -- a line that holds the offset has the start and the end that were found
   start_there : {l : Line} {o i : ℕ} → IsLine t l → ((l.start ≡ 0) ⊎ ((h : ℕ) × Break t h l.start)) → l.start ≤ o → o < l.end → BeginsLine t o i → l.start ≡ i
   start_there {l} {o} {i} q s a b g =
       ⊎_elim
@@ -191,7 +191,7 @@ stops_here es i offset {s} f l = let a = event_at es i f in subst (λ z. StopsAt
 pub stops_at_end : (es : List EventInText) (i offset : ℕ) → length es ≤ i → StopsAt offset (drop i es)
 stops_at_end es i offset l = subst (λ z. StopsAt offset z) (sym (drop_of_length-le es l)) none_left
 
--- where the events begin in order, none of those that are left begins before the offset
+-- if the events begin in order from the offset on, none of them begins before it
 none_left_before : {i : ℕ} {es : List EventInText} (found : Option ℕ) (o : ℕ) → o ≤ i → BeginInOrder i es → last_end found o (leaf_spans es) ≡ found
 none_left_before found o l no_events = refl
 none_left_before found o l (no_place {e = e} {es = es} n b) =
@@ -225,7 +225,7 @@ none_from found o (stops s e l) (no_place n b) = absurd (let p : None ≡ Some s
 none_from found o (stops {e = x} {es = es} s e l) (begins r n m b) =
     let same = same_Some _ _ (sym e ∙ n) in none_left_before found o l (begins {e = x} s e (omega arith) (subst (λ (z : Span). BeginInOrder z.start es) (sym same) b))
 
--- What has been noted of the comments so far.
+-- The notes of the comments so far.
 pub record NotedSoFar (t : List ℕ) (es : List EventInText) (cs : List CommentValue) (i : ℕ) (found : Option ℕ) (notes : List Bool) : Type 0 where
   pub within : length notes ≤ length cs
   pub offset : ℕ
@@ -293,7 +293,7 @@ pub next_line_at_end : {t : List ℕ} {i j m n : ℕ} → NoBreakFrom t i j → 
 next_line_at_end {t} {i} b e l f =
     subst (λ z. NextLine t i z) (sym f) (at_text_end (record { none = λ h k p q c. b.none h k p (omega arith) c }))
 
--- whether an end is on the line of a comment, by the place where the line begins
+-- whether an end is on the line of a comment, from the start of that line
 pub ends_after_start : {t : List ℕ} {ls : List Line} {c : CommentValue} {s m n : ℕ} (end : ℕ) {o : Option ℕ} → o ≡ Some end → AreLines t ls → IsInLine t c → BeginsLine t c.offset s
     → c.offset ≤ m → m ≤ c.offset + length c.text → NextLine t m n → s < end → nat_le end n ≡ end_on_line ls o c.offset
 ends_after_start {ls = ls} {c} {s} {m} {n} end e a d p l k x q =

@@ -1,4 +1,4 @@
--- The last leaf before an offset is found from the end.
+-- The search for the last leaf before an offset goes backwards from the end.
 use Rattle.std.proofs.Common.{◌≡◌, ℕ, zero, suc, ◌+◌, ◌-◌, ◌<◌, ◌≤◌, Bool, true, false, List, ◌++◌, drop, length, map, Option, Some, None, refl, sym, ap, ◌∙◌, subst, inl, inr, arith, slice_get, nat_lt, if◌then◌else◌}
 use Rattle.std.proofs.lemmas.Bool.{cases_lt}
 use Rattle.std.proofs.lemmas.Bool.Decides.{nat_tests}
@@ -21,7 +21,7 @@ past_unleaved es i found o f n =
     let none : begins_leaf a.event.event rest ≡ false = sym (ap first_begins_leaf a.here) ∙ n in
     ap (λ z. last_end found o (leaf_spans z)) a.here ∙ ap (λ b. last_end found o (span_in b a.event.span ++ leaf_spans rest)) none
 
--- some end has been found up to an index
+-- an end has been found up to an index
 record Reaches (es : List EventInText) (i j : ℕ) (found : Option ℕ) (o : ℕ) : Type 0 where
   mid : Option ℕ
   same : last_end found o (leaf_spans (drop i es)) ≡ last_end mid o (leaf_spans (drop j es))
@@ -43,7 +43,7 @@ reaches (suc n) es i j found offset o e l h =
     let rest = reaches n es (i + 1) j one.mid offset o (omega (arith, e)) l (λ k m q. h k (omega (arith, m)) q) in
     record { mid = rest.mid; same = one.same ∙ rest.same }
 
--- from an index on no leaf is left
+-- no leaf is left from an index on
 pub record NoneFrom (es : List EventInText) (i j : ℕ) : Type 0 where
   pub none : (found : Option ℕ) (o : ℕ) → last_end found o (leaf_spans (drop i es)) ≡ last_end found o (leaf_spans (drop j es))
 
@@ -70,7 +70,7 @@ leaf_found {es} {i} {at} {j} {found} k {s} e l m f leaf n = record {
 pub no_leaf_found : {es : List EventInText} {i at j : ℕ} (found : Option ℕ) → at ≡ i → NoneFrom es at j → LastLeaf es i j found found
 no_leaf_found {es} {i} {at} {j} found e n = record { same = λ offset o h q. ap (λ z. last_end found o (leaf_spans (drop z es))) (sym e) ∙ n.none found o }
 
--- one event more that has begun
+-- one more event that has begun
 pub begun_more : {offset start at : ℕ} {es : List EventInText} → BegunAt offset es at → ((k : ℕ) → start ≤ k → k < at → BegunAt offset es k)
     → (k : ℕ) → start ≤ k → k < at + 1 → BegunAt offset es k
 begun_more {offset} {start} {at} {es} one before k l m = elim (cases_lt k at) [
@@ -78,11 +78,11 @@ begun_more {offset} {start} {at} {es} one before k l m = elim (cases_lt k at) [
   | inr least ↦ let same : at ≡ k = omega (arith, m, least) in subst (BegunAt offset es) same one
 ]
 
--- an event that has begun is there
+-- the index of an event that has begun is within the list
 pub begun_within : {offset : ℕ} (es : List EventInText) {k : ℕ} → BegunAt offset es k → k < length es
 begun_within es {k} b = omega (arith, slice_get_within (map (λ (e : EventInText). e.span) es) k b.span b.there, length-map es (λ (e : EventInText). e.span))
 
--- an event with a place has begun, or the search stops at it
+-- an event with a span has begun, or the search stops at it
 pub begun_if : (es : List EventInText) (i offset : ℕ) (s : Span) (b : Bool) → nat_lt s.start offset ≡ b → slice_get (map (λ (e : EventInText). e.span) es) i ≡ Some (Some s)
     → MatchBool b (BegunAt offset es i) (StopsAt offset (drop i es))
 begun_if es i offset s true e f = record { span = Some s; there = f; before = grind (arith, nat_tests, e) }

@@ -1,4 +1,4 @@
--- The leaves of the events of trees are those of the trees, and so are the notes which comments are on their lines.
+-- Events and their trees have equal leaves, and equal notes of the comments on the lines of leaves.
 use Rattle.std.proofs.Common.{◌≡◌, ℕ, Bool, true, false, nat_lt, if◌then◌else◌, List, [], ◌∷◌, ◌++◌, map, flat_map, Option, Some, None, refl, sym, ap, ◌∙◌, append_assoc, append-nil, option_map}
 use Rattle.yf_lines.specs.declared.line.Line.{Line}
 use Rattle.yf_comments.specs.Comment.{CommentValue}

@@ -1,5 +1,5 @@
--- Each breach of a stream's documents is between characters: the places of its nodes and of their tags are those of characters, and those of its
--- directives and escapes are known of the parts that were read.
+-- Each breach of a stream's documents is between characters: the offsets of its nodes and of their tags are those of
+-- characters, and the parts that were read give those of its directives and escapes.
 use Rattle.std.proofs.Common.{◌≡◌, ℕ, ◌<◌, Bool, true, false, ◌||◌, not, List, [], ◌∷◌, ◌++◌, map, flat_map, Option, Some, None, refl, sym, subst, is_some, arith}
 use Rattle.std.proofs.lemmas.List.Elements.{All-append, All-cons, All-contains, All-head, All-nil, All-tail}
 use Rattle.std.proofs.lemmas.Str.{IsCharBoundary-start}
@@ -40,7 +40,7 @@ second_all : {X : Type 0} (P : X → Type 0) (xs ys : List X) → All P (xs ++ y
 second_all P [] ys a = a
 second_all P (x ∷ xs) ys a = second_all P xs ys (All-tail P x (xs ++ ys) a)
 
--- the parts of the text that events have begin with characters
+-- the spans of events begin with characters
 abbrev StartAt : List ℕ → Option Span → Type 0
 StartAt t None = Unit {0}
 StartAt t (Some s) = code t s.start < no_char
@@ -165,7 +165,7 @@ module _ {t : List ℕ} (u : IsUtf8 t) where
       (escapes_told x.escapes (first_all (IsCharBoundary t) x.escapes others e))))
       (documents_told more rest (All-tail (λ (d : Doc). DirectivesAt t d.directives) (doc_of x) docs d) (second_all (IsCharBoundary t) x.escapes others e))
 
-  -- so is the first of them
+  -- so the first of them is between characters
   pub first_told : {x : Documents} {p : Parts} {b : Breach} → Shapes t x → PartsOf t x p → DocumentsAt t p.documents → All (IsCharBoundary t) p.part.escapes
       → IsFirst (breaches x.documents) b → IsCharBoundary t b.offset
   first_told {x} {p} {b} s w d e f =

@@ -1,4 +1,4 @@
--- For each event there is its tag or none.
+-- Each event has a resolved tag or none.
 use Rattle.std.proofs.Common.{◌≡◌, suc, List, length, Option, ℕ, refl, ap}
 use Rattle.yf_props.specs.Handles.{Declaration}
 use Rattle.yf_events.specs.Event.{EventInText}

@@ -36,7 +36,7 @@ pub data Broken (t : List ℕ) (j : ℕ) : Type 0 where
   at_break : {i : ℕ} → Break t i j → Broken t j
   at_text_end : j ≡ length t → Broken t j
 
--- where a document begins and ends: at no sign of a comment, and after a line break or at the end of the text
+-- the start and the end of a document: at no sign of a comment, and after a line break or at the end of the text
 pub record DocumentBounds (t : List ℕ) (i j : ℕ) : Type 0 where
   pub start : code t i ≢ 35
   pub end : Broken t j
@@ -60,7 +60,7 @@ module _ {t : List ℕ} where
   end_broken_from b (past_rest r c) = lines_broken (rest_broken r) c
   end_broken_from b (from_start s c) = lines_broken b c
 
-  -- where no line begins
+  -- inside a line
   pub end_broken : {i j : ℕ} {x : List CommentValue} → (LineStart t i → ⊥) → LineEnd t i j x → Broken t j
   end_broken n (past_rest r c) = lines_broken (rest_broken r) c
   end_broken n (from_start s c) = absurd (n s)

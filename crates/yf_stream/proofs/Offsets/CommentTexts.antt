@@ -1,4 +1,4 @@
--- Each comment of what is derived, and of a reading, is a comment of the text.
+-- Each comment of a derived part, and of a reading, is a comment of the text.
 use Rattle.std.proofs.Common.{ℕ, ℤ, ◌+◌, Bool, true, false, List, [], ◌∷◌, ◌++◌, refl, ◌∙◌}
 use Rattle.std.proofs.lemmas.List.Elements.{All-cons, All-nil, All-weaker}
 use Rattle.std.specs.List.{All}
@@ -109,7 +109,7 @@ module _ {t : List ℕ} where
   scalar_texts : {n : ℤ} {i j : ℕ} {x : Meaning} → BlockScalar t n i j x → AreTexts t x.comments
   scalar_texts (block_scalar h b l) = join (header_texts h) (body_texts b)
 
-  -- of all productions
+  -- for all productions
   derived_texts : {h i j : ℕ} {p : Production} {x : Meaning} → Derives t h p i j x → AreTexts t x.comments
   unfolding meaning_after noting ◌⊕◌ collection with_props entering scalar alias_to empty_node
   derived_texts (flow_node d) = derived_texts d
@@ -159,7 +159,7 @@ module _ {t : List ℕ} where
   derived_texts (an_indented_node d) = derived_texts d
   derived_texts (nothing_indented b d) = end_texts d
 
-  -- of the parts of a stream
+  -- for the parts of a stream
   directives_texts : {i j : ℕ} {x : Directives} → DirectiveLines t i j x → AreTexts t x.comments
   directives_texts (last_directive e r p d) = end_texts d
   directives_texts (more_directives a b) = join (directives_texts a) (directives_texts b)

@@ -16,7 +16,7 @@ use Rattle.yf_stream.specs.Stream.Parameters.{version_parameter, tag_parameters,
 use Rattle.yf_stream.specs.Stream.ReservedParameter.{reserved_parameter}
 use Rattle.yf_stream.proofs.Uniqueness.Forward.{line_end_forward}
 
--- directives in order, from one place up to another
+-- directives in order, from one offset to another
 pub data DirectivesStand : ℕ → List Directive → ℕ → Type 0 where
   no_directives_stand : {i j : ℕ} → i ≤ j → DirectivesStand i [] j
   directive_is_at : {i j : ℕ} {d : Directive} {ds : List Directive} → i ≤ d.offset → DirectivesStand d.offset ds j → DirectivesStand i (d ∷ ds) j

@@ -1,4 +1,4 @@
--- The documents of a stream are in order: directives, the beginning, the node with all that is in it, and the next document.
+-- The documents of a stream are in order: directives, the start, the node with its content, and the next document.
 use Rattle.std.proofs.Common.{◌≡◌, ◌≢◌, ℕ, ◌+◌, ◌<◌, ◌≤◌, true, false, List, [], ◌∷◌, length, sym, ap, ◌∙◌, subst, ⊎_elim, arith, true≢false}
 use Rattle.std.specs.Prelude.{◌&&◌, ◌==◌}
 use Rattle.std.proofs.lemmas.Bool.{cases_eq}
@@ -63,7 +63,7 @@ module _ {t : List ℕ} where
   separated_before (by_whites m l) v o = whites_before m v o
   separated_before (at_start s) v o = o
 
-  -- the parts of a stream go on
+  -- the parts of a stream never lead back
   part_forward : {i j : ℕ} {x : List CommentValue} → PrefixPart t i j x → i ≤ j
   part_forward (order_mark {i = i} e) = let l = next_later t i in omega arith
   part_forward (prefix_comment c) = chain_forward row_functional (lines_rows (chain_one c))
@@ -148,7 +148,7 @@ module _ {t : List ℕ} (u : IsUtf8 t) where
       let f = suffixes_forward s in let g = parts_forward p in document_is_at (document_after (omega arith) (document_at d)) (rest_is_at r)
   rest_is_at (past_explicit e r) = document_is_at (explicit_at e) (rest_is_at r)
 
-  -- of a stream
+  -- for a stream
   pub stream_is_at : {h : ℕ} {x : Documents} → Stream t h x → DocumentsStand t 0 x.documents
   unfolding with_comments with_document
   stream_is_at (begins_with_document p d r) = document_is_at (document_after (omega arith) (document_at d)) (rest_is_at r)

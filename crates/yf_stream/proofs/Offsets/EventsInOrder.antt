@@ -1,4 +1,4 @@
--- The nodes of a reading begin in the order of the text.
+-- The nodes of a reading begin in text order.
 use Rattle.std.proofs.Common.{◌≡◌, ℕ, ◌≤◌, List, [], ◌∷◌, ◌++◌, flat_map, Option, refl, sym, subst, arith, append_assoc}
 use Rattle.yf_events.specs.Event.{EventInText, document_ends, mapping_ends, sequence_ends}
 use Rattle.yf_events.specs.Tree.{DocumentTree, flat, flat_document, flat_items, flat_pairs, flat_stream, unplaced, Items, Node, Pairs}
@@ -46,6 +46,6 @@ documents_in_order {rest = rest} (tree_is_at {tree = tree} {trees = trees} d n m
     moved (append_assoc (flat_document tree) (flat_map flat_document trees) rest)
     (no_place refl (sooner (directives_order d) (moved (append_assoc (flat tree.root) end others) (node_in_order n (no_place refl (documents_in_order more r))))))
 
--- the events of trees that are in a text begin in its order
+-- the events of trees in a text begin in its order
 pub events_in_order : {t : List ℕ} {ds : List Doc} {trees : List DocumentTree} → TreesStand t 0 ds trees → BeginInOrder 0 (flat_stream trees)
 events_in_order s = no_place refl (documents_in_order s (λ j. no_place refl no_events))

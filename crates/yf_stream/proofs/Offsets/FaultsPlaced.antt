@@ -1,4 +1,4 @@
--- A fault of the reader of streams is want of memory, or has a place in the text.
+-- A fault of the reader of streams is `Memory`, or has a position in the text.
 use Rattle.std.proofs.Common.{ℕ, List, sym, subst}
 use Rattle.yf_lines.specs.FaultPlaces.{InText}
 use Rattle.yf_lines.specs.declared.fault.Fault.{Fault}

@@ -1,4 +1,4 @@
--- The events of a node that is derived are well nested, with no more collections open at once than its height.
+-- The events of a derived node are well nested, with no more collections open at once than its height.
 use Rattle.std.proofs.Common.{◌≡◌, ℕ, suc, zero, ◌+◌, ◌≤◌, ℤ, Bool, true, false, List, [], ◌∷◌, ◌++◌, map, Option, Some, None, refl, sym, ap, ◌∙◌, subst, arith, append_assoc, append-nil}
 use Rattle.yf_props.specs.Names.{PropertiesValue}
 use Rattle.yf_props.specs.Props.{PropsValue, no_props}
@@ -108,7 +108,7 @@ round_of {d} false f i j x n =
 scalar_nests : {t : List ℕ} {n : ℤ} {i j : ℕ} {x : Meaning} (d : ℕ) → BlockScalar t n i j x → NestsWithin one_node d (kinds x.events)
 scalar_nests d (block_scalar h b l) = a_scalar
 
--- one collection more
+-- one more collection
 under : {h : ℕ} (P : ℕ → Type 0) (d : ℕ) → suc h ≤ d → ((k : ℕ) → h ≤ k → P (suc k)) → P d
 under P zero l f = absurd (omega arith)
 under P (suc k) l f = f k (omega arith)

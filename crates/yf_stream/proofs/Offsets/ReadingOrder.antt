@@ -1,4 +1,5 @@
--- The comments of a stream, and those of a reading, are in the order of the text and within it, and each begins with its sign.
+-- The comments of a stream, and those of a reading, are in text order and within the text, and each begins with its
+-- sign.
 use Rattle.std.proofs.Common.{◌≡◌, ℕ, suc, zero, ◌+◌, ◌<◌, ◌≤◌, List, [], ◌∷◌, length, subst, ⊎_elim, arith}
 use Rattle.std.proofs.lemmas.Bool.{cases_lt}
 use Rattle.std.specs.Prelude.{slice_index_or}
@@ -74,7 +75,7 @@ module _ {t : List ℕ} where
 pub reading_ascends : {t : List ℕ} {r : Lists} → ReadingOf t r → Ascend t 0 r.comments (length t)
 reading_ascends a = noted_ascend a.comments (stream_ascends a.reads.shapes.derived)
 
--- in terms of indices: a comment between two places of a text, with its sign
+-- in terms of indices: a comment between two offsets of a text, with its sign
 pub record CommentAt (t : List ℕ) (i k : ℕ) (c : CommentValue) : Type 0 where
   pub from : i ≤ c.offset
   pub before : c.offset < k

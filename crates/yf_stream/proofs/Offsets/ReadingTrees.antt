@@ -1,4 +1,4 @@
--- The reading of a text has trees, whose documents and nodes are in order, and which mean what is derived.
+-- The reading of a text has trees, whose documents and nodes are in order, and which have the derived meaning.
 use Rattle.std.proofs.Common.{◌≡◌, ℕ, suc, ◌≤◌, List, [], ◌∷◌, ◌++◌, map, flat_map, length, Option, refl, sym, ap, ◌∙◌, subst, append_assoc}
 use Rattle.std.specs.Str.{IsUtf8}
 use Rattle.yf_events.specs.Event.{EventInText, document_starts, document_ends, stream_starts, stream_ends}
@@ -22,7 +22,7 @@ pub data TreesStand (t : List ℕ) : ℕ → List Doc → List DocumentTree → 
   tree_is_at : {i j : ℕ} {d : Doc} {ds : List Doc} {tree : DocumentTree} {trees : List DocumentTree} → DirectivesStand i d.directives d.start
       → NodeIsAt t d.start j tree.root → TreesStand t j ds trees → DocumentBounds t d.start j → TreesStand t i (d ∷ ds) (tree ∷ trees)
 
--- the trees of documents that are derived: they mean the same, but for notes on blank lines
+-- the trees of derived documents: they have one meaning, but for notes on blank lines
 pub data TreesMeant : List Document → List DocumentTree → Type 0 where
   no_trees_meant : TreesMeant [] []
   tree_meant : {d : Document} {ds : List Document} {x : Node} {tree : DocumentTree} {trees : List DocumentTree} → d.events ≡ flat x → Alike Anywhere x tree.root
@@ -44,7 +44,7 @@ record NotedTrees (t : List ℕ) (i : ℕ) (ds : List Document) (rest ys : List 
   is : ys ≡ flat_map flat_document trees ++ more
   noting : Noting t floor rest more
 
--- how the events of documents are joined
+-- the joined events of documents
 
 pub parted : (s e : EventInText) (root x rest : List EventInText) → (s ∷ (root ++ (e ∷ x))) ++ rest ≡ s ∷ (root ++ (e ∷ (x ++ rest)))
 parted s e root x rest = ap (λ z. s ∷ z) (append_assoc root (e ∷ x) rest)
@@ -90,7 +90,7 @@ module _ {t : List ℕ} where
         noting = follows.noting;
       }
 
--- the trees of the events of documents that are derived, with their notes filled in
+-- the trees of the events of derived documents, with their notes filled in
 pub record EventTrees (t : List ℕ) (ds : List Document) (noted : List EventInText) : Type 0 where
   pub trees : List DocumentTree
   pub events : noted ≡ flat_stream trees

@@ -1,4 +1,4 @@
--- Where the node of a document without `---` begins: at the first character of the line that is no white space.
+-- The node of a document without `---` begins at the first character of the line that is no white space.
 use Rattle.std.proofs.Common.{◌≡◌, ℕ, ℤ, ◌+◌, false, List, refl, sym, subst}
 use Rattle.yf_chars.specs.declared.context.Ctx.{Ctx}
 use Rattle.yf_chars.specs.Text.{code}

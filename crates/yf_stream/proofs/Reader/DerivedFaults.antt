@@ -1,4 +1,4 @@
--- Refusals and their faults: what has been read of a stream is its reading, or tells why it has none.
+-- Refusals and their faults: the parts of a stream that have been read are its reading, or show why it has none.
 use Rattle.std.proofs.Common.{◌≡◌, ℕ, List, Option, Result, Ok, Err, IfOk, subst}
 use Rattle.std.specs.List.{All}
 use Rattle.std.specs.Str.{IsCharBoundary, IsUtf8}
@@ -42,7 +42,7 @@ fault_derived (no_stream_at told diagnosis p) d = no_stream d (told.at, p)
 fault_derived (too_deep_at {offset = i} p) d = too_deep d.0 d.1 (i, p)
 fault_derived (told_at p e) d = breached d.shapes d.first p e
 
--- a refusal is told of between characters
+-- the offset of a refusal is between characters
 pub refusal_placed : (t : List ℕ) (refusal : Refusal) → RefusalAt t refusal → RefusalDerived t refusal → IsCharBoundary t (offset_of refusal)
 refusal_placed t (Refusals.Syntax offset) a d = a
 refusal_placed t (Refusals.TooDeep offset) a d = a

@@ -14,7 +14,7 @@ use Rattle.yf_stream.specs.Stream.{Directives}
 use Rattle.yf_stream.proofs.Uniqueness.Forward.{line_end_forward}
 use Rattle.yf_stream.proofs.Uniqueness.OneDirective.{DirectivesTo, LineTo, directives_begin, last_to, line_one, lines_to, more_to}
 
--- the same directives, up to the same place
+-- equal directives with equal ends
 pub record Same (k j : ℕ) (es ds : List Directive) (fs cs : List CommentValue) : Type 0 where
   pub place : k ≡ j
   pub directives : es ≡ ds

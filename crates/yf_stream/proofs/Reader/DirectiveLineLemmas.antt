@@ -1,4 +1,4 @@
--- Directives, as a reader finds them: each up to the end of its line, with all comment lines after it.
+-- Directives as a reader finds them: each up to the end of its line, with all comment lines after it.
 use Rattle.std.proofs.Common.{◌≡◌, ◌≢◌, ℕ, ◌+◌, ◌≤◌, List, [], ◌∷◌, ◌++◌, slice_range, false, refl, sym, ap, ◌∙◌, subst, arith, append_assoc, append-nil}
 use Rattle.std.proofs.lemmas.List.Elements.{All-append, All-cons, All-nil}
 use Rattle.std.proofs.lemmas.Bool.{true_from_ne_false}
@@ -26,7 +26,7 @@ use Rattle.yf_stream.proofs.Uniqueness.OneDirective.{no_end_before, parameters_o
 use Rattle.yf_stream.proofs.Uniqueness.OneTag.{tag_end}
 
 module _ {t : List ℕ} (u : IsUtf8 t) where
-  -- of words that end before the end of a line none are left
+  -- words that end before the end of a line leave no words over
   words_end : {i j k n : ℕ} {x y : List (List ℕ)} {b : List CommentValue} → ContentBefore t i → Chain (ReservedParameter t) i j x → Chain (ReservedParameter t) i k y → k ≤ j
       → LineEnd t k n b → k ≡ j
   words_end {i} {j} {k} {n} {x} {y} {b} h c d l e = go (chain_meet (reserved_functional u) c d) where
@@ -116,7 +116,7 @@ directives_more {t} {i} {k} {j} {x = x} (one_directive {x = y} {ds = ds} {cs = c
     subst (λ z. LongestDirectives t i j z ((y.comments ++ cs) ++ x.comments)) (sym (append_assoc y.directives ds x.directives))
     (subst (λ z. LongestDirectives t i j (y.directives ++ (ds ++ x.directives)) z) (sym (append_assoc y.comments cs x.comments)) (one_directive d (directives_more r c)))
 
--- what has been read of directives
+-- the directives that have been read
 pub directives_empty : {t : List ℕ} {ds : List Directive} (i : ℕ) (a : List CommentValue) → ds ≡ [] → DirectivesUpto t i i ds a a
 directives_empty {t} i a e = record { comments = []; longest = subst (λ z. LongestDirectives t i i z []) (sym e) no_directives; list = sym (append-nil a) }
 

@@ -1,4 +1,4 @@
--- The parameters of a directive, as a reader finds them: as long as they go, or none.
+-- The parameters of a directive as a reader finds them: as far as they go, or none.
 use Rattle.std.proofs.Common.{◌≡◌, ◌≢◌, ℕ, ◌+◌, Bool, false, List, [], ◌∷◌, ◌++◌, slice_range, codes, refl, sym, ap, ◌∙◌, subst, arith, true≢false, append_assoc, Option, Some, None, MatchOption}
 use Rattle.std.specs.Str.{IsUtf8}
 use Rattle.yf_chars.specs.Text.{code}
@@ -16,11 +16,11 @@ use Rattle.yf_stream.specs.Stream.ReservedParameter.{reserved_parameter}
 use Rattle.yf_stream.proofs.Uniqueness.OneDirective.{digit_ns, no_ns_white, run_first, yaml_no_tag}
 
 module _ {t : List ℕ} where
-  -- white space up to a character that is none
+  -- white space up to another character
   pub same_start : {i k l : ℕ} {w : List ℕ} → Many t is_white i k w → is_white (code t k) ≡ false → SeparateInLine t i l → is_white (code t l) ≡ false → l ≡ k
   same_start m e s f = (many_unique t is_white (separate_whites s).1 f m e).0
 
--- what the parameter of a YAML directive is
+-- the parameter of a YAML directive
 record Version (t : List ℕ) (i j : ℕ) (x : List (List ℕ)) : Type 0 where
   start : ℕ
   dot : ℕ
@@ -31,7 +31,7 @@ record Version (t : List ℕ) (i j : ℕ) (x : List (List ℕ)) : Type 0 where
   is : x ≡ slice_range t start j ∷ []
 
 module _ {t : List ℕ} (u : IsUtf8 t) where
-  -- no character of a class, no run of it
+  -- without a character of a class, no run of it begins
   pub no_run : (p : ℕ → Bool) {i j : ℕ} → p (code t i) ≡ false → Run (One t p) i j → ⊥
   no_run p e r = true≢false (sym (run_first u r.chain r.some) ∙ e)
 
@@ -121,7 +121,7 @@ word_after a x {v = v} e f g = f ∙ ap (λ z. z ++ v ∷ []) e ∙ append_assoc
 pub two_words : (a : List (List ℕ)) {b c : List (List ℕ)} {v w x y : List ℕ} → b ≡ a ++ v ∷ [] → v ≡ x → c ≡ b ++ w ∷ [] → w ≡ y → c ≡ a ++ (x ∷ y ∷ [])
 two_words a {x = x} e f g h = word_after a (x ∷ []) (one_word a e f) g h
 
--- what the readers of parameters answer
+-- the results of the readers of parameters
 pub reserved_read : {t name : List ℕ} {i j : ℕ} {a b : List (List ℕ)} → IsUtf8 t → name ≢ codes "YAML" → name ≢ codes "TAG" → ReservedRead t i j a b → WordsRead t name i j a b
 reserved_read u f g r = record { words = r.words; read = words_chosen u f g r.read; list = r.list }
 

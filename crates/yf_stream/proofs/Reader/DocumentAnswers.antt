@@ -1,4 +1,4 @@
--- What the readers of documents answer, by what the reader of block nodes does.
+-- The results of the readers of documents follow from those of the reader of block nodes.
 use Rattle.std.proofs.Common.{◌≡◌, ℕ, ◌+◌, ◌<◌, ◌≤◌, ◌-ℤ◌, pos, Bool, true, false, not, true≢false, cond, Result, Ok, IfOk, List, [], ◌++◌, drop, take, refl, sym, ap, ◌∙◌, subst, arith}
 use Rattle.std.proofs.lemmas.List.Elements.{All-nil, All-push}
 use Rattle.std.proofs.lemmas.List.Sums.{sum_by-take-drop}
@@ -119,7 +119,7 @@ module _ (t : List ℕ) where
   pub something_there : {at : ℕ} → Stuck (LineEnd t at) → SomethingBegins t at
   something_there s = record { none = λ k ds d z. s.none k ds d.derived }
 
--- the indentation of a document's node, and what the reader of block nodes answers of it
+-- the indentation of a document's node, and the result of the reader of block nodes for it
 pub root_indentation : Indentation (pos 0 -ℤ pos 1)
 root_indentation = record { least = 0; is = refl; narrow = omega arith }
 
@@ -129,7 +129,7 @@ outcome_of t at before part i e f =
     subst (λ w. OutcomeTied t DEPTH (pos 0 -ℤ pos 1) BlockIn at before w part) f
     (subst (λ z. IfOk z (λ w. OutcomeTied t DEPTH (pos 0 -ℤ pos 1) BlockIn at before w part)) e i)
 
--- the documents after one more
+-- one more document
 pub documents_opened : (t : List ℕ) (a : Parts) {b : Parts} (start : ℕ) (marked : Bool) (ds : List Directive) → b ≡ opened start marked ds a → DocumentsAt t a.documents → DirectivesAt t ds
     → DocumentsAt t b.documents
 documents_opened t a start marked ds e d h =
@@ -145,7 +145,7 @@ empty_next t at cs a b (Go after) k l e =
 empty_next t at cs a b (Syntax place) k l e = absurd e
 empty_next t at cs a b (TooDeep place) k l e = absurd e
 
--- what an empty node is added to
+-- the parts with an empty node added
 pub empty_parts : (t : List ℕ) (end : ℕ) (cs : List CommentValue) (a b : Parts) (next : StreamStep) → All (IsCharBoundary t) a.part.escapes → DocumentsAt t a.documents
     → EmptyAdded end cs a b next → PartsAt t b
 empty_parts t end cs a b (Go after) k d e = subst (PartsAt t) (sym e.parts) (record { escapes = k; documents = d })

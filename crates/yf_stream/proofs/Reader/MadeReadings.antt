@@ -1,4 +1,5 @@
--- The lists and the breach that are made of parts, and what they are where these are those of the one shape of the text.
+-- The lists and the breach that are made of parts, and their meaning if the parts are those of the one shape of the
+-- text.
 use Rattle.std.proofs.Common.{List, ℕ, Result, Ok, Err}
 use Rattle.std.specs.List.{All}
 use Rattle.std.specs.Str.{IsCharBoundary, IsUtf8}

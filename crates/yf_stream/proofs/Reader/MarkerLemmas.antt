@@ -1,4 +1,4 @@
--- The marker of a line that is one: its last sign tells which.
+-- The marker of a forbidden line: its last sign gives its kind.
 use Rattle.std.proofs.Common.{◌≡◌, ◌≢◌, ℕ, ◌+◌, Bool, true, false, List, refl, sym, ◌∙◌, arith, ⊎_elim, true≢false}
 use Rattle.std.proofs.lemmas.Bool.{cases_eq, ne_eqb}
 use Rattle.yf_chars.specs.Text.{code}

@@ -1,5 +1,5 @@
--- The loop of the reader of streams: what has been read goes on with the next document or `...`, and where the reader refuses, no stream is derived
--- within the limit of open collections.
+-- The loop of the reader of streams: the next document or `...` continues the text that has been read, and if the
+-- reader refuses, no stream is derived within the limit of open collections.
 use Rattle.std.proofs.Common.{ap, Result, Ok, IfOk, ◌≡◌, ◌≢◌, ℕ, ◌+◌, ◌<◌, ◌-ℤ◌, pos, Bool, true, false, not, ◌≤◌, List, [], ◌++◌, length, sym, subst, arith, ⊎_elim, append-nil}
 use Rattle.std.specs.Str.{IsUtf8}
 use Rattle.std.specs.declared.alloc.AllocError.{AllocError}
@@ -32,12 +32,12 @@ use Rattle.yf_stream.proofs.Reader.NodeSteps.{MarkedThrough, marked_at_dash, mar
 use Rattle.yf_stream.proofs.Reader.PathsThrough.{PathsThrough, no_second_bare}
 use Rattle.yf_stream.proofs.Reader.StreamUpto.{ReadUpto, followed, one_document, past_document, past_dots, past_marked_document, past_prefix, three_dashes}
 
--- the node of a document has been read, or an empty one, after the beginning of the document
+-- the node of a document, or an empty one, has been read after the start of the document
 pub data NodeDone (t : List ℕ) (at : ℕ) (a b : Parts) (after : StreamCursor) : Meaning → Type 0 where
   node_done : (n : NodeEnds t at a b after) → NodeDone t at a b after n.chosen.derived.meaning
   nothing_done : (n : NothingEnds t at a b after) → NodeDone t at a b after (noting (empty_node at) n.ends.comments)
 
--- one step: what has been read before it, the parts before it and after it, and what has been read then
+-- one step: the text read before it, the parts before and after it, and the text read after it
 pub data StepTo (t : List ℕ) (cursor : StreamCursor) (x : Documents) (a b : Parts) (after : StreamCursor) : Documents → Type 0 where
   dots_to : (s : SuffixEnds t cursor a b after) → ForbiddenLine t cursor.at → code t cursor.at ≡ 46 → StepTo t cursor x a b after (followed x (only_comments s.comments))
   dashes_to : {y : Meaning} → ForbiddenLine t cursor.at → code t cursor.at ≡ 45 → NodeDone t (cursor.at + 3) (opened cursor.at true [] (closed false (not cursor.may_be_bare) a)) b after y
@@ -48,7 +48,7 @@ pub data StepTo (t : List ℕ) (cursor : StreamCursor) (x : Documents) (a b : Pa
   bare_to : {start : ℕ} {y : Meaning} → cursor.may_be_bare ≡ true → ContentAt t cursor.at start → NodeDone t cursor.at (opened start false [] a) b after y
       → StepTo t cursor x a b after (followed x (one_document y.comments (document_of start false [] y)))
 
--- what has been read goes on
+-- the reading goes on
 pub record GoesOn (t : List ℕ) (cursor : StreamCursor) (x : Documents) (a b : Parts) (after : StreamCursor) : Type 0 where
   pub documents : Documents
   pub read : ReadUpto t after.may_be_bare after.at documents
@@ -119,7 +119,7 @@ module _ {t : List ℕ} (u : IsUtf8 t) where
   marked_too_deep : {p place : ℕ} {ds : List Directive} {a b : Parts} → MarkedRead t p ds a b (TooDeep place) → MarkedThrough t p → NoStream t × (DEPTH < openers t)
   marked_too_deep (too_deep_read s n o) m = (no_marked_document u n s m, o)
 
-  -- what is known of the place of the next document
+  -- facts about the offset of the next document
   module _ {f i : ℕ} (cursor : StreamCursor) {c d : List CommentValue} (pre : PrefixRead t f i cursor.at c d) (some : cursor.at ≢ length t) {x : Documents} (r : ReadUpto t cursor.may_be_bare cursor.at x) where
     begin_bare : cursor.may_be_bare ≡ true → ReadUpto t true cursor.at x
     begin_bare e = subst (λ b. ReadUpto t b cursor.at x) e r
@@ -184,7 +184,7 @@ module _ {t : List ℕ} (u : IsUtf8 t) where
     too_deep_there (after_directives q e d f g m) = marked_too_deep m (marked_after_directives u e d r.through)
     too_deep_there (without_dashes f q e m) = bare_too_deep f e m
 
--- the same from a cursor before comment lines and byte order marks on
+-- likewise from a cursor before comment lines and byte order marks
 pub cursor_on : {t : List ℕ} {c d : List CommentValue} {x : Documents} (cursor s : StreamCursor) → IsUtf8 t → s ≡ record cursor { at = s.at } → (r : PrefixRead t cursor.floor cursor.at s.at c d)
     → ReadUpto t cursor.may_be_bare cursor.at x → ReadUpto t s.may_be_bare s.at (followed x (only_comments r.upto.comments))
 cursor_on {t} {x = x} cursor s u e r g =

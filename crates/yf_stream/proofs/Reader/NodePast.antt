@@ -1,5 +1,5 @@
--- The reader of streams goes on after a document's node, as far as the longest node there goes. Each stream that is derived has a path there too:
--- its node is that one, with or without the comment lines after it.
+-- After a document's node the reader of streams goes on at the end of the longest node there. Each derived stream has a
+-- path there too: its node is that one, with or without the comment lines after it.
 use Rattle.std.proofs.Common.{◌≡◌, ℕ, ◌-ℤ◌, ℤ, pos, ◌≤◌, Bool, true, false, List, [], Option, Some, None, refl, sym, ap, ◌∙◌, subst, arith}
 use Rattle.std.proofs.lemmas.Int.{ints}
 use Rattle.std.specs.Str.{IsUtf8}
@@ -31,7 +31,7 @@ use Rattle.yf_stream.proofs.Uniqueness.Stable.{stable_nat}
 use Rattle.yf_stream.proofs.Uniqueness.StreamPath.{NodeTo, Settled}
 use Rattle.yf_grammar.proofs.BlockReader.BlockSound.{alone_nothing}
 
--- where what is found ends
+-- the end of an outcome
 abbrev end_of : ParsedNode → Option ParsedNode → ℕ
 end_of d None = d.end
 end_of d (Some f) = f.end
@@ -55,7 +55,7 @@ same_end {j = j} {k = k} {x = x} {y = y} a b =
     let m = a.longest k y b.derived in
     omega arith
 
--- what a reader finds whole is the longest part
+-- a whole outcome is the longest part
 module _ {t : List ℕ} (u : IsUtf8 t) {e p j : ℕ} {part : Part} (chosen : Chosen (BlockNodePart t e (pos 0 -ℤ pos 1) BlockIn p) j part) where
   found_end : {o : Option ParsedNode} {k : ℕ} (h : ℕ) (y : Meaning) → Whole t e (Awaited false (pos 0 -ℤ pos 1) BlockIn Nothing p) o → o ≡ found k h false y → j ≡ k
   unfolding found
@@ -100,7 +100,7 @@ module _ {t : List ℕ} (u : IsUtf8 t) {e p j : ℕ} {part : Part} (chosen : Cho
           fills = record { events = d.events; comments = d.comments; escapes = d.escapes };
         }
 
--- where no node is derived, there is none in a stream
+-- if no node is derived, no stream has one there
 pub no_node_to : {t : List ℕ} {e h p l : ℕ} {x : Meaning} → IsUtf8 t → Stuck (BlockNodePart t e (pos 0 -ℤ pos 1) BlockIn p) → h ≤ e → NodeTo t h p l x → ⊥
 no_node_to {h = h} u s w n =
     let y = n.meaning in
@@ -108,7 +108,7 @@ no_node_to {h = h} u s w n =
     s.none n.end (record { events = m.0; comments = y.comments; escapes = y.escapes })
     (record { height = h; meaning = y; derived = n.node.derived; within = w; clear = n.node.clear; events = m.1; comments = refl; escapes = refl })
 
--- where a line ends, and after its comment lines is what ends all nodes, no node is derived
+-- if `LinesEnd` holds after the end of a line and its comment lines, no node is derived
 module _ {t : List ℕ} where
   alone_none : {ws : List ℕ} {i : ℕ} {o : Option ParsedNode} → Alone t ws Nothing i o → o ≡ None
   alone_none (alone_to {k = k} {ds = ds} c) = alone_nothing k ds
@@ -133,7 +133,7 @@ module _ {t : List ℕ} where
       (halts_answered u e (pos 0 -ℤ pos 1) BlockIn Nothing p).held
       (λ o. (no_block_node_is_missed t e p (pos 0 -ℤ pos 1) BlockIn u (subst (λ w. Halts t e [] (Awaited false (pos 0 -ℤ pos 1) BlockIn Nothing p) w) (halts_none o.read f s z) o.read)).none j part d)
 
--- where the reader finds no node, or one after which neither comment lines nor what ends all nodes are, there is none in a stream
+-- if the reader finds no node, or neither comment lines nor `LinesEnd` follow its node, no stream has a node there
 module _ {t : List ℕ} (u : IsUtf8 t) {e h p l : ℕ} {x : Meaning} (n : NodeTo t h p l x) (ends : LinesEnd t l) (within : h ≤ e) where
   pub no_node_unread : {o : Option ParsedNode} → Whole t e (Awaited false (pos 0 -ℤ pos 1) BlockIn Nothing p) o → o ≡ None → ⊥
   no_node_unread r q = known_some (known_of u n ends within r) q

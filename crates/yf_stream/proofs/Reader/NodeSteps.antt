@@ -1,5 +1,5 @@
--- Past a document, or past the `---` of one, the paths of the streams go on from where the reader does; and where the reader of a document refuses,
--- no stream is derived within the limit of open collections.
+-- After a document, or after the `---` of one, the paths of the streams go on from the reader's offset. If the reader
+-- of a document refuses, no stream is derived within the limit of open collections.
 use Rattle.std.proofs.Common.{◌≡◌, ◌≢◌, ℕ, max, ◌+◌, ◌-ℤ◌, pos, ◌≤◌, Bool, false, List, [], ◌∷◌, ◌++◌, length, Some, refl, sym, ap, append-nil, ◌∙◌, subst, arith}
 use Rattle.std.specs.Str.{IsUtf8}
 use Rattle.yf_chars.specs.declared.context.Ctx.TheVariants.{BlockIn}
@@ -45,7 +45,7 @@ pub record MarkedAt (t : List ℕ) (p : ℕ) : Type 0 where
   pub first_within : first ≤ DEPTH
   pub others_within : others ≤ DEPTH
 
--- each stream that is derived has one there
+-- each derived stream has one there
 pub record MarkedThrough (t : List ℕ) (p : ℕ) : Type 0 where
   pub path : (h : ℕ) (x : Documents) → Stream t h x → h ≤ DEPTH → MarkedAt t p
 
@@ -125,7 +125,7 @@ module _ {t : List ℕ} where
         marked_step (λ q ds cs e. (same u r.last r.upto.longest e).place) a.within (at_percent c a.path);
   }
 
-  -- at a % with which no directive begins they do not end
+  -- directives do not end at a % that begins none
   none_to : {p j : ℕ} {ds : List Directive} {cs : List CommentValue} → Stuck (IsDirective t j) → DirectivesTo t j p ds cs → ⊥
   none_to s (last_to {l = l} {d = d} {cs = cs} a e) = s.none l (record { directives = d ∷ []; comments = cs }) a.line
   none_to s (more_to {k = l} {d = d} {cs = cs} a e r) = s.none l (record { directives = d ∷ []; comments = cs }) a.line
@@ -151,12 +151,12 @@ module _ {t : List ℕ} where
       let a = settled_here (percent_still c) (p.path h x d l) in
       nowhere (λ q ds cs r. no_end u e.percent e.none e.longest r) (at_percent c a.path)
 
-  -- after directives is a `---`
+  -- a `---` follows directives
   pub no_marker_there : {p : ℕ} → (ForbiddenLine t p → code t p ≡ 45 → ⊥) → MarkedThrough t p → NoStream t
   no_marker_there n m h x d l = let a = m.path h x d l in n a.marker a.dash
 
 module _ {t : List ℕ} where
-  -- where a line ends after each `...`, and none does there
+  -- a line ends after each `...` of a stream, but none ends there
   pub no_line_after_dots : {b : Bool} {k : ℕ} → Stuck (Row t k) → ForbiddenLine t k → code t k ≡ 46 → Stuck (LineEnd t (k + 3)) → PathsThrough t b k → NoStream t
   no_line_after_dots {k = k} s f e n p h x d l = go (settled_here s (p.path h x d l)).path where
     go : {b : Bool} {g : ℕ} {y : Documents} → Path t b g k y → ⊥
@@ -182,7 +182,7 @@ module _ {t : List ℕ} (u : IsUtf8 t) where
         record { place = a.end; comments = s.0; settled = s.1; goes = record { height = a.others; documents = a.rest; path = a.path; within = a.others_within } };
   }
 
-  -- past a `---` without a node: the line ends, and after it and its comment lines is what ends all nodes
+  -- past a `---` without a node: the line ends, and `LinesEnd` holds after it and its comment lines
   still_end : {p j : ℕ} {cs : List CommentValue} → Chosen (LineEnd t p) j cs → Stuck (Row t j)
   still_end c = record {
     none = λ k y r.
@@ -211,7 +211,7 @@ module _ {t : List ℕ} (u : IsUtf8 t) where
         (record { place = a.end; comments = r.0; settled = r.1; goes = record { height = a.others; documents = a.rest; path = a.path; within = a.others_within } });
   }
 
-  -- where no node of a stream's document is, and after a `---` something is
+  -- no node of a stream's document is there, and after a `---` something is
   no_node : {h k l : ℕ} {x : Meaning} → NoNode t k → NodeTo t h k l x → LinesEnd t l → h ≤ DEPTH → ⊥
   no_node (none_derived s) n z w = no_node_to u s w n
   no_node (none_found r) n z w = no_node_unread u n z w r refl

@@ -1,4 +1,5 @@
--- What can be on a path of a stream at a place, by what is in the text there. Where the reader of streams refuses, no path goes on.
+-- The possible next steps of a stream's path at an offset, from the text there. If the reader of streams refuses, no
+-- path goes on.
 use Rattle.std.proofs.Common.{◌≡◌, ◌≢◌, ℕ, max, ◌+◌, Bool, true, false, List, [], length, refl, sym, ◌∙◌, arith, true≢false}
 use Rattle.yf_chars.specs.Text.{code, next}
 use Rattle.yf_chars.specs.Chain.Chain.{done, step}
@@ -51,7 +52,7 @@ module _ {t : List ℕ} where
   content_not_at_end {k} e (content_at (by_whites (step (one w) c) l) n h) = let b = white_below (code t k) w in let g = end_code t e in absurd (omega arith)
   content_not_at_end {k} e (content_at (at_start s) n h) = let b = ns_below (code t k) n in let g = end_code t e in absurd (omega arith)
 
-  -- at the end of the text a path ends, and nothing is left on it
+  -- a path ends at the end of the text, with nothing left on it
   pub path_at_end : {b : Bool} {h k : ℕ} {x : Documents} → k ≡ length t → Path t b h k x → (h ≡ 0) × (x ≡ only_comments [])
   path_at_end e (path_ends q) = (refl, refl)
   path_at_end {k = k} e (path_mark m s p) = let n = end_code t e in absurd (omega arith)
@@ -60,7 +61,7 @@ module _ {t : List ℕ} where
   path_at_end {k = k} e (path_directives b c d y p m) = let n = end_code t e in absurd (omega arith)
   path_at_end e (path_bare b f c a n p) = absurd (content_not_at_end e a)
 
-  -- before a further document without `---`, where the one before has no `...`, there is no path
+  -- no path goes on at a further document without `---`, if the one before has no `...`
   pub no_path : {b : Bool} {h k : ℕ} {x : Documents} → b ≡ false → k ≢ length t → code t k ≢ 0xFEFF → (ForbiddenLine t k → ⊥) → Path t b h k x → ⊥
   no_path e n m f (path_ends q) = n q
   no_path e n m f (path_mark c s p) = m c
@@ -69,7 +70,7 @@ module _ {t : List ℕ} where
   no_path e n m f (path_directives b c d y p q) = true≢false (sym b ∙ e)
   no_path e n m f (path_bare b g c a y p) = true≢false (sym b ∙ e)
 
-  -- at a `---` a path goes on with its document, at a `...` after its lines
+  -- at a `---` a path continues with its document, at a `...` after its lines
   pub path_at_dash : {b : Bool} {h k : ℕ} {x : Documents} → ForbiddenLine t k → code t k ≡ 45 → Path t b h k x → ExplicitStep t h k x
   path_at_dash {k = k} f c (path_ends q) = let n = end_code t q in absurd (omega arith)
   path_at_dash f c (path_mark m s p) = absurd (omega arith)
@@ -96,7 +97,7 @@ module _ {t : List ℕ} where
   path_at_dots f c (path_directives b d e y p m) = absurd (omega arith)
   path_at_dots f c (path_bare b g d a y p) = absurd (g f)
 
-  -- at a byte order mark it goes on after it
+  -- at a byte order mark it continues after the mark
   pub path_at_mark : {b : Bool} {h k : ℕ} {x : Documents} → code t k ≡ 0xFEFF → Path t b h k x → MarkStep t b h k x
   path_at_mark {k = k} c (path_ends q) = let n = end_code t q in absurd (omega arith)
   path_at_mark c (path_mark {l = l} {es = es} {x = x} m s p) = record { end = l; comments = es; rest = x; settled = s; path = p; is = refl }

@@ -1,4 +1,5 @@
--- Each stream that is derived has a path through each place to which the reader of streams comes; so where none goes on, there is no stream.
+-- Each derived stream has a path through each offset that the reader of streams reaches. So if no path goes on there,
+-- no stream is derived.
 use Rattle.std.proofs.Common.{◌≡◌, ◌≢◌, ℕ, ◌+◌, ◌≤◌, Bool, true, false, List, length, refl, sym, subst}
 use Rattle.std.specs.Str.{IsUtf8}
 use Rattle.yf_chars.specs.Text.{code}
@@ -16,7 +17,7 @@ use Rattle.yf_stream.specs.StreamReader.{NoStream}
 use Rattle.yf_stream.proofs.Reader.PathLemmas.{no_path, path_at_dots, path_at_mark}
 use Rattle.yf_stream.proofs.Uniqueness.StreamPath.{Path, Settled, mark_still, stream_from}
 
--- within the limit of open collections, a path goes on from a place, or from the comment lines that begin there on
+-- within the limit of open collections, a path continues from an offset, or from the end of the comment lines there
 pub record PathAt (t : List ℕ) (b : Bool) (k : ℕ) : Type 0 where
   pub height : ℕ
   pub documents : Documents
@@ -29,7 +30,7 @@ pub record PathAfter (t : List ℕ) (b : Bool) (i : ℕ) : Type 0 where
   pub settled : Settled t i place comments
   pub goes : PathAt t b place
 
--- each stream that is derived has such a path there
+-- each derived stream has such a path there
 pub record PathsThrough (t : List ℕ) (b : Bool) (k : ℕ) : Type 0 where
   pub path : (h : ℕ) (x : Documents) → Stream t h x → h ≤ DEPTH → PathAfter t b k
 
@@ -65,7 +66,7 @@ module _ {t : List ℕ} where
   past_rows done p = p
   past_rows (step r c) p = past_rows c (past_row r p.settled.rows p.settled.last p.goes)
 
-  -- from the beginning of the text on, and after all that is before a document
+  -- from the beginning of the text on, and after all document prefixes
   pub paths_begin : IsUtf8 t → PathsThrough t true 0
   paths_begin u = record {
     path = λ h x d l.
@@ -86,10 +87,10 @@ module _ {t : List ℕ} where
       → PathsThrough t true j
   paths_past_dots s f e d p = record { path = λ h x r l. dots_path f e (line_end_rows d) (settled_here s (p.path h x r l)) }
 
-  -- where no path goes on from the place of the reader, no stream is derived within the limit
+  -- if no path goes on from the reader's offset, no stream is derived within the limit
   pub no_stream_from : {b : Bool} {k : ℕ} → Stuck (Row t k) → (PathAt t b k → ⊥) → PathsThrough t b k → NoStream t
   no_stream_from s n p h x d l = n (settled_here s (p.path h x d l))
 
-  -- so it is where the reader stops since a document without `---` would follow another one
+  -- so no stream is derived if the reader stops since a document without `---` would follow another one
   pub no_second_bare : {f i k : ℕ} {c d : List CommentValue} → PrefixRead t f i k c d → k ≢ length t → (ForbiddenLine t k → ⊥) → PathsThrough t false k → NoStream t
   no_second_bare r n f p = no_stream_from r.no_row (λ a. no_path refl n r.no_mark f a.path) p

@@ -1,4 +1,4 @@
--- The lines before a document, as a reader passes them, and the comments that it keeps.
+-- The lines before a document as a reader passes them, and the comments that it keeps.
 use Rattle.std.proofs.Common.{◌≡◌, ◌≢◌, ℕ, ◌+◌, ◌<◌, ◌≤◌, Bool, List, [], ◌∷◌, ◌++◌, length, map, drop, inl, ⊎_elim, refl, sym, ap, ◌∙◌, subst, arith, append_assoc, append-nil}
 use Rattle.std.proofs.lemmas.List.{drop_all, drop_more}
 use Rattle.std.specs.Prelude.{slice_index_or}
@@ -41,7 +41,7 @@ kept_join {a = a} k l = record {
   list = l.list ∙ ap (λ z. z ++ l.noted) k.list ∙ append_assoc a k.noted l.noted;
 }
 
--- of all comments some have been kept, and the others are left
+-- some of all comments have been kept, and the others are left
 pub record KeptUpto (t : List ℕ) (f : ℕ) (all a b left : List CommentValue) : Type 0 where
   pub some : List CommentValue
   pub kept : CommentsAdded t f some a b
@@ -94,7 +94,7 @@ module _ {t : List ℕ} where
     later (mark_row {i = i} e) = next_later t i
     later (line_row r) = r.later
 
-  -- a line's end that goes nowhere, or none
+  -- an empty line end, or none
   pub still_row : {i : ℕ} {x : List CommentValue} → Chosen (LineEnd t i) i x → Stuck (Row t i)
   still_row {i} c = record { none = λ j y r. let l = c.longest j y (rows_line_end (chain_one r) r.later) in let m = r.later in absurd (omega arith) }
 
@@ -126,7 +126,7 @@ module _ {t : List ℕ} where
     no_row = still_row (subst (λ z. Chosen (LineEnd t j) z cs) e d);
   }
 
-  -- at the start of a line or at the end of the text they are what is before a document: l-document-prefix, as often as it goes
+  -- at the start of a line or at the end of the text they are a run of l-document-prefix
   part_rows : {i j : ℕ} {cs : List CommentValue} → PrefixPart t i j cs → Chain (PrefixRow t) i j cs
   part_rows (order_mark e) = chain_one (mark_row e)
   part_rows (prefix_comment c) = rows_prefix (lines_rows (chain_one c))
@@ -143,7 +143,7 @@ module _ {t : List ℕ} where
   row_next l (mark_row e) = inl (after_mark l e)
   row_next l (line_row r) = rest_next r.rest
 
-  -- they are what the reader passes
+  -- the reader passes them
   pub rows_parts : {i j : ℕ} {cs : List CommentValue} → LineOrEnd t i → Chain (PrefixRow t) i j cs → Prefixes t i j cs
   rows_parts l done = done
   rows_parts {i} l (step r c) = ⊎_elim

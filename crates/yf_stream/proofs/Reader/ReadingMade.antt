@@ -1,5 +1,5 @@
--- Where the parts that were read are those of the one stream of a text, the lists that are made of them are its reading, and the first breach in
--- them is the text's.
+-- If the parts that were read are those of the one stream of a text, the lists that are made of them are its reading,
+-- and the first breach in them is the text's.
 use Rattle.std.proofs.Common.{◌≡◌, ℕ, Bool, List, [], ◌∷◌, ◌++◌, map, flat_map, length, None, Some, sym, ap, ◌∙◌, subst}
 use Rattle.std.specs.Str.{IsUtf8}
 use Rattle.yf_lines.specs.FaultPlaces.{IsPlaceOf}
@@ -47,12 +47,12 @@ module _ {t : List ℕ} (u : IsUtf8 t) {x : Documents} (s : Shapes t x) {p : Par
       (subst (λ z. IsFirst (stream_breaches z p.part.events (flat_map (λ (d : Document). d.escapes) x.documents)) b) w.documents
       (subst (λ z. IsFirst (stream_breaches p.documents p.part.events z) b) w.escapes f))
 
-  -- a fault that tells of it, at its place, is the one with which the text is to be refused
+  -- the fault of that breach, at its position, is a `StreamFault` of the text
   pub breach_told : {b : Breach} {place : Position} {fault : Fault} → IsFirst (stream_breaches p.documents p.part.events p.part.escapes) b
       → IsPlaceOf t b.offset place → fault ≡ fault_of b.kind place → StreamFault t fault
   breach_told f at e = breached s (first_breach f) at e
 
-  -- where there is none, the lists are the reading
+  -- without a breach, the lists are the reading
   module _ {r : Lists} (n : ListsOf t p r) where
     no_breach : breaches x.documents ≡ []
     no_breach =

@@ -1,4 +1,4 @@
--- A stream is derived step by step: from a place on, what is derived of the rest of the text is derived with the part before it as well.
+-- A stream is derived step by step: a derivation of the rest of the text extends to one with the part before it.
 use Rattle.std.proofs.Common.{◌≡◌, ℕ, max, ◌+◌, Bool, true, false, List, [], ◌++◌, refl, sym, ap, ◌∙◌, subst, append_assoc, append-nil, true≢false}
 use Rattle.yf_chars.specs.Chain.Chain.{done, step}
 use Rattle.yf_chars.proofs.ChainLemmas.{chain_more}
@@ -12,7 +12,7 @@ use Rattle.yf_stream.specs.Stream.StreamRest.{past_explicit, past_prefix, past_s
 use Rattle.yf_stream.specs.Stream.Suffixes.{last_suffix}
 use Rattle.yf_stream.proofs.Uniqueness.StreamPath.{before_document, comments_join, no_comments}
 
--- the rest of a stream from a place on; the flag says that a document without `---` or with directives may be there
+-- the rest of a stream from an offset on; the flag means that a document without `---` or with directives may be there
 pub data StreamFrom (t : List ℕ) : Bool → ℕ → ℕ → Documents → Type 0 where
   as_rest : {b : Bool} {h k : ℕ} {x : Documents} → StreamRest t h k x → StreamFrom t b h k x
   any_document : {h g k j : ℕ} {cs : List CommentValue} {d : Document} {x : Documents} → AnyDocument t h k j d cs → StreamRest t g j x
@@ -28,7 +28,7 @@ module _ {t : List ℕ} where
   from_prefixes {b} {h} {k} {x = x} (step {x = cs} {y = ds} s p) r =
       subst (λ w. StreamFrom t b h k w) (comments_join cs ds x) (past_part s (from_prefixes p r))
 
-  -- where no document without `---` may be, it is the rest of a stream
+  -- if no document without `---` may be there, it is the rest of a stream
   rest_if : {b : Bool} {h k : ℕ} {x : Documents} → b ≡ false → StreamFrom t b h k x → StreamRest t h k x
   rest_if e (as_rest r) = r
   rest_if e (any_document d r) = absurd (true≢false e)
@@ -52,7 +52,7 @@ module _ {t : List ℕ} where
   from_suffix {b} {h} {k} {cs = cs} {x = x} m d r =
       subst (λ w. StreamFrom t b h k (with_comments w x)) (append-nil cs) (as_rest (after_suffixes (last_suffix m d) done r))
 
-  -- after a document that begins with `---`, and after any document where one may be
+  -- after a document that begins with `---`, and after any document if one may be there
   pub from_explicit : {b : Bool} {h g k j : ℕ} {x : Meaning} {rest : Documents} → ExplicitNode t h k j x → StreamFrom t false g j rest
       → StreamFrom t b (max h g) k (with_document x.comments (document_of k true [] x) rest)
   from_explicit e r = as_rest (past_explicit e (rest_if refl r))
@@ -61,7 +61,7 @@ module _ {t : List ℕ} where
       → StreamFrom t true (max h g) k (with_document cs d rest)
   from_document d r = any_document d (rest_if refl r)
 
-  -- from the beginning of the text on, all of it
+  -- the whole stream, from the beginning of the text on
   after_prefixes : {b : Bool} {h i : ℕ} {cs : List CommentValue} {x : Documents} → Prefixes t 0 i cs → StreamFrom t b h i x → Stream t h (with_comments cs x)
   after_prefixes p (as_rest r) = without_document p r
   after_prefixes {cs = cs} p (any_document {h = h} {g = g} {cs = es} {d = d} {x = x} a r) =

@@ -1,5 +1,5 @@
--- What has been read of a stream up to a place. Whatever is derived of the rest of the text there makes a stream with it, and each stream that is
--- derived has a path there; so at the end of the text what has been read is its one shape.
+-- The part of a stream that has been read up to an offset. Each derivation of the rest of the text makes a stream with
+-- it, and each derived stream has a path there. So at the end of the text this part is the text's one shape.
 use Rattle.std.proofs.Common.{◌≡◌, ℕ, max, ◌+◌, ◌≤◌, Bool, true, false, inl, List, [], ◌∷◌, ◌++◌, length, refl, sym, ap, ◌∙◌, subst, arith, append_assoc, append-nil, true≢false}
 use Rattle.std.specs.Str.{IsUtf8}
 use Rattle.yf_chars.specs.Text.{code}
@@ -30,7 +30,7 @@ followed x y = record { documents = x.documents ++ y.documents; comments = x.com
 abbrev pub one_document : List CommentValue → Document → Documents
 one_document cs d = record { documents = d ∷ []; comments = cs }
 
--- the flag says that a document without `---` or with directives may be there
+-- the flag means that a document without `---` or with directives may be there
 pub record ReadUpto (t : List ℕ) (b : Bool) (k : ℕ) (x : Documents) : Type 0 where
   pub height : ℕ
   pub within : height ≤ DEPTH

@@ -1,4 +1,4 @@
--- The empty text: whatever is derived of it is the stream without documents and comments, so it has one shape.
+-- The empty text: each derivation of it is the stream without documents and comments, so it has one shape.
 use Rattle.std.proofs.Common.{◌≡◌, ℕ, ◌<◌, true, List, [], ◌++◌, refl, sym, ap, ◌∙◌, arith}
 use Rattle.std.proofs.lemmas.Bool.{true≢false}
 use Rattle.yf_chars.specs.Text.{code, no_char}
@@ -27,7 +27,7 @@ use Rattle.yf_stream.specs.Stream.StreamRest.{past_explicit, past_prefix, past_s
 use Rattle.yf_stream.specs.Stream.Suffixes.{last_suffix, more_suffixes}
 use Rattle.yf_stream.specs.WellFormed.{ReadsWithoutBreach, Shapes}
 
--- no character is anywhere
+-- the text has no character
 no_code : (i : ℕ) → code [] i ≡ no_char
 no_code i = code-past [] i (omega arith)
 
@@ -64,7 +64,7 @@ end_stays (by_end e) = refl
 no_text : {i j : ℕ} {x : List CommentValue} → CommentText [] i j x → ⊥
 no_text (comment_text p c n) = not_char _ 35 (omega arith) p
 
--- what is between documents
+-- document prefixes are empty
 record Stays (i j : ℕ) (cs : List CommentValue) : Type 0 where
   end : j ≡ i
   none : cs ≡ []
@@ -83,7 +83,7 @@ prefix_stays (step {x = x} {y = y} p c) =
     let a = part_stays p in let b = prefix_stays c in
     record { end = b.end ∙ a.end; none = ap (λ w. w ++ y) a.none ∙ b.none }
 
--- there are no documents, and no ends of documents
+-- neither documents nor ends of documents are derived
 no_explicit : {h i j : ℕ} {x : _} → ExplicitNode [] h i j x → ⊥
 no_explicit (marked_node m b) = no_three _ 45 (omega arith) m
 no_explicit (marked_nothing m e) = no_three _ 45 (omega arith) m

@@ -1,4 +1,4 @@
--- The text of a sequence of one word and a comment line: whoever takes the comment, it is one stream.
+-- The text of a sequence of one word and a comment line: whichever part takes the comment, it is one stream.
 use Rattle.std.proofs.Common.{◌≡◌, ◌≢◌, ℕ, ℤ, ◌+◌, ◌+ℤ◌, ◌<◌, ◌≤◌, Bool, true, false, List, [], ◌∷◌, ◌++◌, None, refl, sym, ap, ◌∙◌, inr, ⊎_elim, pos, arith, subst}
 use Rattle.std.proofs.lemmas.Bool.{true≢false, cases_eq}
 use Rattle.std.specs.Str.{chars}

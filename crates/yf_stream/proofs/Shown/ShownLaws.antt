@@ -1,4 +1,4 @@
--- A small text of two documents: that what is derived of it is its one shape takes no look at other derivations, the law says so.
+-- A small text of two documents: the law gives its one shape from one derivation, without a look at other ones.
 use Rattle.std.proofs.Common.{ℕ, suc, zero, true, List, [], ◌∷◌, codes, refl, arith}
 use Rattle.std.proofs.lemmas.Str.{IsUtf8-from_ascii}
 use Rattle.yf_chars.specs.Text.{begins, code}

@@ -1,5 +1,5 @@
--- The texts of a `---` line and a comment line, with a word after the marker and without: whoever takes the comment, and whether the
--- document counts as the first or as a further one, it is one stream.
+-- The texts of a `---` line and a comment line, with a word after the marker and without: whichever part takes the
+-- comment, and whether the document counts as the first or as a further one, it is one stream.
 use Rattle.std.proofs.Common.{◌≡◌, ℕ, ℤ, ◌+◌, ◌<◌, ◌≤◌, true, false, List, [], ◌∷◌, ◌++◌, refl, sym, ap, ◌∙◌, ◌⊎◌, inl, inr, arith, subst, append_assoc}
 use Rattle.std.proofs.lemmas.Bool.{true≢false}
 use Rattle.std.specs.Str.{chars}
@@ -55,7 +55,7 @@ one_marked m remark = record { documents = document_of 0 true [] m ∷ []; comme
 
 module _ {t : List ℕ} {p e d : ℕ} {remark : CommentValue} (o : OneComment t p e d remark) (m : Meaning) (later : 0 < p) (fence : ForbiddenLine t 0) (seen : Visible t 0)
     (node_is : (h j : ℕ) (x : Meaning) → ExplicitNode t h 0 j x → Marked p d remark m j x) where
-  -- what follows the start of the text
+  -- the text after the start
   record From (i : ℕ) (x : Documents) : Type 0 where
     documents : x.documents ≡ document_of 0 true [] m ∷ []
     comments : x.comments ≡ kept p remark i
@@ -172,7 +172,7 @@ marker_fence : ForbiddenLine marker_then_comment 0
 unfolding code begins chars is_marker is_three is_white_or_end is_white is_break_char
 marker_fence = record { start = at_text; marker = refl }
 
--- where a line may end after the marker; there is no white space, and no node begins
+-- the possible ends of lines after the marker; no white space is there, and no node begins
 marker_places : {i j : ℕ} {cs : List CommentValue} → (i ≡ 3) ⊎ ((i ≡ 4) ⊎ (i ≡ 8)) → Chain (Row marker_then_comment) i j cs → (j ≡ 3) ⊎ ((j ≡ 4) ⊎ (j ≡ 8))
 marker_places a done = a
 marker_places {i} a (step {h = h} {x = x} r c) = marker_places (inr (row a)) c where

@@ -1,5 +1,5 @@
--- Further small streams, derived in each way: a comment line after a block collection, after a node on the line of a marker, and
--- after a marker alone.
+-- Further small streams, derived in each way: a comment line after a block collection, after a node on the line of a
+-- marker, and after a marker without a node.
 use Rattle.std.proofs.Common.{ℕ, ◌-ℤ◌, pos, true, false, List, [], ◌∷◌, None, codes, refl, arith}
 use Rattle.std.specs.Str.{chars}
 use Rattle.yf_chars.specs.declared.context.Ctx.TheVariants.{FlowOut}

@@ -1,4 +1,5 @@
--- Small texts with one comment, on a line of its own, and without other signs than dashes: each part takes the comments that begin in it.
+-- Small texts with one comment, on a line of its own, and without other signs than dashes: each part takes the comments
+-- that begin in it.
 use Rattle.std.proofs.Common.{◌≡◌, ◌≢◌, ℕ, ℤ, ◌+◌, ◌<◌, ◌≤◌, Bool, true, false, not, ◌&&◌, ◌||◌, ◌==◌, List, [], ◌∷◌, ◌++◌, length, refl, sym, ap, ◌∙◌, ⊎_elim, arith, subst, append_assoc}
 use Rattle.std.proofs.lemmas.Bool.{true≢false, cases_lt, lt-ltb, le-ltb, ltb-true, and_parts, eqb-true, eq-eqb}
 use Rattle.std.specs.Prelude.{if◌then◌else◌, nat_lt}
@@ -33,7 +34,7 @@ use Rattle.yf_stream.proofs.Shown.ShownParts.{all_at, holds_at}
 use Rattle.yf_stream.proofs.Shown.ShownPlain.{explicit_dash, is_sign, no_suffix}
 use Rattle.yf_chars.proofs.CharFacts.{feed_no_ns, hash_ns}
 
--- the characters: one # at p, dashes before d alone, no other sign and no byte order mark
+-- the characters: a # only at p, dashes only before d, no other sign and no byte order mark
 unfoldable pub is_simple : ℕ → ℕ → ℕ → ℕ → Bool
 is_simple p d i c = (not (is_sign c) && not (c == 0xFEFF)) && ((not (c == 45) || nat_lt i d) && (not (c == 35) || (i == p)))
 
@@ -105,7 +106,7 @@ pub record OneComment (t : List ℕ) (p e d : ℕ) (remark : CommentValue) : Typ
   pub sign : code t p ≡ 35
   pub later : p < e
 
--- the comments that begin at the place or after it
+-- the comments that begin at the offset or after it
 unfoldable pub kept : ℕ → CommentValue → ℕ → List CommentValue
 kept p remark i = if nat_lt p i then [] else remark ∷ []
 
@@ -115,7 +116,7 @@ pub record Takes (p : ℕ) (remark : CommentValue) (i j : ℕ) (cs : List Commen
 pub takes_two : {p : ℕ} {remark : CommentValue} {i k j : ℕ} {x y : List CommentValue} → Takes p remark i k x → Takes p remark k j y → Takes p remark i j (x ++ y)
 takes_two {p} {remark} {j = j} {x = x} {y = y} a b = record { taken = append_assoc x y (kept p remark j) ∙ ap (λ w. x ++ w) b.taken ∙ a.taken }
 
--- it is on neither side of the comment's beginning alone
+-- the part is on one side of the comment's start
 pub same_side : {p : ℕ} (remark : CommentValue) {i j : ℕ} → i ≤ j → (i ≤ p → j ≤ p) → Takes p remark i j []
 unfolding kept
 same_side {p} remark {i} {j} l f = record { taken = ⊎_elim after before (cases_lt p i) } where
@@ -214,7 +215,7 @@ module _ {t : List ℕ} {p e d : ℕ} {remark : CommentValue} (o : OneComment t 
   prefix_forward (step (order_mark f) c) = absurd (o.chars.mark _ f)
   prefix_forward (step (prefix_comment q) c) = let a = line_forward q in let b = prefix_forward c in omega arith
 
-  -- comment lines pass no character of content but of the comment
+  -- comment lines pass no character of content except the comment's
   module _ {r : ℕ} (content : is_ns_char (code t r) ≡ true) (apart : p ≤ r → e ≤ r) where
     pub separation_side : {i j : ℕ} → SeparateInLine t i j → i ≤ r → j ≤ r
     separation_side s l = whites_side t r content (separate_whites s).1 l
@@ -232,7 +233,7 @@ module _ {t : List ℕ} {p e d : ℕ} {remark : CommentValue} (o : OneComment t 
     prefix_side done l = l
     prefix_side (step q c) l = prefix_side c (part_side q l)
 
-  -- after a place after all dashes no document begins, and the comment is taken that is still to come
+  -- after all dashes no document begins, and the comments still ahead are taken
   pub record Rest (i : ℕ) (x : Documents) : Type 0 where
     pub documents : x.documents ≡ []
     pub comments : x.comments ≡ kept p remark i

@@ -1,4 +1,5 @@
--- The texts of one word and one comment line: whoever takes the comment, it is one stream, so each has one shape.
+-- The texts of one word and one comment line: whichever part takes the comment, it is one stream, so each has one
+-- shape.
 use Rattle.std.proofs.Common.{◌≡◌, ◌≢◌, ℕ, ℤ, pos, ◌+◌, ◌+ℤ◌, ◌-ℤ◌, ◌<◌, ◌≤◌, false, List, [], ◌∷◌, ◌++◌, refl, sym, ap, ◌∙◌, ◌⊎◌, inl, inr, ⊎_elim, arith, subst}
 use Rattle.std.proofs.lemmas.Bool.{cases_lt}
 use Rattle.std.specs.Str.{chars}
@@ -87,7 +88,7 @@ module _ {t : List ℕ} {p e q : ℕ} {remark : CommentValue} (o : OneComment t 
   document_is f (explicit_document d) = absurd (no_explicit t o.chars.sign no_dash d)
   document_is f (directive_document d x) = absurd (no_directive t o.chars.sign d)
 
-  -- what follows the document begins after the word
+  -- the text after the document begins after the word
   rest_later : {h i : ℕ} {x : Documents} → StreamRest t h i x → q < i
   rest_later stream_ended = before_end o q 97 w.word (omega arith)
   rest_later {i = i} (past_prefix f r) =
@@ -162,7 +163,7 @@ comment_then_word_seen : Visible comment_then_word 4
 unfolding code begins chars is_ns_char is_nb_char is_printable is_break_char is_between is_white
 comment_then_word_seen = record { ns = refl; no_hash = λ e. omega (arith, e) }
 
--- at the start of the text is no white space, and no line ends
+-- no white space is at the start of the text, and no line ends there
 comment_then_word_still : {k : ℕ} → SeparateInLine comment_then_word 0 k → k ≡ 0
 unfolding code begins chars is_white
 comment_then_word_still s = whites_stay refl (separate_whites s).1

@@ -1,4 +1,4 @@
--- Parts of small streams: places without a document marker, comments that follow no blank line.
+-- Parts of small streams: offsets without a document marker, comments that follow no blank line.
 use Rattle.std.proofs.Common.{◌≡◌, ◌≢◌, ℕ, zero, suc, ◌+◌, ◌<◌, ◌≤◌, Bool, true, false, not, ◌&&◌, ◌||◌, ◌==◌, List, refl, sym, ap, ◌∙◌, ◌⊎◌, inl, inr, ⊎_elim, arith}
 use Rattle.std.proofs.lemmas.Bool.{true≢false, eqb-true, cases_Bool, cases_eq, and_parts}
 use Rattle.yf_chars.specs.Text.{code, next}
@@ -16,13 +16,13 @@ use Rattle.yf_comments.specs.Comments.HasBlankNote.{not_noted}
 pub clear_one : (t : List ℕ) (i : ℕ) → is_marker t i ≡ false → Clear t i (i + 1)
 clear_one t i e = record { none = λ h l m f. let same : h ≡ i = omega arith in true≢false (sym f.marker ∙ ap (is_marker t) same ∙ e) }
 
--- where a break begins that ends at the offset
+-- the start of a break that ends at the offset
 break_at : {t : List ℕ} {i j : ℕ} → Break t i j → ((i + 1 ≡ j) × ((code t i ≡ 10) ⊎ (code t i ≡ 13))) ⊎ ((i + 2 ≡ j) × ((code t i ≡ 13) × (code t (i + 1) ≡ 10)))
 break_at (cr_lf p q) = inr (refl, (p, q))
 break_at (lone_cr p q) = inl (refl, inr p)
 break_at (lone_lf p q) = inl (refl, inl p)
 
--- a character of a gap takes one byte, or is a mark
+-- a character of a gap has one byte, or is a mark
 gap_at : (t : List ℕ) (i : ℕ) → is_gap (code t i) ≡ true → (next t i ≡ i + 1) ⊎ (code t i ≡ 0xFEFF)
 unfolding is_gap is_break_char
 gap_at t i e = ⊎_elim (λ (w : is_white (code t i) ≡ true). inl (next_ascii t i (white_below _ w))) others (cases_Bool (is_white (code t i))) where
@@ -34,7 +34,7 @@ gap_at t i e = ⊎_elim (λ (w : is_white (code t i) ≡ true). inl (next_ascii 
   others w = ⊎_elim (λ (b : (code t i == 10) || (code t i == 13) ≡ true). inl (breaks b))
       (λ (b : (code t i == 10) || (code t i == 13) ≡ false). inr (eqb-true (code t i) 0xFEFF (rw (w, b) at e))) (cases_Bool ((code t i == 10) || (code t i == 13)))
 
--- a comment at the start of the text, or after a line that ends with the character at p, which is none of a gap, and a line
+-- a comment at the start of the text, or after a line that ends with the character at p, which is no gap, and a line
 -- feed; no mark is near
 module _ (t : List ℕ) where
   at_front : {j : ℕ} → j ≡ 0 → BlankBefore t j → ⊥
@@ -99,7 +99,7 @@ no_mark t (suc n) i e l h = ⊎_elim here (λ (m : i ≡ n → ⊥). further (om
   further m before = ⊎_elim (λ (b : (code t n == 0xFEFF) ≡ true). true≢false (sym e ∙ rw b refl))
       (λ (b : (code t n == 0xFEFF) ≡ false). before (rw b at e) m h) (cases_Bool (code t n == 0xFEFF))
 
--- of the first n offsets each it holds, with the code there
+-- it holds for each of the first n offsets, with the code there
 unfoldable pub all_at : (ℕ → ℕ → Bool) → List ℕ → ℕ → Bool
 all_at f t zero = true
 all_at f t (suc n) = f n (code t n) && all_at f t n

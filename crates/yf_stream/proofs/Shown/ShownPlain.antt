@@ -22,7 +22,8 @@ use Rattle.yf_stream.specs.Stream.DirectiveLines.{last_directive, more_directive
 use Rattle.yf_stream.specs.Stream.ExplicitNode.{marked_node, marked_nothing}
 use Rattle.yf_stream.specs.Stream.Suffixes.{last_suffix, more_suffixes}
 
--- the characters that begin pairs, block scalars, quoted scalars, flow collections, aliases, properties, directives and `...`
+-- the characters that begin pairs, block scalars, quoted scalars, flow collections, aliases, properties, directives and
+-- `...`
 unfoldable pub is_sign : ℕ → Bool
 is_sign c = (c == 63) || (c == 58) || (c == 124) || (c == 62) || (c == 91) || (c == 123) || (c == 39) || (c == 34) || (c == 42) || (c == 38) || (c == 33) || (c == 37) || (c == 46)
 
@@ -97,7 +98,7 @@ pub explicit_dash : {t : List ℕ} {h i j : ℕ} {x : Meaning} → ExplicitNode 
 explicit_dash (marked_node m b) = m
 explicit_dash (marked_nothing m e) = m
 
--- without dashes there are no block collections and no `---`
+-- without dashes, neither block collections nor a `---` are derived
 module _ (t : List ℕ) (none : (i c : ℕ) → is_sign c ≡ true → code t i ≡ c → ⊥) (no_dash : (i : ℕ) → code t i ≢ 45) where
   pub no_entries : {h m i j : ℕ} {s : Bool} {x : Meaning} → Derives t h (BlockEntries s m) i j x → ⊥
   no_entries {i = i} d = no_dash i (entries_dash t none d)

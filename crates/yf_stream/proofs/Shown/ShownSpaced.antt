@@ -42,7 +42,7 @@ module _ {t : List ℕ} {p e d : ℕ} {remark : CommentValue} (o : OneComment t 
   pub word_takes : {q : ℕ} → WordAt t q → Takes p remark q (q + 1) []
   word_takes w = same_side remark (omega arith) (λ l. let f = other_place w in omega (arith, f))
 
-  -- at g a space is that begins no line, and all dashes are before it
+  -- a space that begins no line is at g, and all dashes are before it
   module _ (g : ℕ) (w : WordAt t (g + 1)) (seen : Visible t (g + 1)) (space : code t g ≡ 32) (dashes : d ≤ g) (some : g ≢ 0)
       (solid : code t (g - 1) ≢ 10) (other : code t (g - 1) ≢ 13) where
     inner : LineStart t g → ⊥

@@ -1,5 +1,5 @@
--- Small streams, derived in each way: a comment line may be taken by the node before it or by what is between documents, and
--- the stream means the same.
+-- Small streams, derived in each way: the node before a comment line may take it, or the prefix of the next document,
+-- and both streams have one meaning.
 use Rattle.std.proofs.Common.{ℕ, ◌+◌, ◌-ℤ◌, pos, ◌<◌, false, List, [], ◌∷◌, codes, refl, sym, arith}
 use Rattle.std.proofs.lemmas.Bool.{true≢false}
 use Rattle.std.specs.Str.{chars}

@@ -1,4 +1,4 @@
--- The text of one word: whatever is derived of it is the stream of that word, so it has one shape.
+-- The text of one word: each derivation of it is the stream of that word, so it has one shape.
 use Rattle.std.proofs.Common.{◌≡◌, ◌≢◌, ℕ, zero, suc, ℤ, pos, ◌-ℤ◌, ◌<◌, ◌≤◌, Bool, true, false, List, [], ◌∷◌, ◌++◌, codes, refl, sym, ap, ◌∙◌, ◌⊎◌, inl, inr, ⊎_elim, arith, subst}
 use Rattle.std.proofs.lemmas.Bool.{true≢false}
 use Rattle.std.specs.Str.{chars}
@@ -97,7 +97,7 @@ record Stays (i j : ℕ) (cs : List CommentValue) : Type 0 where
   end : j ≡ i
   none : cs ≡ []
 
--- what ends a line is at the end alone
+-- a line ends only at the end
 record Ends (i j : ℕ) (cs : List CommentValue) : Type 0 where
   stays : Stays i j cs
   there : i ≡ 1
@@ -198,7 +198,7 @@ block_is z (flow_in_block {cs = cs} {ds = ds} {x = x} b s d l) =
     let a = separate_stays s in let e = end_stays l in let w = flow_is (a.end ∙ z) d in
     record { end = e.end ∙ w.end; means = rw (a.none, e.none, w.means) refl }
 
--- what is between documents
+-- document prefixes
 part_stays : {i j : ℕ} {cs : List CommentValue} → PrefixPart word i j cs → Ends i j cs
 part_stays (order_mark e) = absurd (not_char _ 0xFEFF (λ e. omega arith) (omega arith) e)
 part_stays (prefix_comment c) = line_ends c
@@ -221,7 +221,7 @@ document_is z (bare_document {x = x} b (content_at {k = k} s n c)) =
 document_is z (explicit_document e) = absurd (no_explicit word no_sign no_dash e)
 document_is z (directive_document d e) = absurd (no_directive word no_sign d)
 
--- what follows, at the end; nothing else follows the start
+-- the rest of the stream, at the end; nothing else follows the start
 rest_is : {h i : ℕ} {x : Documents} → StreamRest word h i x → (i ≡ 1) × (x ≡ only_comments [])
 unfolding with_comments
 rest_is stream_ended = (refl, refl)

@@ -1,4 +1,5 @@
--- In small texts a word `a` that ends its line, where nothing or a comment follows: as a flow node it is one plain scalar, however derived.
+-- In small texts, a word `a` that ends its line, before nothing or a comment: as a flow node it is one plain scalar,
+-- however derived.
 use Rattle.std.proofs.Common.{◌≡◌, ℕ, ℤ, ◌+◌, Bool, true, false, List, [], ◌∷◌, codes, refl, sym, ap, ◌∙◌, ◌⊎◌, ⊎_elim, arith, subst}
 use Rattle.std.proofs.lemmas.Bool.{true≢false}
 use Rattle.yf_chars.specs.declared.context.Ctx.{Ctx}

@@ -1,4 +1,4 @@
--- A run of events that have nothing that is to be noted, and what has been gone past before it and with it.
+-- A run of events that name nothing, and the events passed before it and with it.
 use Rattle.std.proofs.Common.{◌≡◌, ℕ, zero, suc, ◌+◌, ◌≤◌, ◌<◌, false, List, [], ◌∷◌, ◌++◌, Option, None, drop, length, refl, sym, ap, ◌∙◌, subst, arith, append_assoc, append-nil, replicate}
 use Rattle.yf_props.specs.Handles.{Declaration}
 use Rattle.yf_events.specs.Event.{EventValue, EventInText, alias_node, document_ends, document_starts, mapping_ends, mapping_starts, scalar_node, sequence_ends, sequence_starts, stream_ends, stream_starts}

@@ -1,4 +1,4 @@
--- Looking handles up: what is found among declarations after one more.
+-- Handles looked up among declarations after one more.
 use Rattle.std.proofs.Common.{◌≡◌, ℕ, ◌+◌, ◌<◌, Bool, true, false, cond, List, [], ◌∷◌, ◌++◌, length, map, Option, Some, None, refl, sym, ap, ◌∙◌, subst, arith, true≢false, is_none, is_some, not, if◌then◌else◌}
 use Rattle.std.specs.Option.{unwrap_or}
 use Rattle.std.proofs.lemmas.List.{length-map}
@@ -21,14 +21,14 @@ use Rattle.yf_stream.specs.TagPass.{SameDeclarations}
 use Rattle.yf_stream.specs.WellFormed.{is_unknown, offset_or, with_declaration}
 use Rattle.yf_stream.proofs.TagPass.NameSets.{bytes_itself, bytes_turned, same_bytes}
 
--- one declaration more is found, and the others as before
+-- one more declaration is found, and the others as before
 pub record Declares (a b : List Declaration) (handle prefix : List ℕ) : Type 0 where
   pub found : (h : List ℕ) → declared_prefix b h ≡ cond (bytes_eq handle h) (Some prefix) (declared_prefix a h)
 
 abbrev Entries : Type 0
 Entries = List (Bor (List ℕ) × Bor (List ℕ))
 
--- as a `BTreeMap` looks for a handle
+-- the look-up of a handle in a `BTreeMap`
 by_order : (es : Entries) (h : List ℕ) → lookup (is_at (λ (k : Bor (List ℕ)). slice_cmp nat_cmp h k.now)) es ≡ lookup (λ (k : Bor (List ℕ)). bytes_eq h k.now) es
 by_order [] h = refl
 by_order (e ∷ es) h =
@@ -64,7 +64,7 @@ declares_by_order a b k v f = record {
 pub not_declared : (ds : List Declaration) (h : List ℕ) → is_declared ds h ≡ false → declared_prefix ds h ≡ None
 not_declared ds h e = none_there (declared_prefix ds h) e
 
--- one more at the end of a list
+-- one more element at the end of a list
 last_found : (ds : List Declaration) (k v h : List ℕ) → declared_prefix (ds ++ (k, v) ∷ []) h ≡ or_else (declared_prefix ds h) (cond (bytes_eq h k) (Some v) None)
 last_found [] k v h = refl
 last_found (d ∷ ds) k v h = go (bytes_eq h d.0) (last_found ds k v h) where
@@ -86,14 +86,14 @@ declares_last ds k v n = record { found = λ h. last_found ds k v h ∙ go h (by
 pub same_declared : {a b c d : List Declaration} {k v : List ℕ} → Declares a b k v → Declares c d k v → SameDeclarations a c → SameDeclarations b d
 same_declared {k = k} {v} p q s = record { each = λ h. p.found h ∙ ap (λ z. cond (bytes_eq k h) (Some v) z) (s.each h) ∙ sym (q.found h) }
 
--- a declaration of a handle that has none
+-- a declaration of a handle that was not declared
 pub with_new : (ds : List Declaration) (k v : List ℕ) → is_declared ds k ≡ false → with_declaration ds (Some (k, v)) ≡ ds ++ (k, v) ∷ []
 with_new ds k v e = simp e
 
 pub with_old : (ds : List Declaration) (k v : List ℕ) → is_declared ds k ≡ true → with_declaration ds (Some (k, v)) ≡ ds
 with_old ds k v e = simp e
 
--- the few that are found by their hashes
+-- the few handles that are looked up by their hashes
 kept_none : (b : Bool) (v : List ℕ) (q : Option (List ℕ)) → cond b (Some v) q ≡ None → q ≡ None
 kept_none true v q e = absurd (true≢false (ap is_some e))
 kept_none false v q e = e
@@ -130,7 +130,7 @@ pub few_declared : (few : List Declaration) {new : List Declaration} (k v : List
     → (fresh ≡ not (is_declared few k)) × (new ≡ (if fresh then few ++ (k, v) ∷ [] else few)) → new ≡ few ++ (k, v) ∷ []
 few_declared few k v n p = p.1 ∙ ap (λ z. if z then few ++ (k, v) ∷ [] else few) (p.0 ∙ ap (λ z. not (is_some z)) n)
 
--- what is taken out again
+-- a declaration that is removed again
 pub taken_out : (a b c : Entries) (k v : Bor (List ℕ)) → declared_prefix (map declaration a) k.now ≡ None
     → ((h : List ℕ) → lookup (is_at (λ (k : Bor (List ℕ)). slice_cmp nat_cmp h k.now)) b
     ≡ cond (bytes_eq k.now h) (Some v) (lookup (is_at (λ (k : Bor (List ℕ)). slice_cmp nat_cmp h k.now)) a))
@@ -179,7 +179,7 @@ pub offset_there : (o : Option ℕ) → unwrap_or o 0 ≡ offset_or 0 o
 offset_there None = refl
 offset_there (Some i) = refl
 
--- a tag without a handle stands for the same whatever is declared
+-- declarations don't change a tag without a handle
 pub other_text : {a b : List Declaration} {x : List ℕ} (tag : Tag) → ((h s : Bor (List ℕ)) → tag ≡ Short h s → ⊥) → TagText a (tag_value tag) x → TagText b (tag_value tag) x
 other_text (Verbatim text) n verbatim_text = verbatim_text
 other_text (Short h s) n t = absurd (n h s refl)
@@ -190,7 +190,7 @@ other_known (Verbatim text) n u = elim u [ ]
 other_known (Short h s) n u = absurd (n h s refl)
 other_known NonSpecific n u = elim u [ ]
 
--- how many entries a map has after one more, and after that is taken out again
+-- the number of entries of a map after one more is added, and after it is removed again
 pub counted_more : (a b : Entries) (q : Option (Bor (List ℕ))) → length b ≡ length a + (if is_some q then 0 else 1) → is_some q ≡ false
     → length (map declaration b) ≡ length (map declaration a) + 1
 counted_more a b q e n =

@@ -1,4 +1,4 @@
--- The directives of a document, one after the other: the first breach in them, and the handles that they declare.
+-- The directives of a document in sequence: the first breach in them, and the handles that they declare.
 use Rattle.std.proofs.Common.{◌≡◌, ℕ, ◌+◌, ◌≤◌, Bool, false, ◌||◌, List, [], ◌∷◌, ◌++◌, drop, length, Option, Some, None, refl, sym, ap, ◌∙◌, subst, append_assoc, append-nil, is_some, not, slice_get}
 use Rattle.std.proofs.Math.ListN.{drop_of_length-le}
 use Rattle.yf_props.specs.Handles.{Declaration}
@@ -11,7 +11,8 @@ use Rattle.yf_stream.proofs.TagPass.DeclaredLemmas.{same_itself}
 use Rattle.yf_stream.proofs.TagPass.FirstLemmas.{finds_as, finds_nothing_more, finds_then}
 use Rattle.yf_stream.proofs.TagPass.PassLemmas.{all_declared, at_index, directives_same}
 
--- What has been found of the directives before an index, where a version has been named or not, and these are the declarations.
+-- The breaches found among the directives before an index, if a version has been named or not, and these are the
+-- declarations.
 pub record Declaring (xs : List Directive) (ds : List Declaration) (before : Option Breach) (i : ℕ) (seen : Bool) (now : List Declaration) (after : Option Breach) : Type 0 where
   pub found : List Breach
   pub finds : FirstOfBoth before after found

@@ -50,14 +50,14 @@ finds_if {a} test kind offset e = subst (λ z. FirstOfBoth a a (breach_if z kind
 pub finds_as : {a b : Option Breach} {x y : List Breach} → x ≡ y → FirstOfBoth a b x → FirstOfBoth a b y
 finds_as {a} {b} e f = subst (λ z. FirstOfBoth a b z) e f
 
--- where nothing was found at last, nothing was found before
+-- if nothing was found in the end, nothing was found before
 pub found_nothing : {a b : Option Breach} {x : List Breach} → b ≡ None → FirstOfBoth a b x → (a ≡ None) × (x ≡ [])
 found_nothing {a} {b} {x} e p = go a (subst (λ z. FirstOfBoth a z x) e p) where
   go : (a : Option Breach) → FirstOfBoth a None x → (a ≡ None) × (x ≡ [])
   go None p = (refl, p.first [] refl)
   go (Some b) p = some_none (p.first (b ∷ []) (alone b))
 
--- escapes, one after the other
+-- escapes in sequence
 pub escapes_join : (a b : List ℕ) → escape_breaches (a ++ b) ≡ escape_breaches a ++ escape_breaches b
 escapes_join [] b = refl
 escapes_join (x ∷ a) b = ap (λ z. record { offset = x; kind = EscapeValue } ∷ z) (escapes_join a b)

@@ -1,4 +1,4 @@
--- Sets of names: which names are found in a list, whatever its order.
+-- Sets of names: the look-ups in a list of names, in any order.
 use Rattle.std.proofs.Common.{◌≡◌, ℕ, Bool, true, false, ◌||◌, List, [], ◌∷◌, ◌++◌, map, refl, sym, ap, ◌∙◌, subst, true≢false, if◌then◌else◌}
 use Rattle.std.proofs.lemmas.Map.Text.{is_eq-slice_cmp}
 use Rattle.std.proofs.lemmas.Slice.Eq.{bytes_eq-Decides}
@@ -60,7 +60,7 @@ name_in_both [] b x = refl
 name_in_both (k ∷ a) b x =
     ap (λ z. bytes_eq k.now x || z) (name_in_both a b x) ∙ or_joined (bytes_eq k.now x) (has_name (names_of a) x) (has_name (names_of b) x)
 
--- as an `IndexSet` and a `BTreeSet` look for a name
+-- the look-up of a name in an `IndexSet` and in a `BTreeSet`
 pub name_by_any : (ks : List (Bor (List ℕ))) (x : List ℕ) → list_any (λ (k : Bor (List ℕ)). bytes_eq x k.now) ks ≡ has_name (names_of ks) x
 name_by_any [] x = refl
 name_by_any (k ∷ ks) x = ap (λ z. z || list_any (λ (k : Bor (List ℕ)). bytes_eq x k.now) ks) (bytes_turned x k.now) ∙ ap (λ z. bytes_eq k.now x || z) (name_by_any ks x)
@@ -74,7 +74,7 @@ name_by_order (k ∷ ks) x =
 found_as : (ks : List (Bor (List ℕ))) (a x : List ℕ) → has_name (names_of ks) a ≡ true → bytes_eq a x ≡ true → has_name (names_of ks) x ≡ true
 found_as ks a x e f = subst (λ z. has_name (names_of ks) z ≡ true) (same_bytes a x f) e
 
--- a name that is put in is found, and the others as before
+-- an inserted name is found, and the others as before
 pub name_kept_in : (ks : List (Bor (List ℕ))) (n : Bor (List ℕ)) (x : List ℕ)
     → has_name (names_of (kept.insert_key (λ (a b : Bor (List ℕ)). bytes_eq a.now b.now) ks n)) x ≡ (bytes_eq n.now x || has_name (names_of ks) x)
 name_kept_in ks n x = go (list_any (λ (k : Bor (List ℕ)). bytes_eq n.now k.now) ks) refl where
@@ -100,7 +100,7 @@ name_sorted_in (k ∷ ks) n x = go (slice_cmp nat_cmp n.now k.now) refl (name_so
   go Greater e h =
       ap (λ z. bytes_eq k.now x || z) h ∙ or_turned (bytes_eq k.now x) (bytes_eq n.now x) (has_name (names_of ks) x)
 
--- among two lists, one name more in the first, and in the second
+-- among two lists, one more name in the first, and in the second
 pub more_in_first : (few others : List (Bor (List ℕ))) {more : List (Bor (List ℕ))} (n : Bor (List ℕ)) {names : List (List ℕ)} → names_of (few ++ others) ≡ names
     → more ≡ kept.insert_key (λ (a b : Bor (List ℕ)). bytes_eq a.now b.now) few n → SameNames (names_of (more ++ others)) (n.now ∷ names)
 more_in_first few others {more} n {names} e f = record {

@@ -1,4 +1,4 @@
--- A pass over the events of documents that are derived finds their breaches, and their tags.
+-- A pass over the events of derived documents finds their breaches and their tags.
 use Rattle.std.proofs.Common.{◌≡◌, ℕ, Bool, true, false, ⊎_elim, List, [], ◌∷◌, ◌++◌, map, flat_map, Option, Some, None, refl, sym, ap, ◌∙◌, subst, arith, true≢false, append_assoc, if◌then◌else◌}
 use Rattle.std.proofs.lemmas.List.Elements.{All-contains, Contains-append_cases, Contains-append_left, Contains-append_right, Contains-get_or}
 use Rattle.std.specs.List.{Contains}
@@ -18,7 +18,7 @@ use Rattle.yf_stream.specs.declared.breaches.BreachKind.TheVariants.{UnknownHand
 use Rattle.yf_stream.proofs.TagPass.FirstLemmas.{escapes_join}
 use Rattle.yf_stream.proofs.TagPass.PassLemmas.{at_document, at_event}
 
--- Events of which none starts a document, as those of a node.
+-- Events none of which starts a document, for example a node's.
 
 abbrev pub NoStarts : List EventInText → Type 0
 NoStarts [] = Unit {0}
@@ -68,7 +68,7 @@ pass_inside docs ds names (e ∷ es) rest n =
     (event_breaches ds (with_name (props_of e.event).anchor names) es)
     (pass_breaches docs ds (names_after (with_name (props_of e.event).anchor names) es) rest)
 
--- the breaches of documents, but for their escapes
+-- the breaches of documents, without those by their escapes
 document_pass : Document → List Breach
 document_pass d = directive_breaches false [] d.directives ++ event_breaches (declarations [] d.directives) [] d.events
 
@@ -96,7 +96,7 @@ if_same : {A : Type 0} {w x y z : A} (b : Bool) → w ≡ x → y ≡ z → (if 
 if_same true e f = e
 if_same false e f = f
 
--- notes on blank lines leave the breaches what they are
+-- notes on blank lines keep the breaches
 pass_noted : {t : List ℕ} {floor : ℕ} {x y : List EventInText} (docs : List Doc) (ds : List Declaration) (names : List (List ℕ)) → Noting t floor x y
     → pass_breaches docs ds names x ≡ pass_breaches docs ds names y
 pass_noted docs ds names none_noted = refl
@@ -107,7 +107,7 @@ pass_noted docs ds names (with_entry {e = e} entry n s r) =
     if_same (starts_document e.event) (ap (λ z. directive_breaches false [] (next_directives docs) ++ z) (pass_noted (later_documents docs) (declarations [] (next_directives docs)) [] r))
     (ap (λ z. own_breaches ds names e ++ z) (pass_noted docs ds (with_name (props_of e.event).anchor names) r))
 
--- Lists with the same elements.
+-- Lists with equal elements.
 
 record SameOnes (a b : List Breach) : Type 0 where
   there : (x : Breach) → Contains a x → Contains b x
@@ -122,7 +122,7 @@ in_second a b {x} c = Contains-append_right a b x c
 in_either : (a b : List Breach) {C : Type 0} {x : Breach} → (Contains a x → C) → (Contains b x → C) → Contains (a ++ b) x → C
 in_either a b {x = x} f g c = ⊎_elim f g (Contains-append_cases a b x c)
 
--- the escapes of a document, those of others, what else it breaches, and what the others do
+-- the breaches by a document's escapes and by the others', and the other breaches of that document and of the others
 moved : (e f p q : List Breach) {r : List Breach} → SameOnes (f ++ q) r → SameOnes ((e ++ f) ++ (p ++ q)) ((p ++ e) ++ r)
 moved e f p q {r} s = record {
   there = λ x.

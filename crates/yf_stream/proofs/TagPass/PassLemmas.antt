@@ -1,5 +1,5 @@
--- A pass over the events of a stream: what it finds depends on the names and declarations alone that are found, and not on their order; and what
--- it has found after one event more.
+-- A pass over the events of a stream: its results depend only on the names and declarations that are found, not on
+-- their order. The results after one more event.
 use Rattle.std.proofs.Common.{◌≡◌, ℕ, zero, suc, ◌+◌, ◌<◌, ◌≤◌, Bool, true, false, ◌||◌, not, List, [], ◌∷◌, ◌++◌, drop, length, slice_get, Option, Some, None, refl, sym, ap, ◌∙◌, subst, true≢false, append_assoc, append-nil, is_none, is_some, if◌then◌else◌, add-one, get_or}
 use Rattle.std.proofs.Math.ListN.{drop_of_length-le}
 use Rattle.std.proofs.lemmas.Option.{slice_get-get_or}
@@ -137,7 +137,7 @@ at_event docs ds names e es s =
     then directive_breaches false [] (next_directives docs) ++ pass_breaches (later_documents docs) (declarations [] (next_directives docs)) [] es
     else own_breaches ds names e ++ pass_breaches docs ds (with_name (props_of e.event).anchor names) es) s
 
--- where a document starts, nothing matters of the one before
+-- at the start of a document, the one before doesn't matter
 pub breaches_anew : (docs : List Doc) (ds : List Declaration) (names : List (List ℕ)) (es : List EventInText) → StartsDocument es
     → pass_breaches docs ds names es ≡ pass_breaches docs [] [] es
 breaches_anew docs ds names [] s = refl
@@ -157,7 +157,7 @@ at_index xs j {x} f = cut_at xs j f ∙ ap (λ k. x ∷ drop k xs) (sym (add-one
   cut_at (y ∷ xs) zero {x} e = let same : y ≡ x = cc in ap (λ w. w ∷ xs) same
   cut_at (y ∷ xs) (suc i) e = cut_at xs i e
 
--- What has been found of the events from i up to j.
+-- The breaches and tags of the events from i up to j.
 
 pub none_passed : {es : List EventInText} {ds : List Declaration} (i : ℕ) {first : Option Breach} {names : List (List ℕ)} (a : List (Option (List ℕ)))
     → AllPassed es ds i i first first names names a a
@@ -223,7 +223,7 @@ document_passed {es} {directives} {i} {j} {before} {mid} {after} {a} {b} {others
       tags = λ none docs rest t. tags_declared s (p.tags none docs rest (tags_anew n t));
     }
 
--- What has been found of a stream up to an index, where so many documents have begun.
+-- The breaches and tags of a stream up to the index `at`, if `begun` documents have begun.
 pub record Resolving (docs : List Doc) (es : List EventInText) (escapes : List ℕ) (begun at : ℕ) (first : Option Breach) (tags : List (Option (List ℕ))) : Type 0 where
   pub done : List Breach
   pub found : FirstOf done first

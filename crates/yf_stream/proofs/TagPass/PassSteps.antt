@@ -1,4 +1,4 @@
--- The steps of the pass over the events of a stream: what its look-ups give.
+-- The steps of the pass over the events of a stream: the results of its look-ups.
 use Rattle.std.proofs.Common.{◌≡◌, ℕ, ◌+◌, ◌≤◌, ◌<◌, Bool, true, false, List, [], ◌∷◌, ◌++◌, drop, length, map, Option, Some, None, refl, sym, ap, ◌∙◌, subst, slice_get, option_map, get_or, is_ok, if◌then◌else◌, Result, Ok, Err}
 use Rattle.std.proofs.Math.ListN.{drop_of_length-le}
 use Rattle.std.proofs.lemmas.Option.{same_Some, slice_get-get_or, slice_get-map, slice_get_read}
@@ -39,7 +39,7 @@ written mapping_ends = refl
 written (scalar_node props style text) = refl
 written (alias_node name) = refl
 
--- what a list that is made of the events has at an index
+-- the element at an index of a list that is made of the events
 same_at : {A : Type 0} (f : EventInText → A) (es : List EventInText) (j : ℕ) {e : EventInText} {x : A} → slice_get es j ≡ Some e → slice_get (map f es) j ≡ Some x → f e ≡ x
 same_at f es j h g = sym (same_Some _ _ (sym g ∙ slice_get-map f es j ∙ ap (option_map f) h))
 
@@ -56,7 +56,7 @@ span_at es j l f =
 pub event_with : {es : List EventInText} {j : ℕ} {P Q : EventInText → Type 0} → EventAt es j P → ((e : EventInText) → P e → Q e) → EventAt es j Q
 event_with h f = record { event = h.event; there = h.there; holds = f h.event h.holds }
 
--- an event that has nothing that is to be noted
+-- an event that names nothing
 pub bare_passed : {es : List EventInText} {j : ℕ} {v : EventValue} {first : Option Breach} {names : List (List ℕ)} {a b : List (Option (List ℕ))} (ds : List Declaration)
     → EventAt es j (λ e. e.event ≡ v) → IsNameless v → b ≡ a ++ None ∷ [] → EventAt es j (λ e. EventPassed ds e first first names names a b)
 bare_passed {first = first} {names = names} {a = a} {b = b} ds h n l =
@@ -117,7 +117,7 @@ pub next_document : (docs : List Doc) (begun : ℕ) (o : Option (Bor Doc)) → I
 next_document docs begun None m = sym (ap next_directives (drop_of_length-le docs m.3))
 next_document docs begun (Some d) m = ap next_directives (sym (at_index docs begun (slice_get_read docs (length docs) begun d.now refl m.3.0 m.1)))
 
--- one event more
+-- one more event
 pub passing_step : {es : List EventInText} {i j : ℕ} {before first after : Option Breach} {a b c : List (Option (List ℕ))}
     {names between others : List (List ℕ)} {ds : List Declaration} {starts : Bool} → AllPassed es ds i j before first names between a b
     → EventAt es j (λ e. starts ≡ starts_document e.event) → starts ≡ false → EventAt es j (λ e. EventPassed ds e first after between others b c)
@@ -125,7 +125,7 @@ pub passing_step : {es : List EventInText} {i j : ℕ} {before first after : Opt
 passing_step p s n q =
     one_passed p q.there (sym (s.holds ∙ ap (λ (e : EventInText). starts_document e.event) (same_Some _ _ (sym s.there ∙ q.there))) ∙ n) q.holds
 
--- where a growth was not refused
+-- if a growth was not refused
 pub if_pushed : {T E A : Type 0} (r : Result T E) {x : A} (y z : A) {P : T → Type 0} → x ≡ (if is_ok r then y else z) → (x ≡ y → (t : T) → P t) → IfOk r P
 if_pushed (Ok t) y z e f = f e t
 if_pushed (Err w) y z e f = tt
@@ -135,7 +135,7 @@ pub if_both : {T E : Type 0} (r : Result T E) {P Q R : T → Type 0} → IfOk r 
 if_both (Ok t) p q f = f t p q
 if_both (Err w) p q f = tt
 
--- the handles of a document, and those of none
+-- the handles of a document, and those without a document
 pub declared_handles : {h : List Declaration} (a : List Declaration) {xs : List Directive} {o : Option (Bor Doc)} {d : Bor Doc} → xs ≡ d.now.directives → o ≡ Some d
     → SameDeclarations h (declarations a xs) → SameDeclarations h (declarations a (directives_of o))
 declared_handles {h} a f g s =

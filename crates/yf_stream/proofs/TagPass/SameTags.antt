@@ -1,4 +1,4 @@
--- Documents with the same nodes and directives have the same resolved tags, and notes leave events what they are.
+-- Documents with equal nodes and directives have equal resolved tags, and notes keep the events.
 use Rattle.std.proofs.Common.{◌≡◌, ℕ, List, [], ◌∷◌, ◌++◌, Option, None, refl, ap, ◌∙◌, subst}
 use Rattle.yf_props.specs.Handles.{Declaration}
 use Rattle.yf_events.specs.Event.{EventInText}

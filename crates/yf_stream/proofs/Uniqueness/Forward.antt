@@ -1,2 +1,2 @@
--- The end of a line lies at its start or after it.
+-- The end of a line is at its start or after it.
 pub use Rattle.yf_comments.proofs.LineOrder.{line_end_forward}

@@ -1,4 +1,4 @@
--- No node begins with a `%`: so a document without `---` begins where no directive does.
+-- No node begins with a `%`. So no directive begins at the start of a document without `---`.
 use Rattle.std.proofs.Common.{◌≡◌, ℕ, ◌+◌, ◌<◌, ◌≤◌, ℤ, Bool, true, false, ⊎_elim, List, refl, sym, ap, ◌∙◌, arith, true≢false, add-zero}
 use Rattle.std.proofs.lemmas.Bool.{cases_lt}
 use Rattle.std.proofs.Math.Bool.{and-false}
@@ -69,7 +69,7 @@ module _ {t : List ℕ} where
   no_percent_entries e (a_last_entry d) = no_percent_entry e d
   no_percent_entries e (an_entry_before d s r) = no_percent_entry e d
 
-  -- nothing but the start of a line ends there
+  -- only the start of a line ends there
   no_lines : {k l : ℕ} {x : List CommentValue} → code t k ≡ 37 → LineEnd t k l x → l ≡ k
   no_lines {k} e d = go (line_end_rows d) where
     go : {l : ℕ} {x : List CommentValue} → Chain (Row t) k l x → l ≡ k

@@ -1,4 +1,4 @@
--- Directives before a `---` are read in one way.
+-- Directives before a `---` have one reading.
 use Rattle.std.proofs.Common.{◌≡◌, ◌≢◌, ℕ, ◌+◌, ◌<◌, ◌≤◌, Bool, true, false, List, [], ◌∷◌, ◌++◌, length, slice_range, codes, refl, sym, ap, ◌∙◌, subst, arith, true≢false, append_assoc, append-nil}
 use Rattle.std.proofs.lemmas.Bool.Decides.{nat_tests}
 use Rattle.std.specs.Str.{IsUtf8}
@@ -84,7 +84,7 @@ module _ {t : List ℕ} (u : IsUtf8 t) where
   spelled_ns f (as_itself {i = i} e) = solid_ns _ (f (code t i) e)
   spelled_ns f (as_escape {i = i} a b d) = ascii_ns (code t i) (omega arith) (omega arith)
 
-  -- white space up to a character that is none ends at one place
+  -- white space up to another character has one end
   pub in_line_one : {i j k : ℕ} → SeparateInLine t i j → is_white (code t j) ≡ false → SeparateInLine t i k → is_white (code t k) ≡ false → j ≡ k
   in_line_one a e b f = (many_unique t is_white (separate_whites a).1 e (separate_whites b).1 f).0
 
@@ -253,7 +253,7 @@ one_of {d} e = ap (first_or d) e where
   first_or d [] = d
   first_or d (x ∷ xs) = x
 
--- directives from one place up to a `-`
+-- directives from one offset up to a `-`
 pub data DirectivesTo (t : List ℕ) : ℕ → ℕ → List Directive → List CommentValue → Type 0 where
   last_to : {i l : ℕ} {d : Directive} {cs : List CommentValue} → LineTo t i l d cs → code t l ≡ 45 → DirectivesTo t i l (d ∷ []) cs
   more_to : {i k l : ℕ} {d : Directive} {ds : List Directive} {cs es : List CommentValue} → LineTo t i k d cs → code t k ≡ 37 → DirectivesTo t k l ds es

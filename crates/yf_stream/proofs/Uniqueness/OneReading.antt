@@ -1,4 +1,4 @@
--- A text has at most one reading: what `ReadingOf` adds to the one derivation of a text is determined by it.
+-- A text has at most one reading: its one derivation determines the notes that `ReadingOf` adds.
 use Rattle.std.proofs.Common.{◌≡◌, ℕ, Bool, List, [], ◌∷◌, ◌++◌, map, flat_map, length, Option, Some, None, ◌⊎◌, ⊎_elim, refl, sym, ap, ◌∙◌, subst}
 use Rattle.std.proofs.lemmas.Option.{same_Some}
 use Rattle.yf_chars.specs.Text.{code}
@@ -65,7 +65,7 @@ record Later (t : List ℕ) (k q : ℕ) : Type 0 where
   found : List CommentValue
   parts : Prefixes t k q found
 
--- whether the end of a document is marked: where the comment lines after it are counted from does not matter
+-- whether the end of a document is marked: the start of the comment lines after it doesn't matter
 module _ {t : List ℕ} where
   line_rest : {i j : ℕ} {x : List CommentValue} → CommentLine t i j x → LineRest t i j x
   line_rest (whites_line s e) = whites s e
@@ -136,7 +136,7 @@ lists_one r s a b c d e f =
     ∙ ap (λ w. put s.events s.resolved s.comments s.on_leaf_line w r.escapes) e
     ∙ ap (λ w. put s.events s.resolved s.comments s.on_leaf_line s.documents w) f
 
--- where both readings are of one derivation
+-- if both readings are of one derivation
 reading_of_one : {t : List ℕ} {r s : Lists} (a : ReadingOf t r) (b : ReadingOf t s) → b.derived ≡ a.derived → r ≡ s
 reading_of_one {t} {r} {s} a b d =
     let e = events_one a.events (subst (λ w. DocumentEvents t w.documents b.derived_events b.between) d b.events) in

@@ -1,5 +1,5 @@
--- A text has one derivation as a stream within the limit of open collections, but for who takes its comment lines: all that is so derived
--- is one stream of documents and comments.
+-- A text has one derivation as a stream within the limit of open collections, apart from which part takes its comment
+-- lines: all derivations are one stream of documents and comments.
 use Rattle.std.proofs.Common.{◌≡◌, ℕ, ◌+◌, ◌-ℤ◌, ℤ, pos, ◌≤◌, Bool, true, false, List, [], ◌++◌, Option, Some, None, refl, sym, ap, ◌∙◌, subst, arith, true≢false, append-nil}
 use Rattle.std.specs.Str.{IsUtf8}
 use Rattle.yf_chars.specs.declared.context.Ctx.{Ctx}
@@ -32,7 +32,7 @@ use Rattle.yf_stream.proofs.Uniqueness.StreamPath.{Settled, NodeTo, ExplicitTo, 
 use Rattle.yf_grammar.proofs.BlockReader.BlockSound.{alone_nothing}
 use Rattle.yf_grammar.proofs.WrittenTexts.LeafBack.{noting_nothing}
 
--- parts of what is found
+-- parts of an outcome
 abbrev end_of : Option ParsedNode → ℕ
 end_of None = 0
 end_of (Some f) = f.end
@@ -48,18 +48,18 @@ found_one a b = (ap end_of (sym a.is ∙ b.is), ap (meaning_of 0) (sym a.is ∙ 
 not_none : {o : Option ParsedNode} {j h : ℕ} {x : Meaning} → IsFound o j h x → o ≡ None → ⊥
 not_none {j = j} {h = h} {x = x} a e = none_found j h false x (sym e ∙ a.is)
 
--- two nodes of one place end at one place, with one meaning
+-- two nodes with one start have one end and one meaning
 pub record Same (l m : ℕ) (x y : Meaning) : Type 0 where
   pub ends : l ≡ m
   pub meaning : x ≡ y
 
--- what a reader finds of a node: all up to the place, or the node without the comment lines after it
+-- the outcome of a reader for a node: all up to the offset, or the node without the comment lines after it
 pub data Known (t : List ℕ) (h l : ℕ) (x : Meaning) (o : Option ParsedNode) : Type 0 where
   all_of_it : IsFound o l h x → Known t h l x o
   but_lines : {j : ℕ} {y : Meaning} {es : List CommentValue} → IsFound o j h y → Settled t j l es → x ≡ noting y es → Known t h l x o
 
 module _ {t : List ℕ} where
-  -- comment lines, from a place at which none begins
+  -- comment lines from an offset at which none begins
   pub settled_still : {j l : ℕ} {es : List CommentValue} → Stuck (Row t j) → Settled t j l es → (l ≡ j) × (es ≡ [])
   settled_still {j} s d = let r = settled_one d (record { rows = done {i = j}; last = s }) in (r.0, r.1)
 
@@ -78,7 +78,7 @@ module _ {t : List ℕ} where
       let v = settled_one d (subst (λ w. Settled t w m fs) (sym q.0) c) in
       record { ends = v.0; meaning = n ∙ ap (λ w. noting w es) q.1 ∙ ap (noting b) v.1 ∙ sym p }
 
-  -- nothing is found where comment lines are followed by what ends all nodes
+  -- no line of a node follows comment lines after which `LinesEnd` holds
   pub line_stuck : {q k m p j l : ℕ} {cs es : List CommentValue} {ds : List CommentValue} → LineEnd t q j cs → Settled t j l es → LinesEnd t l → LineEnd t q k ds → LineText t k m p → ⊥
   line_stuck {l = l} d s e f w =
       let r = stuck_unique row_functional (chain_append (line_end_rows d) s.rows) s.last (line_end_rows f) (line_still w) in
@@ -99,7 +99,7 @@ module _ {t : List ℕ} where
   known_some (all_of_it e) f = not_none e f
   known_some (but_lines e d n) f = not_none e f
 
-  -- what is at a place
+  -- the characters at an offset
   content_first : {k p : ℕ} → ContentAt t k p → is_white (code t k) ≡ false → is_ns_char (code t k) ≡ true
   content_first {k} (content_at {k = p} s n h) w =
       let same = (many_unique t is_white (done {i = k}) w (separate_whites s).1 (ns_not_white (code t p) n)).0 in

@@ -1,4 +1,4 @@
--- The parameters of a TAG directive, as a reader finds them: as long as they go, or none.
+-- The parameters of a TAG directive as a reader finds them: as far as they go, or none.
 use Rattle.std.proofs.Common.{◌≡◌, ℕ, ◌+◌, ◌<◌, ◌≤◌, true, false, ⊎_elim, List, [], ◌∷◌, slice_range, codes, refl, sym, ap, ◌∙◌, subst, arith, true≢false}
 use Rattle.std.proofs.lemmas.Bool.{cases_lt}
 use Rattle.std.specs.Str.{IsUtf8}
@@ -25,7 +25,7 @@ use Rattle.yf_stream.specs.Stream.Parameters.{version_parameter, tag_parameters,
 use Rattle.yf_stream.proofs.Reader.DirectiveWords.{same_start}
 use Rattle.yf_stream.proofs.Uniqueness.OneDirective.{byte_no_white, chain_after, handle_after, handle_one, in_line_one, mark_after, no_ns_white, no_tag_at_mark, prefix_ns, spelled_ns, tag_after, white_after, word_mark, word_white, yaml_no_tag}
 
--- what the parameters are
+-- the parameters
 record TagWords (t : List ℕ) (i j : ℕ) (x : List (List ℕ)) : Type 0 where
   start : ℕ
   handle_end : ℕ
@@ -55,7 +55,7 @@ module _ {t : List ℕ} (u : IsUtf8 t) where
   handle_no_white {k} (secondary_handle e f) = byte_no_white u k e (omega arith) (omega arith)
   handle_no_white {k} (named_handle e r f) = byte_no_white u k e (omega arith) (omega arith)
 
-  -- a handle goes on where a longer one is
+  -- a handle goes on if a longer one is derived
   goes_on_there : {k g h : ℕ} → Handle t k g → Handle t k h → g < h → is_white (code t g) ≡ false
   goes_on_there (primary_handle a) (primary_handle b) l = absurd (omega arith)
   goes_on_there {k} (primary_handle a) (secondary_handle b c) l = byte_no_white u (k + 1) c (omega arith) (omega arith)
@@ -112,7 +112,7 @@ module _ {t : List ℕ} (u : IsUtf8 t) where
               ∙ ap (λ w. slice_range t k h ∷ slice_range t w j ∷ []) (same_prefix v);
         }
 
-  -- a prefix that the end of a line follows is the longest one
+  -- a prefix before the end of a line is the longest one
   uris_end : {i j k n : ℕ} {x y : List ℕ} {b : List CommentValue} → ContentBefore t i → Chain (UriChar t) i j x → Chain (UriChar t) i k y → k ≤ j → LineEnd t k n b → k ≡ j
   uris_end {i} {j} {k} {n} {x} {y} {b} o c d l e = go (chain_meet (spelled_functional t is_uri_char percent_uri) c d) where
     stays : {k j : ℕ} {z : List ℕ} → ContentBefore t k → LineEnd t k n b → Chain (UriChar t) k j z → k ≡ j

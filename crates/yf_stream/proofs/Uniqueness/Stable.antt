@@ -1,4 +1,5 @@
--- What cannot be refuted holds, where it says that two numbers are one, two lists, two events, two meanings.
+-- A statement that cannot be refuted holds if it says that two numbers, two lists, two events or two meanings are
+-- equal.
 use Rattle.std.proofs.Common.{◌≡◌, ℕ, suc, zero, Bool, true, false, List, [], ◌∷◌, Option, Some, None, refl, sym, ap, ◌∙◌, ⊎_elim}
 use Rattle.std.proofs.lemmas.Bool.{cases_eq}
 use Rattle.yf_chars.proofs.Tests.{no_cons}
@@ -20,7 +21,7 @@ record Both (A B : Type 0) : Type 0 where
   first : A
   second : B
 
--- what follows from an equation
+-- consequences of an equation
 follows : {A B : Type 0} → Irrefutable A → (A → B) → Irrefutable B
 follows a f = record { held = λ n. a.held (λ x. n (f x)) }
 
@@ -34,7 +35,7 @@ abbrev number_of : Bool → ℕ
 number_of true = 1
 number_of false = 0
 
--- a type that can be written down in a stable one is stable
+-- a type that can be encoded in a stable one is stable
 module _ {A B : Type 0} (f : A → B) (g : B → A) (back : (a : A) → g (f a) ≡ a) where
   stable_by : Stable B → Stable A
   stable_by s = record { same = λ x y e. sym (back x) ∙ ap g (s.same (f x) (f y) (follows e (λ q. ap f q))) ∙ back y }

@@ -6,7 +6,7 @@ use Rattle.yf_stream.specs.Stream.AnyDocument.{explicit_document}
 use Rattle.yf_stream.specs.Stream.Stream.{begins_with_document, without_document}
 use Rattle.yf_stream.specs.Stream.StreamRest.{past_explicit, past_prefix, past_suffixes, past_suffixes_and_document, stream_ended}
 
--- with at most so many open collections
+-- with at most `limit` open collections
 pub data DocumentsDerived (t : List ℕ) (limit : ℕ) : List Document → Type 0 where
   no_documents_derived : DocumentsDerived t limit []
   document_derived : {h i j : ℕ} {d : Document} {cs : List CommentValue} {ds : List Document} → AnyDocument t h i j d cs → h ≤ limit

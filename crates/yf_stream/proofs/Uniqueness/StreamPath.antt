@@ -1,5 +1,5 @@
--- The path of a stream: its documents over places at which no comment line begins, each with all comment lines after it, whoever takes
--- them. Each stream that is derived has a path.
+-- The path of a stream: its documents, over offsets at which no comment line begins, each with all comment lines after
+-- it, whichever part takes them. Each derived stream has a path.
 use Rattle.std.proofs.Common.{◌≡◌, ◌≢◌, ℕ, max, ◌+◌, ◌<◌, ℤ, Bool, true, false, inl, ⊎_elim, List, [], ◌∷◌, ◌++◌, length, refl, sym, ap, ◌∙◌, subst, arith, true≢false, append_assoc}
 use Rattle.std.proofs.lemmas.Bool.{cases_eq, eqb-true}
 use Rattle.std.specs.Str.{IsUtf8}
@@ -47,12 +47,12 @@ use Rattle.yf_grammar.proofs.FlowReader.CompleteSteps.{noting_twice}
 use Rattle.yf_grammar.proofs.NodesInText.MeantLemmas.{noting_comments}
 use Rattle.yf_lines.proofs.MarkLemmas.{three_code}
 
--- comment lines, as many as there are
+-- all comment lines that are there
 pub record Settled (t : List ℕ) (i l : ℕ) (es : List CommentValue) : Type 0 where
   pub rows : Chain (Row t) i l es
   pub last : Stuck (Row t l)
 
--- a document's node, and all comment lines after it, which its meaning holds as well
+-- a document's node, and all comment lines after it, whose comments are in its meaning too
 pub record NodeTo (t : List ℕ) (h p l : ℕ) (x : Meaning) : Type 0 where
   pub end : ℕ
   pub meaning : Meaning
@@ -61,12 +61,12 @@ pub record NodeTo (t : List ℕ) (h p l : ℕ) (x : Meaning) : Type 0 where
   pub settled : Settled t end l comments
   pub is : x ≡ noting meaning comments
 
--- the same from a `---` on, where nothing may follow
+-- likewise from a `---` on, which nothing may follow
 pub data ExplicitTo (t : List ℕ) : ℕ → ℕ → ℕ → Meaning → Type 0 where
   node_to : {h i l : ℕ} {x : Meaning} → NodeTo t h (i + 3) l x → ExplicitTo t h i l x
   nothing_to : {i j l : ℕ} {cs es : List CommentValue} → LineEnd t (i + 3) j cs → Settled t j l es → ExplicitTo t 0 i l (noting (empty_node (i + 3)) (cs ++ es))
 
--- the flag says that a document without `---` and directives may be there
+-- the flag means that a document without `---` and directives may be there
 pub data Path (t : List ℕ) : Bool → ℕ → ℕ → Documents → Type 0 where
   path_ends : {b : Bool} {k : ℕ} → k ≡ length t → Path t b 0 k (only_comments [])
   path_mark : {b : Bool} {h k l : ℕ} {es : List CommentValue} {x : Documents} → code t k ≡ 0xFEFF → Settled t (next t k) l es → Path t b h l x
@@ -186,7 +186,7 @@ module _ {t : List ℕ} (u : IsUtf8 t) where
       let n = three_first t k 45 (λ q. absurd (omega arith)) in
       (record { start = line_of l (omega arith); marker = marker_of_dots t k n e ∙ line_end_white (no_start_after k 46 e (omega arith) signs_visible.1) d }, c)
 
-  -- where the parts end
+  -- the ends of the parts
   pub explicit_next : {h k j : ℕ} {x : Meaning} → ExplicitNode t h k j x → LineOrEnd t j
   explicit_next (marked_node e n) = block_ends n.derived
   explicit_next (marked_nothing e d) = end_next d
@@ -208,7 +208,7 @@ module _ {t : List ℕ} (u : IsUtf8 t) where
   suffixes_next (last_suffix e d) = end_next d
   suffixes_next (more_suffixes e d s) = suffixes_next s
 
-  -- paths from a place on
+  -- paths from an offset on
   changed : {b : Bool} {h i : ℕ} {x y : Documents} → x ≡ y → PathFrom t b h i x → PathFrom t b h i y
   changed {b} {h} {i} e p = subst (λ w. PathFrom t b h i w) e p
 
@@ -241,7 +241,7 @@ module _ {t : List ℕ} (u : IsUtf8 t) where
   suffixes_from l (last_suffix e d) p = suffix_from l e d p
   suffixes_from {x = x} l (more_suffixes {cs = cs} {ds = ds} e d s) p = changed (comments_join cs ds x) (suffix_from l e d (suffixes_from (end_next d) s p))
 
-  -- what an explicit node means with the comment lines after it
+  -- the meaning of an explicit node with the comment lines after it
   explicit_to : {h k j l : ℕ} {x : Meaning} {es : List CommentValue} → ExplicitNode t h k j x → Settled t j l es → ExplicitTo t h k l (noting x es)
   explicit_to {j = j} {x = x} {es = es} (marked_node e n) s = node_to (record { end = j; meaning = x; comments = es; node = n; settled = s; is = refl })
   explicit_to {k = k} {l = l} {es = es} (marked_nothing {cs = cs} e d) s =
@@ -267,7 +267,7 @@ module _ {t : List ℕ} (u : IsUtf8 t) where
   explicit_dash {k = k} (marked_node e n) = three_code t k 45 e
   explicit_dash {k = k} (marked_nothing e d) = three_code t k 45 e
 
-  -- a document; where a bare one begins no directive does
+  -- a document; no directive begins at a bare one
   bare_from : {h g k p j : ℕ} {x : Meaning} {rest : Documents} → RootNode t h k j x → ContentAt t k p → PathFrom t false g j rest
       → PathFrom t true (max h g) k (with_document x.comments (document_of p false [] x) rest)
   bare_from {h} {k = k} {p = p} {j = j} {x = x} {rest = rest} n c q =
@@ -289,7 +289,7 @@ module _ {t : List ℕ} (u : IsUtf8 t) where
       (from_here (percent_still (lines_begin d))
       (path_directives refl (lines_begin d) (lines_to d (explicit_dash e)) (explicit_to e p.settled) p.path (explicit_marker (directives_next d) e).0))
 
-  -- what follows after a document
+  -- the text after a document
   comments_thrice : (cs ds es : List CommentValue) (d : Document) (x : Documents) → with_comments cs (with_comments ds (with_document es d x)) ≡ with_document (cs ++ (ds ++ es)) d x
   comments_thrice cs ds es d x = ap (with_comments cs) (before_document ds es d x) ∙ before_document cs (ds ++ es) d x
 
