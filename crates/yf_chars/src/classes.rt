@@ -31,7 +31,7 @@ pub fn is_break_char(c: char) -> bool
     matches!(c, '\n' | '\r')
 }
 
-/// A printable character that is no line break and no byte order mark (nb-char, production 27).
+/// A printable character except line breaks and the byte order mark (nb-char, production 27).
 #[tactic(auto, unfolding(crate::specs::Class::is_nb_char, crate::specs::Class::is_printable, crate::specs::Class::is_between, crate::specs::Class::is_break_char))]
 #[inline(always)]
 pub fn is_nb_char(c: char) -> bool
@@ -46,7 +46,7 @@ pub fn is_nb_char(c: char) -> bool
     false
 }
 
-/// A white: space or tab (s-white, production 33).
+/// White space: a space or a tab (s-white, production 33).
 #[tactic(auto, unfolding(crate::specs::Class::is_white))]
 #[inline(always)]
 pub fn is_white(c: char) -> bool
@@ -55,7 +55,7 @@ pub fn is_white(c: char) -> bool
     matches!(c, ' ' | '\t')
 }
 
-/// A character of content that is no white space (ns-char, production 34).
+/// A character of content that isn't white space (ns-char, production 34).
 #[tactic(auto, unfolding(crate::specs::Class::is_ns_char, crate::specs::Class::is_nb_char, crate::specs::Class::is_printable, crate::specs::Class::is_between, crate::specs::Class::is_break_char, crate::specs::Class::is_white))]
 #[inline(always)]
 pub fn is_ns_char(c: char) -> bool
@@ -115,7 +115,7 @@ pub fn is_word_char(c: char) -> bool
     matches!(c, '0'..='9' | 'A'..='Z' | 'a'..='z' | '-')
 }
 
-/// A character that stands for itself in a URI (ns-uri-char, production 39, without its `%` escapes).
+/// A character that represents itself in a URI (ns-uri-char, production 39, without its `%` escapes).
 #[tactic(auto, unfolding(crate::specs::Class::is_uri_char))]
 pub fn is_uri_char(c: char) -> bool
     ensures { result ≡ Class.is_uri_char c }
@@ -148,7 +148,7 @@ pub fn is_uri_char(c: char) -> bool
     )
 }
 
-/// A character that stands for itself in a tag's suffix (ns-tag-char, production 40, without its `%` escapes).
+/// A character that represents itself in a tag's suffix (ns-tag-char, production 40, without its `%` escapes).
 #[tactic(auto, unfolding(crate::specs::Class::is_tag_char))]
 pub fn is_tag_char(c: char) -> bool
     ensures { result ≡ Class.is_tag_char c }
@@ -174,9 +174,9 @@ pub fn is_anchor_char(c: char) -> bool
     }
 }
 
-/// A character that may be in a plain scalar in that context (ns-plain-safe(c), productions 127 to 129).
+/// A character that a plain scalar may contain in the context (ns-plain-safe(c), productions 127 to 129).
 ///
-/// In the two block contexts there is none, since plain scalars are read in flow and key contexts alone.
+/// The two block contexts have none, since plain scalars are read only in flow and key contexts.
 #[tactic(auto, unfolding(crate::specs::Class::is_plain_safe))]
 #[inline(always)]
 pub fn is_plain_safe(c: char, ctx: Ctx) -> bool
