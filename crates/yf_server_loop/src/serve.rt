@@ -41,8 +41,8 @@ fn turn<A: Analysis, R: Source, W: Sink>(
     }
 }
 
-/// Serves a client: reads its messages, does what each asks for, and writes each answer before it reads on. Returns how
-/// the session ended.
+/// Serves a client: reads its messages, handles each, and writes each response before it reads on. Returns how the
+/// session ended.
 pub fn serve<A: Analysis, R: Source, W: Sink>(
     alloc: Global,
     analysis: &A,
