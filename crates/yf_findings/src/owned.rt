@@ -23,7 +23,7 @@ pub struct OwnedProblem {
     /// A rule's id or a refusal's kind.
     pub rule: &'static str,
     pub severity: Severity,
-    /// What was found, and for some rules what is expected.
+    /// What is wrong, and for some rules what is expected.
     pub message: OwnedText,
     /// Whether `fmt` mends it.
     pub fixable: bool,
@@ -95,7 +95,7 @@ fn line_front(alloc: Global, src: &Src, number: usize) -> Result<OwnedText, Allo
     Ok(OwnedText::new(String::from_str(alloc, &text[line.start..stop])?))
 }
 
-// Where the longest front of a part of the text ends that has at most `FRONT` bytes.
+// Returns the end of the longest front of a part of the text that has at most `FRONT` bytes.
 fn front_end(text: &str, start: usize, end: usize) -> usize
     requires start { IsCharBoundary text.now start }
     requires end { IsCharBoundary text.now end }
