@@ -35,7 +35,7 @@ position_at e t i = record { line = lines_before t i; character = column_at e t 
 abbrev pub position_of : Encoding → List ℕ → ℕ → LspPosition
 position_of e t i = position_at e t (character_start t (min i (length t)))
 
--- the offset that is so many units after the start of a line, and at most at the line's end
+-- the offset k units after the start of a line, but at most the line's end
 abbrev pub offset_in : Encoding → List ℕ → ℕ → ℕ → ℕ
 offset_in e t start k = start + bytes_within e (drop start t) k
 

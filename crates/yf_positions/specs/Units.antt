@@ -1,4 +1,4 @@
--- The units of a character, and those of a byte: all units of a character are counted at its first byte.
+-- The units of a character, and those of a byte: the first byte of a character counts for all its units.
 use Rattle.std.specs.Prelude.{ℕ, Bool, ◌==◌, ◌||◌, ◌&&◌, nat_lt, nat_le, if◌then◌else◌}
 use Rattle.std.specs.Char.{len_utf8}
 use Rattle.yf_positions.specs.declared.encoding.Encoding.{Encoding}

@@ -1,4 +1,4 @@
-//! A document of an editor: its text, and where its lines begin.
+//! A document of an editor: its text, and the starts of its lines.
 ghost use Rattle.std.specs.Prelude.{◌≡◌, ◌↔◌, ◌≤◌, ◌++◌, length, take, drop, IfOk, IsErrOf, string_bytes};
 ghost use Rattle.std.specs.Str.{IsCharBoundary};
 ghost use Rattle.yf_positions.specs.Changes.{all_changed, changed, changed_in};
