@@ -39,7 +39,7 @@ first_here u xs i x l is e h = record {
   before = h;
 }
 
--- what the first document with a URI is, and a list around it
+-- the first document with a URI, and a list around it
 find_around : (u : List ℕ) (front back : List OpenDocument) (x : OpenDocument) → find u front ≡ None
     → bytes_eq u (string_bytes x.uri) ≡ true → find u (front ++ x ∷ back) ≡ Some (text_of x)
 find_around u front back x none e =

@@ -97,7 +97,7 @@ outcome_of e was (open_text version text) = Done
 outcome_of e was (change version changes) = change_outcome e was version changes
 outcome_of e was close = close_outcome was
 
--- only what was done changes documents
+-- documents change only if the outcome is `Done`
 abbrev pub StaysAt : Outcome → List OpenDocument → List OpenDocument → Type 0
 StaysAt Done before after = ⊤
 StaysAt NotOpen before after = after ≡ before

@@ -35,22 +35,22 @@ pub struct Problem {
     /// The byte offset at which it ends.
     pub end: usize,
     pub severity: Severity,
-    /// What it is called, for example the name of a rule.
+    /// Its name, for example that of a rule.
     pub code: &'static str,
     /// What a client shows of it.
     pub message: String,
 }
 
-/// What is known of texts: how they are formatted, and which problems they have.
+/// An analysis of texts: their formattings and their problems.
 pub trait Analysis {
-    /// What is known of texts.
+    /// The claim about texts.
     ghost claim: { Self → TextClaim };
 
-    /// Returns what the formatting of a text gives; `None` if the text cannot be formatted.
+    /// Returns the formatting of a text, or `None` if the text cannot be formatted.
     ///
     /// # Errors
     ///
-    /// `AllocError` if memory was refused.
+    /// `AllocError` if memory is refused.
     fn formatted(&self, alloc: Global, text: &str) -> Result<Option<String>, AllocError>
         ensures { IfOk result (λ new. (claim self.now).Formats text.now (option_map string_bytes new)) };
 

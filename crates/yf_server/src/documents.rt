@@ -186,14 +186,14 @@ fn open(
     )
 }
 
-/// Does what a client asks for with a document, and returns what became of it.
+/// Handles a client's event for a document, and returns the outcome.
 ///
-/// A document that is opened while it is open gets the new version and text. A document that cannot be changed stays as
-/// it was.
+/// A document that is opened while it is open gets the new version and text. A document that cannot be changed is
+/// unchanged.
 ///
 /// # Errors
 ///
-/// `AllocError` if memory was refused; every document is as it was before then.
+/// `AllocError` if memory is refused; every document is then unchanged.
 pub fn act(
     alloc: Global,
     documents: &mut Vec<OpenDocument>,

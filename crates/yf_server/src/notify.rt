@@ -121,7 +121,8 @@ pub fn is_of_document(method: &str) -> bool
         || method == "textDocument/didClose"
 }
 
-/// Returns the warning for a notification on a document whose parameters are malformed; `None` for any other method.
+/// Returns the warning for a notification on a document if its parameters are malformed, or `None` for any other
+/// method.
 fn malformed(alloc: Global, method: &str) -> Result<Option<Value>, AllocError>
     ensures { IfOk result (λ note. MatchBool (is_of_document method.now) (IsLogged (option_map view note))
         (option_map view note ≡ None)) }

@@ -102,7 +102,7 @@ fn push_change<'v>(
     Ok(())
 }
 
-/// Returns the changes that values are, in order; `None` if one of them is no change.
+/// Returns the changes that the values describe, in order, or `None` if one of them is not a change.
 fn changes_of<'v>(
     alloc: Global,
     values: &'v [Value],

@@ -59,7 +59,7 @@ pub fn is_notification(task: Task) -> bool
     }
 }
 
-/// Returns whether a task is to answer a request that is not of the life cycle.
+/// Returns whether the task is a response to a request that is not of the life cycle.
 fn is_request(task: Task) -> bool
     ensures { result ≡ is_request task }
 {
@@ -130,7 +130,7 @@ fn failure_to(alloc: Global, message: Message<'_>, code: ErrorCode) -> Result<Va
     }
 }
 
-/// Returns the answer to a message, if it gets one.
+/// Returns the response to a message, if it gets one.
 fn answer_to(
     alloc: Global,
     message: Message<'_>,
@@ -165,7 +165,7 @@ fn answer_to(
     }
 }
 
-/// Returns the answer to a request that is not of the life cycle.
+/// Returns the response to a request that is not of the life cycle.
 fn respond_to<A: Analysis>(
     alloc: Global,
     analysis: &A,
@@ -209,11 +209,11 @@ impl Server {
     }
 }
 
-/// Does what a message asks for, and returns the task and the message that the server sends.
+/// Handles a message, and returns the task and the message that the server sends.
 ///
 /// # Errors
 ///
-/// `AllocError` if memory was refused; the server is as it was before then.
+/// `AllocError` if memory is refused; the server is then unchanged.
 pub fn step<A: Analysis>(
     alloc: Global,
     analysis: &A,
@@ -275,11 +275,11 @@ fn push_any(sent: &mut Vec<Value>, message: Option<Value>) -> Result<(), AllocEr
     }
 }
 
-/// Does what messages ask for, in order, and returns the messages that the server sends.
+/// Handles messages in order, and returns the messages that the server sends.
 ///
 /// # Errors
 ///
-/// `AllocError` if memory was refused.
+/// `AllocError` if memory is refused.
 pub fn run<A: Analysis>(
     alloc: Global,
     analysis: &A,
