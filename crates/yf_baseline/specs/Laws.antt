@@ -33,7 +33,7 @@ abbrev pub HashesAreLong : List Kept → Type 0
 HashesAreLong [] = ⊤
 HashesAreLong (k ∷ ks) = (length k.hash ≡ 64) × HashesAreLong ks
 
--- The order of the findings doesn't matter to which entries they have.
+-- The entries of findings don't depend on the order of the findings.
 abbrev pub EntriesIgnoreOrder : Type 0
 EntriesIgnoreOrder = (file : List ℕ) (some others : List Kept) → HashesAreLong some × HashesAreLong others
     → IsPermutation some others → (e : Entry) → Has (entries_of file some) e → Has (entries_of file others) e

@@ -1,12 +1,12 @@
 -- texts that were seen
 pub mod SeenTexts
--- what an entry is, and the entries of findings
+-- entries, and the entries of findings
 pub mod Entries
 -- how a baseline is written and read
 pub mod Baselines
 -- the order of entries
 pub mod Sorted
--- those of some things whose flags are set
+-- the items with set flags
 pub mod Chosen
 -- which findings a baseline lists, and which entries no longer occur
 pub mod Listed

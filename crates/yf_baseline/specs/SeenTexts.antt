@@ -9,7 +9,7 @@ use Rattle.std.specs.BTreeSet.{BTreeSet, contains_text}
 abbrev pub occurrences : List ℕ → List (List ℕ) → ℕ
 occurrences text seen = count_by (λ other. bytes_eq text other) seen
 
--- the text is one of these
+-- the text is one of the texts
 abbrev pub is_among : List (List ℕ) → List ℕ → Bool
 is_among texts text = list_any (λ other. bytes_eq text other) texts
 

@@ -12,7 +12,7 @@ pub fn entries_come_once()
     ensures { EntriesComeOnce }
 {}
 
-/// The order of the findings doesn't matter to which entries they have.
+/// The entries of findings don't depend on the order of the findings.
 pub fn entries_ignore_order()
     ensures { EntriesIgnoreOrder }
 {}

@@ -103,7 +103,7 @@ pub fn missing<'a>(
     Ok(found)
 }
 
-// Whether an entry is one of a file that was checked, and no longer occurs.
+// Returns whether an entry belongs to a file that was checked, and no longer occurs.
 fn is_missing(
     alloc: Global,
     entry: &Entry,

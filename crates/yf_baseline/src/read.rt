@@ -20,7 +20,7 @@ use std::collections::BTreeSet;
 ///
 /// # Errors
 ///
-/// `Memory` if memory runs out. Otherwise a `Refusal` says why the text is no baseline.
+/// `Memory` if memory runs out. Otherwise a `Refusal` says why the text is not a baseline.
 pub fn read_baseline(alloc: Global, text: &str) -> Result<Vec<Entry>, Refusal>
     ensures ok { IfOk result (λ es. baseline_in text.now ≡ Ok es.items) }
     ensures refused { IfErr result (λ e. e ≢ Refusal.Memory → baseline_in text.now ≡ Err e) }
