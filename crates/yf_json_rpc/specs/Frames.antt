@@ -36,7 +36,7 @@ GivesFrame bytes body rest (Ok (Some content)) = (slice_range bytes content.star
 GivesFrame bytes body rest (Ok None) = ⊥
 GivesFrame bytes body rest (Err e) = ⊥
 
--- the content of a known size that begins at an offset, if it fits the limit and is there
+-- the content of a known size that begins at an offset, if it fits the limit and is complete
 abbrev pub ContentAt : ℕ → ℕ → ℕ → ℕ → Result (Option Content) FrameError → Type 0
 ContentAt all start size limit (Ok (Some content)) =
     (content.start ≡ start) × (content.end ≡ start + size) × (content.end ≤ all) × (size ≤ limit)

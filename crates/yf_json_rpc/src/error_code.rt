@@ -5,7 +5,7 @@ ghost use Rattle.yf_json_rpc.specs.ErrorCodes.{number_of};
 /// Why a request failed (JSON-RPC 2.0, section 5.1, and `ErrorCodes` and `LSPErrorCodes` of LSP 3.17).
 #[derive(Clone, Copy)]
 pub enum ErrorCode {
-    /// The message is no JSON.
+    /// The message is not JSON.
     ParseError,
     /// The message is JSON, but no request.
     InvalidRequest,
