@@ -31,7 +31,7 @@ pub record Passes (Shows : Looks) (at : List ℕ) : Type 0 where
 pub data EndsIn (Shows : Looks) (at : List ℕ) (d : Discovery) : Type 0 where
   -- the folder has a settings file
   has_settings : Shows (settings_in at) there.File → d ≡ discovery.Settings (settings_in at) → EndsIn Shows at d
-  -- what has the name of a settings file is a folder
+  -- a folder has the name of a settings file
   is_folder : Shows (settings_in at) there.Folder → d ≡ discovery.Fault (settings_in at) → EndsIn Shows at d
   -- there may be a settings file
   is_unknown : Shows (settings_in at) there.Unknown → d ≡ discovery.Fault (settings_in at) → EndsIn Shows at d

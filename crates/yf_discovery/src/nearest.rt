@@ -22,7 +22,7 @@ pub enum Discovery {
     Settings(OwnedText),
     /// No settings file.
     Nothing,
-    /// What is at this name decides, and it is no file or can't be looked at.
+    /// The thing with this name decides, and it is not a file or can't be looked at.
     Fault(OwnedText),
 }
 
@@ -55,7 +55,7 @@ pub fn nearest_settings<F: Folders>(
     }
 }
 
-// Looks into a folder, whose name is empty or ends with a slash. Returns what the search finds if it ends there.
+// Looks into a folder, whose name is empty or ends with a slash. Returns the result if the search ends there.
 fn look_in<F: Folders>(
     alloc: Global,
     folders: &F,
