@@ -40,7 +40,7 @@ members_end (class_goes_on never _ _) (class_ends closing _) = absurd (never clo
 members_end {t} {start} {k = k} (class_goes_on _ a rest) (class_goes_on {rs = ss} _ b other) =
     members_end rest (subst (λ z. MembersAt t start z ss k) (sym (member_end a b)) other)
 
--- what is read from there on, if anything is
+-- the rest of the class from an offset on, if it can be read
 pub record ReadOn (t : List ℕ) (start i : ℕ) : Type 0 where
   pub ranges : List ByteRange
   pub end : ℕ

@@ -13,7 +13,7 @@ pub drop_next : {A : Type 0} (ps : List A) (n : ℕ) (a : A) → n < length ps �
 drop_next ps n a below is =
     rw add-one (drop-cons ps n a below ∙ ap (λ z. z ∷ drop (suc n) ps) (sym is))
 
--- n items after the first n pieces, which are no runs
+-- n items after the first n pieces, which are not runs
 pub after_fixed : {A B : Type 0} {is_run : A → Bool} {Takes : A → B → Type 0} {n : ℕ} {ps : List A} {xs : List B}
     → NoRuns is_run n ps → Spans is_run Takes ps xs → Spans is_run Takes (drop n ps) (drop n xs)
 after_fixed no_more s = s

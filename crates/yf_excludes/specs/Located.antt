@@ -17,7 +17,7 @@ pub record LeadsToFile (path : List ℕ) (folder : List (List ℕ)) : Type 0 whe
   pub own : List ℕ
   pub leads : Leads [] path (Some (folder ++ own ∷ []))
 
--- the path is that of no file in a folder
+-- the path is not that of a file in a folder
 abbrev pub IsNoFolder : List ℕ → Type 0
 IsNoFolder path = (folder : List (List ℕ)) → ¬ (LeadsToFile path folder)
 

@@ -16,7 +16,7 @@ is_dots (a ∷ []) = false
 is_dots (a ∷ b ∷ []) = (a == DOT) && (b == DOT)
 is_dots (a ∷ b ∷ c ∷ cs) = false
 
--- the names without the last one, of which there has to be one
+-- the names without the last one; none if there is no name
 abbrev pub above : List (List ℕ) → Option (List (List ℕ))
 above [] = None
 above (n ∷ ns) = Some (take (length ns) (n ∷ ns))
