@@ -1,6 +1,6 @@
 //! The words of the command line.
 
-/// What is done with each stream.
+/// The work on each stream.
 #[derive(Clone, Copy)]
 pub enum Verb {
     Events,

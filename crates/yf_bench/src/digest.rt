@@ -1,6 +1,6 @@
 //! A digest of bytes.
 
-/// An odd number whose bits are those of the golden ratio.
+/// An odd number with the bits of the golden ratio.
 const FACTOR: u64 = 0x9e37_79b9_7f4a_7c15;
 
 /// A digest of all bytes and numbers that were added, in their order.

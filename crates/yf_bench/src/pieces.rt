@@ -2,7 +2,7 @@
 
 use std::alloc::{AllocError, Global};
 
-/// What is before a part's text.
+/// The text before a part's text.
 #[derive(Clone, Copy)]
 pub enum Preamble {
     /// Nothing.
