@@ -17,7 +17,7 @@ anchor_of mapping_ends = None
 anchor_of (scalar_node props style text) = props.anchor
 anchor_of (alias_node name) = None
 
--- where the node with its properties begins
+-- the start of the node with its properties
 abbrev pub start_of : Option Span → ℕ
 start_of None = 0
 start_of (Some span) = span.start

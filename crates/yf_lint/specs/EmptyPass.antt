@@ -58,7 +58,7 @@ found_by mapping_ends start st = []
 found_by (scalar_node props style text) start st = found_at (is_empty_scalar props style text) start st
 found_by (alias_node name) start st = found_at false start st
 
--- what is found from an event on
+-- the offsets found from an event on
 abbrev pub run : List OpenEntries → List EventInText → List ℕ
 run st [] = []
 run st (e ∷ es) = found_by e.event (start_of e.span e.entry) st ++ run (next e.event (start_of e.span e.entry) st) es

@@ -1,4 +1,4 @@
-//! Keys and items without a value: an empty node without properties, where the text has nothing at all (YAML 1.2.2,
+//! Keys and items without a value: an empty node without properties, for which the text has nothing (YAML 1.2.2,
 //! section 7.2).
 ghost use Rattle.std.specs.Prelude.{◌≡◌, ◌++◌, List, flat_map, reverse, IfOk};
 ghost use Rattle.yf_events.specs.Event.{event_value};
@@ -12,7 +12,7 @@ use yf_events::event::{Entry, Event, Span};
 use yf_events::reading::Reading;
 use yf_guard::scalars::is_empty_scalar;
 
-/// A collection whose end has not come yet.
+/// A collection that has not ended yet.
 #[derive(Clone, Copy)]
 pub struct OpenEntries {
     pub is_map: bool,
@@ -126,7 +126,7 @@ fn pass_end(stack: &mut Vec<OpenEntries>)
     }
 }
 
-/// Goes past one event, with where it is.
+/// Passes one event with its start.
 fn pass(
     event: Event,
     start: usize,
