@@ -18,7 +18,7 @@ use Rattle.yf_rule_sets.specs.RuleSets.Whites.{WhitesEnd}
 use Rattle.yf_rule_sets.specs.declared.rules.StyleRule.{StyleRule}
 use Rattle.yf_rule_sets.specs.declared.rules.StyleRule.TheVariants.{TrailingBlanks, Indentation, Quoting, DocumentStart, FinalBreak, LineBreaks, ByteOrderMark, BlankLines, FlowLayout, CommentSpace, LineLength, RepeatedKeys, KeyMark, HiddenCharacter}
 
--- the fault ends at an offset of which this holds, and the message is this one
+-- `Ends` holds of the fault's span, and the message is this one
 pub record EndsBy (Ends : ℕ → ℕ → Type 0) (message : Message) (d : Detail) : Type 0 where
   pub end : Ends d.span.start d.span.end
   pub says : d.message ≡ message
@@ -27,7 +27,7 @@ pub record EndsBy (Ends : ℕ → ℕ → Type 0) (message : Message) (d : Detai
 abbrev pub IsEmpty : ℕ → ℕ → Type 0
 IsEmpty start end = end ≡ start
 
--- document-start: the marker, if text is after it; else a marker is missing
+-- document-start: the marker, if text is after it; otherwise a marker is missing
 pub data MarkerDetail (t : List ℕ) (d : Detail) : Type 0 where
   text_after : ForbiddenLine t d.span.start → d.span.end ≡ d.span.start + 3 → d.message ≡ Says.TextAfterMarker → MarkerDetail t d
   no_marker : (ForbiddenLine t d.span.start → ⊥) → d.span.end ≡ d.span.start → d.message ≡ Says.NoMarker → MarkerDetail t d

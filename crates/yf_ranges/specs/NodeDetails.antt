@@ -16,8 +16,8 @@ use Rattle.yf_ranges.specs.declared.detail.Message.{Message}
 use Rattle.yf_ranges.specs.declared.detail.Message.TheVariants as Says
 use Rattle.yf_rule_sets.specs.RuleSets.Scalars.{IsScalar}
 
--- where a part of the text ends: at its end, or with the text if the text doesn't hold the part. A reading's parts
--- are held by its text
+-- the end of a part of the text, or the end of the text if the text doesn't contain the part; a reading's parts are in
+-- its text
 pub data PartEnd (t : List ℕ) (start end : ℕ) : ℕ → Type 0 where
   held : start < end → end ≤ length t → PartEnd t start end end
   not_held : (start < end → end ≤ length t → ⊥) → PartEnd t start end (length t)

@@ -1,4 +1,4 @@
--- Where a part of a text ends that begins at an offset. Offsets count bytes.
+-- The ends of parts of a text that begin at an offset. Offsets count bytes.
 use Rattle.std.specs.Prelude.{◌≡◌, ℕ, ◌⊎◌, true, false, List, length}
 use Rattle.yf_chars.specs.Chain.{Many}
 use Rattle.yf_chars.specs.Class.{is_break_char, is_white}

@@ -6,7 +6,7 @@ use crate::detail::{Message, ScalarStyle};
 use itoa::Buffer;
 use std::alloc::AllocError;
 
-/// Appends the words of a message: what was found, and what the house style expects.
+/// Appends the words of a message: what is wrong, and what the house style expects.
 ///
 /// # Errors
 ///
