@@ -11,9 +11,9 @@ use std::alloc::{AllocError, Global};
 /// The number of the first line of a text.
 const FIRST_LINE: usize = 1;
 
-/// Adds the ranges that a text writes, in its order, and returns whether it writes ranges: one range or more with
-/// commas between. A range is the number of a line, or two numbers with `-` between, of which the first is not larger
-/// than the second. A number is made of digits, and is at least 1. Nothing else may be in the text, not even a space.
+/// Adds the ranges of a text, in order, and returns whether the text is a list of ranges: one or more, separated by
+/// commas. A range is the number of a line, or two numbers with `-` between; the first must not be larger than the
+/// second. A number consists of digits and is at least 1. The text must contain nothing else, not even a space.
 ///
 /// If it returns false, it may have added some of the ranges.
 ///
@@ -57,7 +57,7 @@ fn range_of(part: &str) -> Option<LineRange>
     }
 }
 
-// The lines from one number to another, or nothing if a text is no number, or if the first number is larger.
+// Returns the lines from one number to another, or `None` if a text is not a number, or if the first number is larger.
 fn lines_between(first: &str, last: &str) -> Option<LineRange>
     ensures { MatchOption result (are_ends first.now last.now ≡ false)
         (λ range. (are_ends first.now last.now ≡ true) × (range ≡ lines_between first.now last.now)) }
