@@ -95,7 +95,7 @@ module _ (laws : Laws) where
   read_text : (t : List ℕ) (r : Lists) → IsUtf8 t → ReadingOf t r → IsAccepted t
   read_text t r u g = accepted_text t ((laws.standard t).1 u r g)
 
-  -- what each derivation says is what the reading was made of
+  -- each derivation states the documents from which the reading was made
   said_read : (t : List ℕ) (r : Lists) → IsUtf8 t → (g : ReadingOf t r) → (d : IsStandardStream t) → said_by d ≡ documents_said g.derived
   said_read t r u g d =
       let v = laws.streams t DEPTH u d in

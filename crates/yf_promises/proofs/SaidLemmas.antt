@@ -1,4 +1,4 @@
--- The events, the content and the comments of a reading are what the documents say.
+-- The events, the content and the comments of a reading are those that the documents state.
 use Rattle.std.proofs.Common.{◌≡◌, ℕ, Bool, List, [], ◌∷◌, ◌++◌, map, flat_map, Option, Some, None, refl, sym, ap, ◌∙◌, subst, append_assoc, append-nil}
 use Rattle.std.specs.List.{zip}
 use Rattle.std.proofs.lemmas.List.{map-append}

@@ -1,7 +1,7 @@
--- What yamlfmt promises. `Promises` is the statement for readers: it says what a tool does that accepts, prints, formats
--- and checks texts, over the productions of YAML 1.2.2 with our reading rules. It doesn't say how the tool lays out a
--- text, nor what each rule finds. `yamlfmt` is the tool of this repository. (A command refuses a text of more than 1 GiB,
--- and one whose formatting would be longer; and memory may be refused.)
+-- The promises of yamlfmt. `Promises` is the statement for readers: it says what a tool does that accepts, prints,
+-- formats and checks texts, over the productions of YAML 1.2.2 with our reading rules. It doesn't say how the tool lays
+-- out a text, nor what each rule finds. `yamlfmt` is the tool of this repository. (A command refuses a text of more
+-- than 1 GiB, and one whose formatting would be longer; and memory may be refused.)
 use Rattle.std.specs.Prelude.{◌≡◌, ℕ, Bool, true, List, []}
 use Rattle.std.specs.Str.{IsUtf8}
 use Rattle.yf_lines.specs.Lines.{AreLines, Table}
@@ -49,7 +49,8 @@ pub record Promises (tool : Tool) : Type 0 where
   pub comments : (t : List ℕ) (s : Style) (u : List ℕ) → IsUtf8 t → tool.Formats t s u → SameComments t u
   -- Formatting it again changes nothing.
   pub again : (t : List ℕ) (s : Style) (u : List ℕ) → IsUtf8 t → tool.Formats t s u → tool.Formats u s u
-  -- No rule finds anything in it that formatting mends. (That a check prints what the rules find is its own contract.)
+  -- No rule that formatting fixes finds anything in it. (That a check prints the findings of the rules is its own
+  -- contract.)
   pub clean : (t : List ℕ) (s : Style) (u : List ℕ) → IsUtf8 t → tool.Formats t s u
       → (rule : StyleRule) → tool.fixes rule ≡ true → (offsets : List ℕ) → tool.Finds rule u s offsets → offsets ≡ []
 
@@ -67,7 +68,7 @@ ContentIsOne = (s : StreamSaid) (b c : ContentOf) → ContentSaid s b → Conten
 abbrev pub ReadingPrints : List ℕ → List EventValue → Type 0
 ReadingPrints t es = (r : Lists) × ReadingOf t r × (es ≡ events_of r)
 
--- What the rule's set has for the lines and the reading of a text.
+-- The offsets in the rule's set for the lines and the reading of a text.
 pub record RuleFinds (rule : StyleRule) (t : List ℕ) (s : Style) (offsets : List ℕ) : Type 0 where
   pub source : Table
   pub reading : Lists
