@@ -144,7 +144,7 @@ fn number_in(value: &Value<'_>, name: &str) -> Option<u64>
     }
 }
 
-// Whether an entry comes twice.
+// Returns whether an entry occurs twice.
 fn repeats(alloc: Global, entries: &[Entry]) -> Result<bool, AllocError>
     ensures { IfOk result (λ found. found ≡ repeats (map (λ e. entry_line e) entries.now)) }
 {

@@ -20,7 +20,8 @@ pub struct Command {
 }
 
 impl Command {
-    /// How many pieces the stream with that index has: every sixth one is largest, the others have a half, a quarter and so on.
+    /// Returns the number of pieces of the stream with that index: every sixth stream is largest, the others have a
+    /// half, a quarter and so on.
     pub fn size_of(&self, index: u32) -> u32 {
         (self.pieces >> (index % 6)).max(1)
     }
@@ -35,7 +36,7 @@ fn read_verb(word: &str) -> Option<Verb> {
     }
 }
 
-/// The command of four words, or none.
+/// Returns the command of four words, or `None`.
 pub fn read_command(words: &[String]) -> Option<Command> {
     let [verb, count, pieces, seed] = words else {
         return None;

@@ -52,7 +52,7 @@ pub struct Streams<'a> {
 }
 
 impl<'a> Streams<'a> {
-    /// A maker of streams of the pieces of a text.
+    /// Returns a maker of streams of the pieces of a text.
     pub fn new(alloc: Global, pieces: &'a str, seed: u64) -> Result<Streams<'a>, AllocError> {
         Ok(Streams {
             pieces: pieces_of(alloc, pieces)?,

@@ -27,7 +27,7 @@ pub struct Work {
 }
 
 impl Work {
-    /// Nothing was done yet.
+    /// Returns the state before any work.
     pub fn new(alloc: Global) -> Work {
         Work {
             streams: 0,

@@ -10,8 +10,9 @@ use crate::error::NoMemory;
 use crate::escapes::{is_by_four, push_escaped, push_number};
 use ucd_derived::is_default_ignorable_code_point;
 
-/// A hidden character: one with the property Default_Ignorable_Code_Point of Unicode 18.0, such as all controls of
-/// bidirectional text; a no-break space (U+00A0, U+2007, U+202F); U+0085, U+2028, U+2029; or one of private use.
+/// Returns whether the character is hidden: one with the property Default_Ignorable_Code_Point of Unicode 18.0, such as
+/// all controls of bidirectional text; a no-break space (U+00A0, U+2007, U+202F); U+0085, U+2028, U+2029; or one of
+/// private use.
 pub fn is_hidden(c: char) -> bool
     ensures { result ≡ Hidden.is_hidden c }
 {

@@ -42,7 +42,7 @@ pub(crate) fn locate(src: &Src, style: &Style, cursor: Cursor, finding: &Finding
     }
 }
 
-// The range from a position to the position of an offset.
+// Returns the range from a position to the position of an offset.
 fn range_of(src: &Src, cursor: Cursor, place: Position, end: usize) -> Range
     requires cursor { IsCursor src.now.text src.now.lines cursor }
     ensures { RangeOf src.now.text place end result }
@@ -64,7 +64,7 @@ fn range_of(src: &Src, cursor: Cursor, place: Position, end: usize) -> Range
     }
 }
 
-// The rule of a number.
+// Returns the rule with a number.
 fn rule_of(number: usize) -> StyleRule
     ensures { result ≡ rule_of number }
 {

@@ -54,7 +54,7 @@ pub(crate) fn owned(
     })
 }
 
-// The words of a message.
+// Returns the words of a message.
 fn words_of(alloc: Global, message: &Message) -> Result<OwnedText, AllocError>
     ensures { IfOk result (λ words. words ≡ message_words message.now) }
 {
@@ -63,7 +63,7 @@ fn words_of(alloc: Global, message: &Message) -> Result<OwnedText, AllocError>
     Ok(OwnedText::new(words))
 }
 
-// The text of the line that has this number, or a front of it.
+// Returns the text of the line with this number, or a front of it.
 fn line_text(alloc: Global, src: &Src, number: usize) -> Result<OwnedText, AllocError>
     ensures { IfOk result (λ s. LineText src.now number s) }
 {
@@ -76,14 +76,14 @@ fn line_text(alloc: Global, src: &Src, number: usize) -> Result<OwnedText, Alloc
     line_front(alloc, src, number)
 }
 
-// The empty text.
+// Returns the empty text.
 fn nothing(alloc: Global) -> OwnedText
     ensures { result ≡ [] }
 {
     OwnedText::new(String::new(alloc))
 }
 
-// The text of the line that has this number, or a front of it.
+// Returns the text of the line with this number, or a front of it.
 fn line_front(alloc: Global, src: &Src, number: usize) -> Result<OwnedText, AllocError>
     requires first { 1 ≤ number }
     requires last { number ≤ length src.now.lines }

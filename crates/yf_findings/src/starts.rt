@@ -64,7 +64,7 @@ fn start_in_line(src: &Src, rule: StyleRule, cursor: Cursor, place: Position) ->
     }
 }
 
-// Whether a rule is about byte order marks.
+// Returns whether a rule is about byte order marks.
 fn is_mark_rule(rule: StyleRule) -> bool
     ensures { result ≡ is_mark_rule rule }
 {
@@ -74,7 +74,7 @@ fn is_mark_rule(rule: StyleRule) -> bool
     }
 }
 
-// The cursor at a position in the line of that index.
+// Returns the cursor at a position in the line with that index.
 fn cursor_at(src: &Src, cursor: Cursor, line: usize, place: Position) -> Cursor
     requires cursor { IsCursor src.now.text src.now.lines cursor }
     requires line { line < length src.now.lines }

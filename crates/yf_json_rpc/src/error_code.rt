@@ -22,7 +22,7 @@ pub enum ErrorCode {
 }
 
 impl ErrorCode {
-    /// The number that the protocol gives this error.
+    /// Returns the number that the protocol gives this error.
     pub fn number(self) -> i64
         ensures { result ≡ number_of self }
     {

@@ -6,7 +6,7 @@ pub fn streams_read()
     ensures { StreamsRead }
 {}
 
-/// Bytes are the messages of one list only.
+/// Bytes are the messages of only one list.
 pub fn frames_are_one()
     ensures { FramesAreOne }
 {}

@@ -20,7 +20,7 @@ pub fn read_number(text: &str) -> Option<usize>
     }
 }
 
-// Whether a text has only digits.
+// Returns whether a text has only digits.
 fn are_digits(text: &str) -> bool
     ensures { result ≡ list_all is_ascii_digit text.now }
 {

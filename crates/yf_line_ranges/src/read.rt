@@ -39,14 +39,14 @@ pub fn add_ranges(
     Ok(true)
 }
 
-// The texts between the commas of a text.
+// Returns the texts between the commas of a text.
 fn parts_of<'a>(alloc: Global, text: &'a str) -> Result<Vec<&'a str>, AllocError>
     ensures { IfOk result (λ parts. map (λ part. part.now) parts.items ≡ parts_of text.now) }
 {
     text.split(',').collect(alloc)
 }
 
-// The range that a text writes, or nothing if it writes none.
+// Returns the range that a text writes, or `None` for another text.
 fn range_of(part: &str) -> Option<LineRange>
     ensures { MatchOption result (is_range part.now ≡ false)
         (λ range. (is_range part.now ≡ true) × (range ≡ range_of part.now)) }
@@ -76,7 +76,7 @@ fn lines_between(first: &str, last: &str) -> Option<LineRange>
     Some(LineRange { first, last })
 }
 
-// The number of a line that a text writes, or nothing if it writes none.
+// Returns the number of a line that a text writes, or `None` for another text.
 fn line_number(text: &str) -> Option<usize>
     ensures { MatchOption result (is_line_number text.now ≡ false)
         (λ number. (is_line_number text.now ≡ true) × (number ≡ number_of text.now)) }

@@ -22,7 +22,7 @@ pub struct OpenEntries {
     pub key_start: usize,
 }
 
-/// The byte offset of a node, and of an empty one that of its entry: of its `:`, or of its `-` or `?`.
+/// Returns the byte offset of a node, or for an empty node that of its entry's `:`, `-` or `?`.
 fn node_start(span: Option<Span>, entry: Option<Entry>) -> usize
     ensures { result ≡ EmptyValues.start_of span entry }
 {
@@ -38,7 +38,7 @@ fn node_start(span: Option<Span>, entry: Option<Entry>) -> usize
     }
 }
 
-/// The offset at fault if an empty node comes next in the collection.
+/// Returns the offset at fault if an empty node comes next in the collection.
 fn fault_in(entries: OpenEntries, start: usize) -> Option<usize>
     ensures { result ≡ EmptyPass.fault_in entries start }
 {
@@ -51,7 +51,7 @@ fn fault_in(entries: OpenEntries, start: usize) -> Option<usize>
     Some(start)
 }
 
-/// The collection after one more node, which begins there.
+/// Returns the collection after one more node, which begins at `start`.
 fn turned(entries: OpenEntries, start: usize) -> OpenEntries
     ensures { result ≡ EmptyPass.turned start entries }
 {
@@ -167,8 +167,8 @@ fn pass(
     }
 }
 
-/// The byte offsets of the keys that have no value, and of the `-` of items that are empty, in the order of the values.
-/// A value or an item with an anchor or a tag is not empty.
+/// Returns the byte offsets of the keys without a value, and of the `-` of empty items, in the order of the values. A
+/// value or an item with an anchor or a tag is not empty.
 ///
 /// The time is linear in the number of events.
 pub fn empty_values(alloc: Global, reading: &Reading) -> Result<Vec<usize>, AllocError>

@@ -64,7 +64,7 @@ impl Document {
         Ok(Document { text, starts })
     }
 
-    /// The text.
+    /// Returns the text.
     pub fn text(&self) -> &str
         ensures { result.now ≡ self.now }
     {

@@ -6,7 +6,7 @@ pub fn positions_invert()
     ensures { PositionsInvert }
 {}
 
-/// The offset of a position is the offset of its own position, so no information is lost from the second step on.
+/// The offset of a position is the offset of its own position, so a second conversion loses no information.
 pub fn offsets_invert()
     ensures { OffsetsInvert }
 {}

@@ -51,7 +51,7 @@ pub struct Problem<'a> {
 }
 
 impl Severity {
-    /// The severity as JSON and most other formats write it.
+    /// Returns the severity as JSON and most other formats write it.
     pub fn name(self) -> &'static str
         ensures { result.now ≡ severity_name self }
     {

@@ -14,7 +14,7 @@ pub enum Severity {
 }
 
 impl Severity {
-    /// The number that the protocol gives it.
+    /// Returns the number that the protocol gives the severity.
     pub fn number(self) -> u64
         ensures { result ≡ severity_number self }
     {

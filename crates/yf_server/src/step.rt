@@ -195,7 +195,7 @@ fn respond_to<A: Analysis>(
 }
 
 impl Server {
-    /// A server that no message has reached.
+    /// Returns a server that has received no message.
     pub fn new(alloc: Global) -> Server
         ensures phase { result.phase ≡ Phase.Fresh }
         ensures encoding { result.encoding ≡ Encoding.Utf16 }
