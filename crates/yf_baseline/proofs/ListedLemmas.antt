@@ -1,4 +1,4 @@
--- Sets of texts, and what they say of entries.
+-- Sets of texts, and tests of entries by them.
 use Rattle.std.proofs.Common.{◌≡◌, ℕ, ◌+◌, ◌<◌, ◌≤◌, Bool, true, false, not, ◌&&◌, ◌||◌, List, [], ◌∷◌, ◌++◌, length, map}
 use Rattle.std.proofs.Common.{take, drop, get_or, String, cond, refl, sym, ap, ◌∙◌, subst, arith}
 use Rattle.std.specs.Prelude.{bytes_eq, filter}
@@ -91,7 +91,7 @@ module _ {Y : Type 0} where
   seen_all set i es s over =
       ap (λ l. repeats_after s.seen (map (λ e. entry_line e) l)) (sym (drop_all i es over)) ∙ s.rest
 
-  -- ---- what the sets say
+  -- ---- tests by the sets
 
   pub unlisted_is : (set : BTreeSet (String Y)) (flags : List Bool) (es : List Entry)
       (lines : List (List ℕ)) → flags ≡ map (λ e. not (contains_text set (entry_line e))) es → Holds set lines →

@@ -22,7 +22,7 @@ use Rattle.yf_baseline.proofs.TextLemmas.{body, document-body, without_feed-text
 
 -- ---- the end of the text
 
--- a text that ends with no line feed is left as it is
+-- a text without a line feed at its end is unchanged
 pub no_feed : (text : List ℕ) → ((front : List ℕ) → text ≢ front ++ 10 ∷ []) → text ≡ without_feed text
 no_feed [] h = refl
 no_feed (x ∷ xs) h = cases (slice_index (x ∷ xs) (length (x ∷ xs) - 1) == 10) refl

@@ -1,4 +1,4 @@
--- What follows from the definitions.
+-- Consequences of the definitions.
 use Rattle.std.specs.Prelude.{◌≡◌, ◌<◌, ◌^◌, ◌⊎◌, List, [], ◌∷◌, ℕ, length, map, false, ⊤}
 use Rattle.std.specs.List.Sorted.{IsPermutation}
 use Rattle.yf_lines.specs.Lines.{Table}

@@ -12,5 +12,5 @@ pub mod Chosen
 pub mod Listed
 -- which ranges have an asked line
 pub mod OnLines
--- what follows from the definitions
+-- consequences of the definitions
 pub mod Laws

@@ -5,7 +5,7 @@ use Rattle.yf_baseline.specs.Chosen.{chosen}
 use Rattle.yf_baseline.specs.SeenTexts.{is_among}
 use Rattle.yf_baseline.specs.declared.entry.Entry.{Entry}
 
--- the entry isn't one of those with these lines
+-- the entry isn't among those with these lines
 abbrev pub is_new : List (List ℕ) → Entry → Bool
 is_new lines e = not (is_among lines (entry_line e))
 

@@ -1,8 +1,8 @@
-//! What a baseline keeps of a finding.
+//! The parts of a finding that a baseline keeps.
 
 use yf_lines::text::OwnedText;
 
-/// What a baseline keeps of a finding.
+/// The parts of a finding that a baseline keeps.
 #[derive(Drop)]
 pub struct Entry {
     /// The file's name as the user wrote it.

@@ -1,4 +1,4 @@
-//! What follows from the definitions.
+//! Consequences of the definitions.
 ghost use Rattle.yf_baseline.specs.Laws.{EntriesComeOnce, EntriesGoByTexts, EntriesIgnoreOrder};
 ghost use Rattle.yf_baseline.specs.OnLines.{IsOnTells};
 

@@ -1,4 +1,4 @@
-//! The findings on lines that were asked for.
+//! The findings on asked lines.
 ghost use Rattle.std.specs.Prelude.{◌≡◌, ◌≤◌, length, map, IfOk};
 ghost use Rattle.yf_baseline.specs.Chosen.{chosen};
 ghost use Rattle.yf_baseline.specs.OnLines.{has_common, is_on, last_line};

@@ -8,7 +8,7 @@ pub enum Verb {
     Fmt,
 }
 
-/// What the words ask for.
+/// The command that the words give.
 #[derive(Clone, Copy)]
 pub struct Command {
     pub verb: Verb,

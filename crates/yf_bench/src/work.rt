@@ -107,7 +107,7 @@ impl Work {
     }
 }
 
-/// Returns what all rules find in a text, in the house style.
+/// Returns the findings of all rules in a text, in the house style.
 fn findings_in(alloc: Global, text: &str) -> Result<Vec<Finding>, Fault> {
     let Ok(src) = Src::new(alloc, text) else {
         return Err(Fault::Memory);

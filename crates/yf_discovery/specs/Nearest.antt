@@ -1,12 +1,12 @@
--- Which settings file is the nearest one at or above the current folder.
--- (Shows: what a look at a name may show; above: the number of folders above the current one)
+-- The nearest settings file at or above the current folder.
+-- (Shows: the possible results of a look at a name; above: the number of folders above the current one)
 use Rattle.std.specs.Prelude.{◌≡◌, ◌⊎◌, ℕ, zero, suc, ◌<◌, ◌≤◌, List, [], ◌++◌, codes}
 use Rattle.yf_discovery.specs.declared.folders.There.{There}
 use Rattle.yf_discovery.specs.declared.folders.There.TheVariants as there
 use Rattle.yf_discovery.specs.declared.nearest.Discovery.{Discovery}
 use Rattle.yf_discovery.specs.declared.nearest.Discovery.TheVariants as discovery
 
--- what a look at a name may show
+-- the possible results of a look at a name
 abbrev pub Looks : Type 1
 Looks = List ℕ → There → Type 0
 
@@ -15,7 +15,7 @@ abbrev pub folder : ℕ → List ℕ
 folder zero = []
 folder (suc k) = folder k ++ codes "../"
 
--- the settings file of a folder, and what marks the top of a work tree
+-- the settings file of a folder, and the mark of the top of a work tree
 abbrev pub settings_in : List ℕ → List ℕ
 settings_in at = at ++ codes ".yamlfmt.toml"
 

@@ -15,7 +15,7 @@ pub const REPOSITORY_NAME: &str = ".git";
 /// The way from a folder to the one above it.
 const ABOVE: &str = "../";
 
-/// What the search for a settings file finds.
+/// The result of the search for a settings file.
 #[derive(Drop)]
 pub enum Discovery {
     /// The settings file of this name. The name is relative to the current folder, as `../.yamlfmt.toml`.

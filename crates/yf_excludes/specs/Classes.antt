@@ -14,7 +14,7 @@ pub data ClassByte (t : List ℕ) (i b j : ℕ) : Type 0 where
   escaped_byte : i + 1 < length t → slice_index t i ≡ BACKSLASH → slice_index t (i + 1) ≡ b → j ≡ i + 2
       → ClassByte t i b j
 
--- a `-` between the ends of a range: one that the class doesn't end after
+-- a `-` between the ends of a range, which a byte other than `]` follows
 abbrev pub IsRangeSign : List ℕ → ℕ → Type 0
 IsRangeSign t i = (i + 1 < length t) × (slice_index t i ≡ DASH) × (slice_index t (i + 1) ≢ RIGHT_BRACKET)
 

@@ -40,7 +40,7 @@ pub record ReachesRun {A B : Type 0} (is_run : A → Bool) (Takes : A → B → 
   pub next : drop n ps ≡ run ∷ drop (n + 1) ps
   pub runs : is_run run ≡ true
 
--- what the pieces before the first run do
+-- the result of the pieces before the first run
 abbrev pub FrontIs : {A B : Type 0} → (A → Bool) → (A → B → Type 0) → List A → List B → Front → Type 0
 FrontIs is_run Takes ps xs (Run n) = ReachesRun is_run Takes ps xs n
 FrontIs is_run Takes ps xs Whole = Spans is_run Takes ps xs

@@ -32,7 +32,7 @@ pub fn spans<T, P: Piece<T>>(pieces: &[P], items: &[T]) -> bool
     }
 }
 
-// What the pieces before the first run do.
+// The result of the pieces before the first run.
 enum Front {
     // The first pieces, as many as given, are not runs and take as many items. The next piece is a run.
     Run(usize),

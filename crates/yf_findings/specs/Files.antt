@@ -10,7 +10,7 @@ use Rattle.yf_report.specs.declared.problem.Problem.{Problem}
 use Rattle.yf_report.specs.declared.reports.Format.{Format}
 use Rattle.yf_rules.specs.AllRules.{rule_names}
 
--- what a report says of a problem in a file, and the text of its line
+-- a problem in a file as a report lists it, and the text of its line
 abbrev pub entry_with : Option (List ℕ) → OwnedProblem → Entry
 entry_with file p = record {
   finding = record {

@@ -60,7 +60,7 @@ RefusedAt bytes _ p = p ≡ record { line = 1; column = 1 }
 abbrev pub empty_at : Position → Range
 empty_at p = record { line = p.line; column = p.column; end_line = p.line; end_column = p.column }
 
--- the problem of a refusal: an error at its position, which `fmt` doesn't mend
+-- the problem of a refusal: an error at its position, which `fmt` doesn't fix
 pub record RefusalProblem (bytes : List ℕ) (fault : Fault) (p : OwnedProblem) : Type 0 where
   pub place : Position
   pub at : RefusedAt bytes fault place

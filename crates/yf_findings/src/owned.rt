@@ -25,7 +25,7 @@ pub struct OwnedProblem {
     pub severity: Severity,
     /// What is wrong, and for some rules what is expected.
     pub message: OwnedText,
-    /// Whether `fmt` mends it.
+    /// Whether `fmt` fixes it.
     pub fixable: bool,
     /// The line of the text on which the range begins, without its break, or the longest front of it that has at most
     /// `FRONT` bytes.

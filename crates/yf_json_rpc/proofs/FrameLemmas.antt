@@ -102,7 +102,7 @@ never_length bytes limit fields last after reads bad more body rest f =
     (ReadsSection-append bytes fields last after more reads) f.reads in
     bad (length body) f.short (ap (λ z. length_field (map name_and_value z)) same.0 ∙ f.size)
 
--- what `read_frame` returns after the section of the header
+-- the result of `read_frame` after the header section
 pub complete_from : (bytes : List ℕ) (headers : List HeaderSpan) (start count size limit : ℕ)
     (r : Result (Option Content) FrameError) → length headers ≡ 16 → IsSectionOf bytes 0 headers (start, count)
     → Length.Value size ≡ length_field (map (header_bytes bytes) (take count headers))

@@ -1,4 +1,5 @@
--- A message: the lines of its header fields, an empty line, and as many bytes of content as `Content-Length` says.
+-- A message: the lines of its header fields, an empty line, and the content, with the number of bytes that
+-- `Content-Length` gives.
 use Rattle.std.specs.Prelude.{◌≡◌, ℕ, ◌+◌, ◌<◌, ◌≤◌, List, ◌++◌, length, drop, map, slice_range, codes, decimal, Option, None, Some, Result, Ok, Err}
 use Rattle.httparse.specs.Grammar.{Field, LineEnd, ReadsSection}
 use Rattle.httparse.specs.Spans.{name_and_value}
@@ -8,7 +9,7 @@ use Rattle.http1.specs.declared.fields.ContentLength.TheVariants as Length
 use Rattle.yf_json_rpc.specs.declared.frame.Content.{Content}
 use Rattle.yf_json_rpc.specs.declared.frame.FrameError.{FrameError}
 
--- what the fields called `Content-Length`, in any case, say together
+-- the value of the fields called `Content-Length`, in any case
 abbrev pub length_field : List Header → ContentLength
 length_field headers = content_length (values_named (codes "content-length") headers)
 

@@ -62,8 +62,7 @@ abbrev pub call : List ℕ → Data → Data
 call method params = object (member (codes "jsonrpc") (string (codes "2.0"))
     (member (codes "method") (string method) (member (codes "params") params no_members)))
 
--- One message is added, whose content is JSON that reads back as the value, if arrays and objects do not nest deeper
--- than
+-- One message is added. Its content is JSON that reads back as the value, if arrays and objects do not nest deeper than
 -- the reader allows.
 pub record AddsMessage (before after : List ℕ) (value : Data) : Type 0 where
   pub text : List ℕ

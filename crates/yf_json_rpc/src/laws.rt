@@ -1,4 +1,4 @@
-//! What follows from the definitions.
+//! Consequences of the definitions.
 ghost use Rattle.yf_json_rpc.specs.Streams.{FramesAreOne, StreamsRead};
 
 /// Messages that are written one after the other are read as these messages, in order.

@@ -1,4 +1,4 @@
--- What std's reader of numbers says of a text of digits.
+-- The result of std's reader of numbers on a text of digits.
 use Rattle.std.proofs.Common.{◌≡◌, ◌<◌, ◌^◌, ℕ, true, false, List, [], ◌∷◌, Ok, Err, Result, refl, arith, length, rules}
 use Rattle.std.proofs.Common.{subst}
 use Rattle.std.proofs.Math.Bool.{and-false}

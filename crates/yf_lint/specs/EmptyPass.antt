@@ -1,4 +1,4 @@
--- What the pass that finds keys and items without a value does, event by event.
+-- The steps of the pass that finds keys and items without a value, event by event.
 use Rattle.std.specs.Prelude.{ℕ, Bool, true, false, not, if◌then◌else◌, List, [], ◌∷◌, ◌++◌, Option, Some, None}
 use Rattle.yf_events.specs.Event.{EventValue, EventInText, stream_starts, stream_ends, document_starts, document_ends, sequence_starts, sequence_ends, mapping_starts, mapping_ends, scalar_node, alias_node}
 use Rattle.yf_guard.specs.Guards.{is_empty_scalar}

@@ -10,7 +10,7 @@ char_units Utf8 c = len_utf8 c
 char_units Utf16 c = if nat_lt c 0x10000 then 1 else 2
 char_units Utf32 c = 1
 
--- those of a character above U+007F, by its first byte in UTF-8
+-- the units of a character above U+007F, by its first byte in UTF-8
 abbrev pub lead_units : Encoding → ℕ → ℕ
 lead_units Utf8 b = if nat_lt b 224 then 2 else (if nat_lt b 240 then 3 else 4)
 lead_units Utf16 b = if nat_lt b 240 then 1 else 2

@@ -167,12 +167,12 @@ impl Document {
         Document::new(alloc, text)
     }
 
-    /// Returns the document after all changes, in order: each is of the text that the one before it left.
+    /// Returns the document after all changes, in order; each refers to the text after the one before it.
     ///
     /// # Errors
     ///
     /// `ChangeError::ReversedRange` if the range of a change ends before it starts, and `ChangeError::Memory` if memory
-    /// was refused. This document stays as it is.
+    /// is refused. This document is unchanged.
     pub fn after_changes(
         &self,
         alloc: Global,

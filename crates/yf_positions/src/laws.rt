@@ -1,4 +1,4 @@
-//! What follows from the definitions.
+//! Consequences of the definitions.
 ghost use Rattle.yf_positions.specs.Laws.{ColumnsCount, LaterLinesAreEnd, OffsetsAreExact, OffsetsInvert, PositionsInvert};
 
 /// The offset of an offset's position is that offset, if it is between two characters and not inside a CR LF.

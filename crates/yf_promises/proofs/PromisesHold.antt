@@ -29,7 +29,7 @@ use Rattle.yf_promises.specs.Said.{ContentSaid, DocumentsFit, IsAccepted, SameCo
 use Rattle.yf_promises.proofs.FitLemmas.{documents_breach, documents_fit}
 use Rattle.yf_promises.proofs.SaidLemmas.{nodes_one, reading_comments, reading_content, reading_events}
 
--- what the promises rest on
+-- the basis of the promises
 pub record Laws : Type 0 where
   pub standard : StandardTextsAreRead
   pub meant : StandardStreamsMeanOne

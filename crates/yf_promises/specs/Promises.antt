@@ -26,13 +26,13 @@ pub record Tool : Type 1 where
   pub Formats : List ℕ → Style → List ℕ → Type 0
   -- in a text, in a style, a rule finds faults at these offsets and at no others
   pub Finds : StyleRule → List ℕ → Style → List ℕ → Type 0
-  -- formatting mends what the rule finds
+  -- formatting fixes the findings of the rule
   pub fixes : StyleRule → Bool
 
 -- What the tool promises for every UTF-8 text and every style.
 pub record Promises (tool : Tool) : Type 0 where
-  -- It prints the events of each accepted text, and of no other: those that each derivation says, in order. The mark of
-  -- a document's end is free.
+  -- It prints the events of each accepted text, and of no other: those that each derivation states, in order. The mark
+  -- of a document's end is free.
   pub prints : (t : List ℕ) → IsUtf8 t → IsAccepted t → (es : List EventValue) × tool.Prints t es
   pub prints_accepted : (t : List ℕ) (es : List EventValue) → IsUtf8 t → tool.Prints t es → IsAccepted t
   pub prints_events : (t : List ℕ) (es : List EventValue) → IsUtf8 t → tool.Prints t es
@@ -54,7 +54,7 @@ pub record Promises (tool : Tool) : Type 0 where
   pub clean : (t : List ℕ) (s : Style) (u : List ℕ) → IsUtf8 t → tool.Formats t s u
       → (rule : StyleRule) → tool.fixes rule ≡ true → (offsets : List ℕ) → tool.Finds rule u s offsets → offsets ≡ []
 
--- All derivations of a text say the same documents and comments.
+-- All derivations of a text state the same documents and comments.
 abbrev pub StreamsSayOne : Type 0
 StreamsSayOne = (t : List ℕ) → IsUtf8 t → (d e : IsStandardStream t) → said_by d ≡ said_by e
 

@@ -13,7 +13,7 @@ use Rattle.yf_standard.specs.Laws.{IsStandardStream}
 use Rattle.yf_standard.specs.Readings.{DocumentSaid, StreamSaid, stream_said}
 use Rattle.yf_standard.specs.Tokens.{tokens}
 
--- What a derivation of all of a text by production 211 says.
+-- The statements of a derivation of a whole text by production 211.
 abbrev pub said_by : {t : List ℕ} → IsStandardStream t → StreamSaid
 said_by d = stream_said [] (tokens d)
 

@@ -71,7 +71,7 @@ spelled_nb c s = go (short_name c) refl where
   go (Some l) e = let b = letter_bounds c l e in (visible_nb 92 (omega arith) (omega arith), (visible_nb l b.0 b.1, tt))
   go None e = long_nb c s e
 
--- each character is spelled by characters that may be on a line
+-- each character is written with characters that may be on a line
 all_spelled_by : (f : ℕ → List ℕ) → ((c : ℕ) → scalar c ≡ true → AllNb (f c)) → (cs : List ℕ) → scalars cs ≡ true → AllNb (flat_map f cs)
 all_spelled_by f each [] e = tt
 all_spelled_by f each (c ∷ cs) e =

@@ -51,7 +51,7 @@ double_chosen {t} {n} {c} {o} {i} {j} {x} u w q b = record {
 pub no_double : {t : List ℕ} {n : ℤ} {c : Ctx} {o : Option ℕ} {i : ℕ} → WidthOf n c o → NoDoubleBody t o (i + 1) → Stuck (DoubleQuoted t n c i)
 no_double {t} {n} {c} {o} {i} w b = record { none = λ j y d. b.none d.close y (quoted_body (double_kind t) w d) }
 
--- characters that stand for themselves in double quotes
+-- characters that represent themselves in double quotes
 simple_chars : {t : List ℕ} {i j : ℕ} {x : List ℕ} → Chain (SimpleChar t) i j x → Chain (DoubleChar t) i j (goods x)
 simple_chars done = done
 simple_chars {t} {j = j} (step {y = y} (simply {i = i} s) c) =

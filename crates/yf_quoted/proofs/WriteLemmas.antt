@@ -192,7 +192,7 @@ module _ {A : Type 0} {t : List ℕ} {C : ℕ → ℕ → List A → Type 0} whe
   walk_to : {i j k : ℕ} {x : List A} {r : List ℕ} → j ≡ k → Walked t C i j x r → Walked t C i k x r
   walk_to {i} {x = x} {r = r} e w = subst (λ m. Walked t C i m x r) e w
 
-  -- the characters of a text, each spelled by f and good
+  -- the characters of a text, each written by f and good
   walk : (f : ℕ → List ℕ) (g : List ℕ → List A) → g [] ≡ [] → ((c : ℕ) (cs : List ℕ) → g (c ∷ cs) ≡ g (c ∷ []) ++ g cs)
       → (P : ℕ → Bool)
       → ((c i : ℕ) (r : List ℕ) → P c ≡ true → IsAt t i (encode_utf8_all (f c) ++ r) → NoLine t i → Stepped t C i (i + length (encode_utf8_all (f c))) (g (c ∷ [])) r)

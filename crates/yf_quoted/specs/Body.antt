@@ -85,7 +85,7 @@ abbrev pub shown : Option ℕ → ℕ
 shown (Some v) = v
 shown None = 0xFFFD
 
--- a character that stands for itself in double quotes, at which no forbidden line begins
+-- a character that represents itself in double quotes, at which no forbidden line begins
 pub record Simple (t : List ℕ) (i j : ℕ) : Type 0 where
   pub json : is_nb_json (code t i) ≡ true
   pub no_backslash : code t i ≢ BACKSLASH
@@ -118,7 +118,7 @@ pub data WidthOf (n : ℤ) (c : Ctx) : Option ℕ → Type 0 where
   of_lines : (w : ℕ) → is_flow c ≡ true → n ≡ pos w → WidthOf n c (Some w)
   of_negative : is_flow c ≡ true → n <ℤ pos 0 → WidthOf n c None
 
--- a character that stands for itself in double quotes, as a relation with its code
+-- a character that represents itself in double quotes, as a relation with its code
 pub data SimpleChar (t : List ℕ) : ℕ → ℕ → List ℕ → Type 0 where
   simply : {i j : ℕ} → Simple t i j → SimpleChar t i j (code t i ∷ [])
 

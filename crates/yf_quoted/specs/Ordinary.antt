@@ -1,4 +1,4 @@
--- Characters of one byte that stand for themselves between quotes wherever they are: all printable ASCII characters
+-- Characters of one byte that represent themselves between quotes wherever they are: all printable ASCII characters
 -- except the quote, in double quotes the backslash, and - and ., with which a document marker may begin.
 use Rattle.std.specs.Prelude.{◌≡◌, ◌≢◌, ℕ, Bool, true, ◌||◌, List, Option, slice_range, encode_utf8_all}
 use Rattle.yf_chars.specs.Signs.{SINGLE_QUOTE}
@@ -12,7 +12,7 @@ use Rattle.yf_quoted.specs.Body.{Step, DoubleBreaks}
 unfoldable pub is_ordinary : ℕ → Bool
 is_ordinary c = is_between 0x20 0x21 c || is_between 0x23 0x2C c || is_between 0x2F 0x5B c || is_between 0x5D 0x7E c
 
--- zero or more characters that stand for themselves in double quotes, each after white space or none: their steps and
+-- zero or more characters that represent themselves in double quotes, each after white space or none: their steps and
 -- bytes
 pub record Words (t : List ℕ) (i j : ℕ) : Type 0 where
   pub text : List ℕ
@@ -23,7 +23,7 @@ pub record Words (t : List ℕ) (i j : ℕ) : Type 0 where
 unfoldable pub is_unquoted : ℕ → Bool
 is_unquoted c = is_between 0x20 0x26 c || is_between 0x28 0x2C c || is_between 0x2F 0x7E c
 
--- a character that stands for itself in single quotes, at which no forbidden line begins
+-- a character that represents itself in single quotes, at which no forbidden line begins
 pub record CharOfItself (t : List ℕ) (i j : ℕ) : Type 0 where
   pub json : is_nb_json (code t i) ≡ true
   pub no_quote : code t i ≢ SINGLE_QUOTE

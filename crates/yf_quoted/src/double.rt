@@ -31,7 +31,7 @@ use yf_lines::values::Values;
 ///
 /// # Errors
 ///
-/// `Fault::EscapeValue` for the first escape whose number is no character; `Fault::Memory`.
+/// `Fault::EscapeValue` for the first escape whose number is not a character; `Fault::Memory`.
 pub fn read_double<'a>(alloc: Global, src: &Src<'a>, at: usize, n: i32, ctx: Ctx) -> FoundText<'a>
     requires { IsCharBoundary src.now.text at }
     ensures reads { IfOk result (λ o. MatchOption o (Stuck (Q.DoubleQuoted src.now.text n ctx at))
@@ -52,7 +52,7 @@ pub fn read_double<'a>(alloc: Global, src: &Src<'a>, at: usize, n: i32, ctx: Ctx
     }
 }
 
-/// Reads a double-quoted scalar as `read_double` does, but reads an escape whose number is no character as U+FFFD.
+/// Reads a double-quoted scalar as `read_double` does, but reads an escape whose number is not a character as U+FFFD.
 /// Returns the text, the position of the first such escape, and the offset after the scalar.
 ///
 /// # Errors
@@ -131,7 +131,7 @@ pub fn double_in<'a>(
     }
 }
 
-// Returns the offset of the closing quote if only characters that stand for themselves are before it.
+// Returns the offset of the closing quote if only characters that represent themselves are before it.
 fn simple_end(s: &str, at: usize) -> Option<usize>
     requires { IsCharBoundary s.now at }
     ensures reads { IfSome result (λ j. (x : List ℕ) × Chain (SimpleChar s.now) at j x) }
@@ -159,7 +159,7 @@ fn simple_end(s: &str, at: usize) -> Option<usize>
     }
 }
 
-// A character and the offset after it; the value is `None` for an escape whose number is no character.
+// A character and the offset after it; the value is `None` for an escape whose number is not a character.
 #[derive(Clone, Copy)]
 struct DoubleChar {
     value: Option<char>,

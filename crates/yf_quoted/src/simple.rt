@@ -1,4 +1,4 @@
-//! Characters that stand for themselves in double quotes, one by one and in runs. Offsets count bytes.
+//! Characters that represent themselves in double quotes, one by one and in runs. Offsets count bytes.
 ghost use Rattle.std.specs.Prelude.{◌≡◌, ◌+◌, ◌<◌, ◌≤◌, ℕ, Bool, true, List, IfSome, IsCharBoundary, MatchOption, length};
 ghost use Rattle.yf_chars.specs.Chain.{Chain};
 ghost use Rattle.yf_chars.specs.Class.{is_between};
@@ -14,7 +14,7 @@ use yf_chars::lanes::lanes_before;
 use yf_chars::text::{is_char_at, peek};
 use yf_lines::basic::{is_forbidden_at, is_white_at};
 
-// Returns whether the ASCII character stands for itself wherever it is. Most are lower-case letters, which take two
+// Returns whether the ASCII character represents itself wherever it is. Most are lower-case letters, which take two
 // tests.
 #[tactic(auto, unfolding(crate::specs::Ordinary::is_ordinary, yf_chars::specs::Class::is_between))]
 #[inline(always)]
@@ -111,7 +111,7 @@ pub(crate) fn is_wide_at(s: &str, at: usize) -> bool
     false
 }
 
-// Returns the offset after a character that stands for itself.
+// Returns the offset after a character that represents itself.
 #[inline(always)]
 pub(crate) fn simple_char(s: &str, at: usize) -> Option<usize>
     requires { IsCharBoundary s.now at }
@@ -139,7 +139,7 @@ pub(crate) fn simple_char(s: &str, at: usize) -> Option<usize>
     }
 }
 
-// Returns the offset after all characters that stand for themselves there, with white space between them. It passes
+// Returns the offset after all characters that represent themselves there, with white space between them. It passes
 // none if an escape begins there. The clause also allows fewer characters, even none: reading is then slower, but
 // returns the same text.
 pub(crate) fn words_end(s: &str, at: usize) -> usize

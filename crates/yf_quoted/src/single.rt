@@ -86,7 +86,7 @@ pub fn single_in<'a>(
     }
 }
 
-// Returns the offset of the closing quote if only characters that stand for themselves are before it, and no quote
+// Returns the offset of the closing quote if only characters that represent themselves are before it, and no quote
 // follows it.
 fn simple_end(s: &str, at: usize) -> Option<usize>
     requires { IsCharBoundary s.now at }
@@ -115,7 +115,7 @@ fn simple_end(s: &str, at: usize) -> Option<usize>
     }
 }
 
-// Returns whether the ASCII character stands for itself wherever it is. Most are lower-case letters, which take one
+// Returns whether the ASCII character represents itself wherever it is. Most are lower-case letters, which take one
 // test.
 #[tactic(auto, unfolding(crate::specs::Ordinary::is_unquoted, yf_chars::specs::Class::is_between))]
 #[inline(always)]

@@ -1,5 +1,5 @@
--- The details of a finding, by its rule: at which offset the fault ends, and what the message says. The fault begins
--- at the finding's offset.
+-- The details of a finding, by its rule: the end of the fault, and the message. The fault begins at the finding's
+-- offset.
 use Rattle.std.specs.Prelude.{◌≡◌, ℕ, ◌+◌, ◌-◌, ◌<◌, ◌≤◌, ◌==◌, Bool, false, List, Option, length, MatchBool, MatchOption}
 use Rattle.std.specs.List.{Contains}
 use Rattle.std.specs.Str.{IsCharBoundary}

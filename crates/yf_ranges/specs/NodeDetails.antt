@@ -36,7 +36,7 @@ pub data QuotingDetail (t : List ℕ) (r : Lists) (house : Style) (i : ℕ) (d :
       → NodeDetail t (content_start t s props) s.end (Says.Quotes style (wanted_of_event (scalar_node props style text) house)) d
       → QuotingDetail t r house i d
 
--- the detail of one event: that of the offset at fault, if one is and has a position; P says which offset is at fault
+-- the detail of an event with an offset at fault that has a position; P says which offset that is
 abbrev pub IsDetailAt : (ℕ → Type 0) → (Detail → Type 0) → List ℕ → Option Detail → Type 0
 IsDetailAt P Exact t result =
     MatchOption result ((o : ℕ) → P o → IsCharBoundary t o → ⊥)

@@ -26,7 +26,7 @@ pub data BreakSpan (t : List ℕ) (start : ℕ) : ℕ → Type 0 where
 pub data BlankSpan (t : List ℕ) (start : ℕ) : ℕ → Type 0 where
   blank : {middle end : ℕ} → WhiteSpan t start middle → BreakSpan t middle end → BlankSpan t start end
 
--- the rest of a line, up to its break or to the end of the text, has that many characters
+-- the rest of a line, up to its break or the end of the text, has the given number of characters
 pub record LineRest (t : List ℕ) (start end count : ℕ) : Type 0 where
   pub unbroken : NoBreakIn t start end
   pub stops : (is_break_char (code t end) ≡ true) ⊎ (end ≡ length t)

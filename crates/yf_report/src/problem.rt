@@ -1,4 +1,4 @@
-//! What a report says of each problem.
+//! The parts of a problem that a report needs.
 ghost use Rattle.std.specs.Prelude.{◌≡◌};
 ghost use Rattle.yf_report.specs.Problems.{severity_name};
 

@@ -1,4 +1,4 @@
--- What a server knows of texts.
+-- The claims of a server about texts.
 use Rattle.std.specs.Prelude.{ℕ, List, Option, string_bytes}
 use Rattle.yf_server.specs.declared.analysis.Problem.{Problem}
 use Rattle.yf_server.specs.declared.analysis.Severity.{Severity}

@@ -48,7 +48,7 @@ pub record AreEditsTo (e : Encoding) (old new : List ℕ) (value : Data) : Type 
   pub text : edited e old 0 edits ≡ new
   pub script : EditsOfScript e old new edits
 
--- the edits that lead from an old text to what its formatting gave; null if it gave nothing
+-- the edits from an old text to its formatting, or null if it has none
 abbrev pub AreEditsFor : Encoding → List ℕ → Option (List ℕ) → Data → Type 0
 AreEditsFor e old None value = value ≡ null
 AreEditsFor e old (Some new) value = AreEditsTo e old new value

@@ -1,4 +1,4 @@
--- What follows from the life cycle.
+-- Consequences of the life cycle.
 use Rattle.std.specs.Prelude.{◌≡◌, Bool, true, false}
 use Rattle.yf_json_rpc.specs.Messages.{Kind, request, notification, response, invalid}
 use Rattle.yf_server.specs.declared.lifecycle.Phase.{Phase}

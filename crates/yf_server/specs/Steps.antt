@@ -1,4 +1,4 @@
--- What a server does with a message: what it knows then, and what it sends.
+-- The step of a server for a message: its knowledge after it, and the message that it sends.
 use Rattle.std.specs.Prelude.{◌≡◌, ◌||◌, ℕ, List, [], ◌∷◌, ◌++◌, codes, bytes_eq, Bool, true, false, MatchBool, Option, None, Some, option_and_then, option_map, option_to_list, if◌then◌else◌}
 use Rattle.serde_json.specs.Data.{Data, null, boolean, number, string, object, no_members, member, unsigned}
 use Rattle.serde_json.specs.Find.{get}
@@ -89,7 +89,7 @@ abbrev pub after_any : Encoding → List ℕ → Option OpenText → Option Even
 after_any e uri was None = was
 after_any e uri was (Some event) = after_event e uri was event
 
--- what a server knows that matters for the document with one URI
+-- the knowledge of a server that matters for the document with one URI
 pub record Knows : Type 0 where
   pub phase : Phase
   pub encoding : Encoding
@@ -148,7 +148,7 @@ pub record IsLogged (sent : Option Data) : Type 0 where
   pub text : List ℕ
   pub is : sent ≡ Some (log_message text)
 
--- a client hears of what could not be done
+-- the warning to the client if an action failed
 abbrev pub IsNote : Outcome → Option Data → Type 0
 IsNote Outcome.Done sent = sent ≡ None
 IsNote Outcome.NotOpen sent = IsLogged sent
@@ -213,7 +213,7 @@ pub data Steps (claim : TextClaim) : Server → List Data → List Data → Serv
       → StepsTo claim before middle d reaction → Steps claim middle rest sent after
       → Steps claim before (d ∷ rest) (option_to_list (option_map view reaction.message) ++ sent) after
 
--- what a server does with messages
+-- the run of a server over messages
 pub record RunsTo (claim : TextClaim) (before after : Server) (received sent : List Data)
     : Type 0 where
   pub steps : Steps claim before received sent after

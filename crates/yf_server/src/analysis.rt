@@ -1,4 +1,4 @@
-//! What a server asks about the text of a document.
+//! The questions of a server about the text of a document.
 ghost use Rattle.std.specs.Prelude.{◌≡◌, IfOk, map, option_map, string_bytes};
 ghost use Rattle.yf_server.specs.Analysis.{TextClaim, problem_read, severity_number};
 
@@ -37,7 +37,7 @@ pub struct Problem {
     pub severity: Severity,
     /// Its name, for example that of a rule.
     pub code: &'static str,
-    /// What a client shows of it.
+    /// The text that a client shows.
     pub message: String,
 }
 

@@ -17,7 +17,7 @@ pub struct OpenDocument {
     pub document: Document,
 }
 
-/// What a client does with a document.
+/// An action of a client on a document.
 #[derive(Drop)]
 pub enum DocumentAct<'v> {
     /// It opens the document (`textDocument/didOpen`).
@@ -34,14 +34,14 @@ pub enum DocumentAct<'v> {
     Close,
 }
 
-/// What a client does with the document of a URI.
+/// An action of a client on the document with a URI.
 #[derive(Drop)]
 pub struct DocumentEvent<'v> {
     pub uri: &'v str,
     pub act: DocumentAct<'v>,
 }
 
-/// What became of an event.
+/// The outcome of an event.
 #[derive(Clone, Copy)]
 pub enum Outcome {
     /// The document was opened, changed or closed.

@@ -1,4 +1,4 @@
-//! What follows from the definitions.
+//! Consequences of the definitions.
 ghost use Rattle.yf_server.specs.Laws.{EachIsAnswered};
 
 /// In every phase, the server answers exactly the messages that want an answer: requests, and invalid messages.

@@ -17,7 +17,7 @@ pub enum Phase {
     ShutDown,
 }
 
-/// What a server does with a message.
+/// The task of a server for a message.
 #[derive(Clone, Copy)]
 pub enum Task {
     /// It responds to `initialize` with its capabilities.

@@ -1,4 +1,4 @@
-//! What a server publishes of documents.
+//! Publications for documents.
 ghost use Rattle.std.specs.Prelude.{◌≡◌, ◌++◌, ◌∷◌, [], Some, IfOk, OnOk, map, option_map};
 ghost use Rattle.serde_json.specs.View.{view};
 ghost use Rattle.yf_json_rpc.specs.Messages.{kind_read};

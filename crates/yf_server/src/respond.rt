@@ -16,7 +16,7 @@ use yf_json_rpc::message::{failure, reply};
 use yf_positions::document::Document;
 use yf_positions::encoding::Encoding;
 
-/// Returns what a client shows of an error.
+/// Returns the text that a client shows for an error.
 fn text_of(code: ErrorCode) -> &'static str {
     match code {
         ErrorCode::ParseError => "the message is no JSON",

@@ -1,4 +1,4 @@
-//! What a server does with each message.
+//! The steps of a server for messages.
 ghost use Rattle.std.specs.Prelude.{◌≡◌, [], ◌++◌, Some, IfOk, OnErr, OnOk, map, option_map, option_to_list};
 ghost use Rattle.serde_json.specs.View.{view};
 ghost use Rattle.yf_json_rpc.specs.Messages.{kind_read, reply};
@@ -25,7 +25,7 @@ pub struct Server {
     pub documents: Vec<OpenDocument>,
 }
 
-/// What a server does with a message: its task, and the message that it sends, if it sends one.
+/// The reaction of a server to a message: its task, and the message that it sends, if any.
 #[derive(Drop)]
 pub struct Reaction {
     pub task: Task,

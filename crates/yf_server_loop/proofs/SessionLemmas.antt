@@ -18,7 +18,7 @@ use Rattle.yf_server_loop.specs.Received.{Grows, IsNoMessage, Reads}
 use Rattle.yf_server_loop.specs.Sessions.{Advances, BreaksOff, Ends, IsFresh, Moment, Session, SessionRuns, Stays, Turns, Writes}
 use Rattle.yf_server_loop.specs.Sessions.Serves.{none_served, one_more}
 
--- the message at the front of bytes, without what follows it
+-- the message at the front of bytes, without the bytes after it
 pub record FrontFrame (bytes body rest : List ℕ) : Type 0 where
   pub message : List ℕ
   pub split : bytes ≡ message ++ rest

@@ -20,7 +20,7 @@ abbrev pub Parses : List ℕ → Option Data → Type 0
 Parses body None = IsUtf8 body → read body ≡ None
 Parses body (Some value) = IsUtf8 body × (read body ≡ Some value)
 
--- a message is written after bytes, or nothing if there is none
+-- a message is written after bytes, or nothing if there is no message
 abbrev pub Adds : List ℕ → List ℕ → Option Data → Type 0
 Adds before after None = after ≡ before
 Adds before after (Some value) = AddsMessage before after value

@@ -1,4 +1,4 @@
--- What a server does in a session: from the bytes that it reads to those that it writes.
+-- The session of a server: from the bytes that it reads to those that it writes.
 use Rattle.std.specs.Prelude.{◌≡◌, ℕ, ◌-◌, ◌≤◌, ◌^◌, List, [], ◌∷◌, ◌++◌, length, Bool, Option, None, Some}
 use Rattle.std.specs.Io.KnownBytes.{Consumes}
 use Rattle.yf_json_rpc.specs.Streams.{AreFrames}

@@ -84,7 +84,7 @@ fn written(
     Ok(bytes)
 }
 
-/// Returns the response that a request failed, as it is written.
+/// Returns the bytes of the error response to a request that failed.
 fn failed(alloc: Global, id: &Value, code: ErrorCode) -> Result<Handled, AllocError>
     ensures answer { IfOk result (λ handled. (sent : Data) × FailsWith (view id.now) code (Some sent)
         × IsWritten handled.answer.items sent) }
@@ -125,7 +125,7 @@ fn undone(alloc: Global, value: &Value) -> Result<Handled, AllocError>
     }
 }
 
-/// Does what a message asks for.
+/// Handles a message.
 fn take_step<A: Analysis>(
     alloc: Global,
     analysis: &A,

@@ -10,7 +10,7 @@ use yf_lines::watched::Source;
 /// The most bytes that the content of a message may have: 1 GiB.
 pub const CONTENT_LIMIT: usize = 1_073_741_824;
 
-/// The bytes after which a message must be complete: those of a content, and 64 KiB for the header section.
+/// The number of bytes after which a message must be complete: a content's, and 64 KiB for the header section.
 pub const MESSAGE_LIMIT: usize = 1_073_807_360;
 
 /// How many bytes a read takes at most.
