@@ -14,8 +14,7 @@ abbrev pub length_field : List Header → ContentLength
 length_field headers = content_length (values_named (codes "content-length") headers)
 
 -- The bytes are a message with this content, and then the rest. The fields are as in HTTP (RFC 9112, section 5), at
--- most
--- sixteen of them.
+-- most sixteen of them.
 pub record IsFrame (bytes : List ℕ) (limit : ℕ) (body rest : List ℕ) : Type 0 where
   pub fields : List Field
   pub last : LineEnd
