@@ -7,7 +7,7 @@ ghost use Rattle.yf_chars.specs.Text.{code, no_char, CharAt};
 
 use crate::classes::is_nb_char;
 
-// Returns whether a printable ASCII character, from the space to `~`, is there.
+// Returns whether a printable ASCII character, from the space to `~`, is at the offset.
 #[inline(always)]
 fn is_ascii_at(s: &str, at: usize) -> bool
     ensures class { MatchBool result (Class.is_nb_char (code s.now at) ≡ true) ⊤ }

@@ -64,7 +64,7 @@ fn break_or_end(s: &str, at: usize) -> Option<usize>
     }
 }
 
-// Returns whether a character is there that begins neither white space nor a comment nor the end of a line.
+// Returns whether a character at the offset begins neither white space nor a comment nor the end of a line.
 #[inline(always)]
 pub(crate) fn is_solid_at(s: &str, at: usize) -> bool
     ensures white { result ≡ true → is_white (code s.now at) ≡ false }

@@ -53,7 +53,7 @@ fn in_line_from(s: &str, at: usize, place: usize) -> Option<usize>
     None
 }
 
-// Returns whether `width` spaces are there.
+// Returns whether `width` spaces are at the offset.
 fn is_indented(s: &str, at: usize, width: usize) -> bool
     requires { IsCharBoundary s.now at }
     ensures { MatchBool result (Spaces s.now at width) (Nowhere (FlowPrefix s.now (pos width) at)) }

@@ -1,9 +1,9 @@
-//! Estimates where parts of a text end, without reading the text fully. Offsets count bytes.
+//! Estimates of the ends of parts of a text, without a full reading. Offsets count bytes.
 ghost use Rattle.std.specs.Prelude.{◌<◌, ◌≤◌};
 
 use yf_lines::basic::is_marker_at;
 
-/// Returns whether white space, a line break or the end of the text is there.
+/// Returns whether white space, a line break or the end of the text is at the offset.
 pub(crate) fn is_blank(text: &str, at: usize) -> bool {
     match text.as_bytes().get(at) {
         Some(byte) => matches!(byte, b' ' | b'\t' | b'\n' | b'\r'),

@@ -19,7 +19,7 @@ pub(crate) struct Span {
     pub(crate) to: usize,
 }
 
-/// Adds a line of those of the words' characters that fit in the given number of columns.
+/// Adds a line with the words, cut to the given number of columns.
 pub(crate) fn push_words(page: &mut Page, words: &str, most: usize) -> Result<(), AllocError>
     ensures { IfOk result (λ _. AddsWords words.now page.old page.new) }
 {

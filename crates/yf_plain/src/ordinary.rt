@@ -86,7 +86,7 @@ fn is_letter(byte: u8) -> bool
     byte <= b'z'
 }
 
-/// Returns whether a letter, a digit or `_` is there, which may begin a plain scalar.
+/// Returns whether a letter, a digit or `_` is at the offset. It may begin a plain scalar.
 #[inline(always)]
 pub(crate) fn is_letter_at(s: &str, at: usize) -> bool
     ensures { result ≡ true → LetterAt s.now at }
@@ -98,9 +98,8 @@ pub(crate) fn is_letter_at(s: &str, at: usize) -> bool
     false
 }
 
-/// Returns whether a character above `:` is there, which is neither white space nor the end of a line. The first byte
-/// of a character beyond ASCII is above `:` too. This avoids the tests for white space and for the end of a line, which
-/// are all ASCII.
+/// Returns whether a character above `:` is at the offset. It is neither white space nor the end of a line, which are
+/// all ASCII, so the tests for these are not needed. The first byte of a character beyond ASCII is above `:` too.
 #[inline(always)]
 pub(crate) fn is_text_at(s: &str, at: usize) -> bool
     ensures { result ≡ true → is_white (code s.now at) ≡ false }
@@ -114,7 +113,8 @@ pub(crate) fn is_text_at(s: &str, at: usize) -> bool
     false
 }
 
-/// Returns whether a line feed is there, or a `:` before a space or a line feed: they end the line of a plain scalar.
+/// Returns whether a line feed, or a `:` before a space or a line feed, is at the offset. Both end the line of a plain
+/// scalar.
 #[inline(always)]
 pub(crate) fn is_end_at(s: &str, at: usize) -> bool
     ensures { result ≡ true → EndAt s.now at }

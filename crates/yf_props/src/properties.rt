@@ -157,7 +157,7 @@ pub fn node_properties<'a>(
     Ok(None)
 }
 
-// Returns whether the first character of an anchor or a tag is there.
+// Returns whether the first character of an anchor or a tag is at the offset.
 #[inline(always)]
 fn is_property_at(s: &str, at: usize) -> bool
     ensures { result ≡ false → (code s.now at ≢ AMPERSAND) × (code s.now at ≢ EXCLAMATION) }

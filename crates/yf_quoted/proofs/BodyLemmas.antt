@@ -219,7 +219,7 @@ module _ {A : Type 0} {t : List ℕ} {put : List ℕ → List A} {C B : ℕ → 
   body_chars {i} {j} m n b = subst (λ v. Chain C i j v) (sym b.text) (chain_append (steps_chars m n b.steps) (gap_chars m n b.gap))
 
 module _ {A : Type 0} {t : List ℕ} {put : List ℕ → List A} {C B : ℕ → ℕ → List A → Type 0} {quote : ℕ} where
-  -- white space before a gap without breaks, or before a step or end with one
+  -- white space before a gap without breaks, and before steps that begin with such a gap
   white_gap : {g i j : ℕ} {x : List A} → Means t put C quote → ((i j : ℕ) (x : List A) → B i j x → ⊥) → is_white (code t g) ≡ true → next t g ≡ i
       → Gap t put B i j x → Gap t put B g j (put (code t g ∷ []) ++ x)
   white_gap {g} m no_break e q (by_whites {i = i} {j = j} {x = x} w n) =
