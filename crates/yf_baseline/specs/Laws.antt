@@ -18,7 +18,7 @@ EntriesGoByTexts = (file : List ℕ) (src other : Table) (some others : List Fou
     → map (rule_and_text src) some ≡ map (rule_and_text other) others
     → entries_of file (map (kept_of src) some) ≡ entries_of file (map (kept_of other) others)
 
--- The entries of the findings of a file come once each, so a baseline of them is read.
+-- Each entry of the findings of a file occurs once, so a baseline of them is read.
 abbrev pub EntriesComeOnce : Type 0
 EntriesComeOnce = (file : List ℕ) (ks : List Kept) → length ks < 2 ^ 64
     → repeats (map (λ e. entry_line e) (entries_of file ks)) ≡ false

@@ -8,9 +8,9 @@ pub mod Baselines
 pub mod Sorted
 -- the items with set flags
 pub mod Chosen
--- which findings a baseline lists, and which entries no longer occur
+-- the findings that a baseline lists, and the entries that no longer occur
 pub mod Listed
--- which ranges have an asked line
+-- ranges with an asked line
 pub mod OnLines
 -- consequences of the definitions
 pub mod Laws

@@ -1,4 +1,4 @@
--- Which findings a baseline lists, and which of its entries no longer occur.
+-- The findings that a baseline lists, and its entries that no longer occur.
 use Rattle.std.specs.Prelude.{ℕ, ◌&&◌, Bool, not, List, map, filter}
 use Rattle.yf_baseline.specs.Baselines.{entry_line}
 use Rattle.yf_baseline.specs.Chosen.{chosen}

@@ -1,4 +1,4 @@
-//! Which findings a baseline lists, and which of its entries no longer occur.
+//! The findings that a baseline lists, and its entries that no longer occur.
 ghost use Rattle.std.specs.Prelude.{◌≡◌, ◌≤◌, ◌&&◌, ℕ, List, length, map, not, IfOk};
 ghost use Rattle.std.specs.BTreeSet.{contains_text};
 ghost use Rattle.yf_baseline.specs.Baselines.{entry_line};

@@ -55,7 +55,7 @@ fn entries_of_value(alloc: Global, value: &Value<'_>) -> Result<Vec<Entry>, Refu
     }
 }
 
-// Returns the entries of a value, if each comes once.
+// Returns the entries of a value, if each occurs once.
 fn entries_each_once(alloc: Global, value: &Value<'_>) -> Result<Vec<Entry>, Refusal>
     ensures ok { IfOk result (λ es. if_each_once (entries_in (value_view value.now)) ≡ Ok es.items) }
     ensures refused { IfErr result (λ e. e ≢ Refusal.Memory

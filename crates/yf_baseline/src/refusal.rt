@@ -13,7 +13,7 @@ pub enum Refusal {
     Version,
     /// The member `findings` is not an array of entries.
     Shape,
-    /// An entry comes twice.
+    /// An entry occurs twice.
     Repeated,
 }
 

@@ -12,9 +12,9 @@ pub enum Verb {
 #[derive(Clone, Copy)]
 pub struct Command {
     pub verb: Verb,
-    /// How many streams.
+    /// The number of streams.
     pub count: u32,
-    /// How many pieces the largest stream has, at most.
+    /// The most pieces of the largest stream.
     pub pieces: u32,
     pub seed: u64,
 }

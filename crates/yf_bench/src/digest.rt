@@ -24,7 +24,7 @@ impl Digest {
         self.value = (self.value ^ number).wrapping_mul(FACTOR).rotate_left(29);
     }
 
-    /// Adds bytes, and how many they are.
+    /// Adds bytes and their number.
     pub fn add_bytes(&mut self, bytes: &[u8]) {
         let (chunks, rest) = bytes.as_chunks::<8>();
         for chunk in chunks {

@@ -46,7 +46,7 @@ pub record ReadOn (t : List ℕ) (start i : ℕ) : Type 0 where
   pub end : ℕ
   pub read : MembersAt t start i ranges end
 
--- how far the members are read
+-- the members read so far
 pub record MembersSoFar (t : List ℕ) (start : ℕ) (ranges : List ByteRange) (i : ℕ) : Type 0 where
   pub moved : start ≤ i
   pub forth : (rs : List ByteRange) (j : ℕ) → MembersAt t start i rs j → MembersAt t start start (ranges ++ rs) j

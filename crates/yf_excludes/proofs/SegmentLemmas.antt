@@ -29,7 +29,7 @@ pub record AtomsOn (t : List ℕ) (i : ℕ) : Type 0 where
   pub atoms : List Atom
   pub read : AtomsFrom t i atoms
 
--- how far the atoms are read
+-- the atoms read so far
 pub record AtomsSoFar (t : List ℕ) (atoms : List Atom) (i : ℕ) : Type 0 where
   pub within : i ≤ length t
   pub forth : (more : List Atom) → AtomsFrom t i more → AtomsFrom t 0 (atoms ++ more)

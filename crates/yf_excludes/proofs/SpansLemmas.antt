@@ -54,7 +54,7 @@ past_run {is_run = is_run} {Takes = Takes} {n = n} {xs = xs} fixed next t (from_
     after_run t (subst (λ z. Spans is_run Takes z (drop n xs)) next (after_fixed fixed s))
 past_run {n = n} fixed next t (from_further {b} {xs} w) = one_back n b xs (past_run fixed next t w)
 
--- the pieces take the items exactly if those after the run take the items from some item on
+-- the pieces take the items if and only if those after the run take the items from some item on
 pub run_spans : {A B : Type 0} {is_run : A → Bool} {Takes : A → B → Type 0} {n : ℕ} {ps : List A} {xs : List B}
     → ReachesRun is_run Takes ps xs n → Within is_run Takes (drop (n + 1) ps) (drop n xs) → Spans is_run Takes ps xs
 run_spans {is_run = is_run} {Takes = Takes} {n = n} {xs = xs} r w =

@@ -1,4 +1,4 @@
--- Which bytes an atom takes.
+-- The bytes that an atom takes.
 use Rattle.std.specs.Prelude.{◌≡◌, ℕ, ◌≤◌, Bool, true, false, Any, MatchBool}
 use Rattle.yf_excludes.specs.declared.atom.ByteRange.{ByteRange}
 use Rattle.yf_excludes.specs.declared.atom.Class.{Class}

@@ -1,5 +1,5 @@
--- Which files a settings file excludes, by the names of both. A name is relative to the current folder, or begins with
--- a slash.
+-- The files that a settings file excludes, by the names of both. A name is relative to the current folder, or begins
+-- with a slash.
 use Rattle.std.specs.Prelude.{◌≡◌, ℕ, List, [], ◌∷◌, ◌++◌, Some, if◌then◌else◌}
 use Rattle.yf_excludes.specs.declared.pattern.Pattern.{Pattern}
 use Rattle.yf_excludes.specs.Signs.{SLASH}

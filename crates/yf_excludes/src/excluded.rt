@@ -1,4 +1,4 @@
-//! Which paths a list of patterns excludes.
+//! The paths that a list of patterns excludes.
 ghost use Rattle.std.specs.Prelude.{◌↔◌, IsTrue};
 ghost use Rattle.yf_excludes.specs.Excluded.{Excludes, IsExcluded};
 

@@ -13,7 +13,7 @@ use yf_ranges::words::write_message;
 use yf_report::problem::{Range, Severity};
 use yf_rules::finding::Finding;
 
-/// How many bytes of a line a problem keeps at most.
+/// The most bytes of a line that a problem keeps.
 pub const FRONT: usize = 256;
 
 /// A finding or a refusal, with texts of its own. The file is not known here.

@@ -17,7 +17,7 @@ pub enum ErrorCode {
     InternalError,
     /// The request came before `initialize`.
     ServerNotInitialized,
-    /// The request is valid, and could not be done.
+    /// The request is valid, but failed.
     RequestFailed,
 }
 

@@ -93,7 +93,7 @@ fn content_at(
 ///
 /// # Errors
 ///
-/// `AllocError` if memory was refused; a part of the message may have been added then.
+/// `AllocError` if memory is refused; a part of the message may then have been added.
 pub fn push_frame(out: &mut Vec<u8>, body: &str) -> Result<(), AllocError>
     ensures { IfOk result (λ _. out.new.items ≡ out.old.items ++ frame body.now) }
 {

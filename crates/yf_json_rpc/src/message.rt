@@ -60,18 +60,18 @@ pub fn message_of(value: &Value) -> Message<'_>
 ///
 /// # Errors
 ///
-/// `AllocError` if memory was refused.
+/// `AllocError` if memory is refused.
 pub fn reply(alloc: Global, id: &Value, value: &Value) -> Result<Value, AllocError>
     ensures { IfOk result (λ message. view message ≡ reply (view id.now) (view value.now)) }
 {
     json!(in alloc; {"jsonrpc": "2.0", "id": id, "result": value})
 }
 
-/// Returns the response that a request failed. The id is null if the request has none that can be read.
+/// Returns the error response to a request. The id is null if the id of the request can't be read.
 ///
 /// # Errors
 ///
-/// `AllocError` if memory was refused.
+/// `AllocError` if memory is refused.
 pub fn failure(alloc: Global, id: &Value, code: ErrorCode, text: &str) -> Result<Value, AllocError>
     ensures { IfOk result (λ message. view message ≡ failure (view id.now) code text.now) }
 {
@@ -83,7 +83,7 @@ pub fn failure(alloc: Global, id: &Value, code: ErrorCode, text: &str) -> Result
 ///
 /// # Errors
 ///
-/// `AllocError` if memory was refused.
+/// `AllocError` if memory is refused.
 pub fn notification(alloc: Global, method: &str, params: &Value) -> Result<Value, AllocError>
     ensures { IfOk result (λ message. view message ≡ call method.now (view params.now)) }
 {

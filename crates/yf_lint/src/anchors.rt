@@ -37,7 +37,7 @@ fn take_name<'r>(names: &mut BTreeSet<&'r str>, name: &'r str) -> bool
     names.remove(&name)
 }
 
-/// Goes back past a node with that anchor. The start of the node is at fault if the name isn't used later.
+/// Passes a node with the anchor, going back. The start of the node is at fault if the name isn't used later.
 fn pass_anchor<'r>(
     anchor: Option<&'r str>,
     span: Option<Span>,
@@ -60,7 +60,7 @@ fn pass_anchor<'r>(
     }
 }
 
-/// Goes back past one event with this part of the text.
+/// Passes one event with its span, going back.
 fn pass_back<'r>(
     event: Event<'r>,
     span: Option<Span>,
@@ -130,7 +130,7 @@ fn pass_again<'r>(
     }
 }
 
-/// Goes past one event with this part of the text.
+/// Passes one event with its span.
 fn pass_on<'r>(
     event: Event<'r>,
     span: Option<Span>,

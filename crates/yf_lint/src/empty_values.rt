@@ -97,7 +97,7 @@ fn push_fault(
     Ok(())
 }
 
-/// Goes past a node in the innermost open collection.
+/// Passes a node in the innermost open collection.
 fn pass_node(
     stack: &mut Vec<OpenEntries>,
     offsets: &mut Vec<usize>,
@@ -116,7 +116,7 @@ fn pass_node(
     }
 }
 
-/// Goes past the end of the innermost open collection.
+/// Passes the end of the innermost open collection.
 fn pass_end(stack: &mut Vec<OpenEntries>)
     ensures { reverse stack.new.items ≡ EmptyPass.without_first (reverse stack.old.items) }
 {

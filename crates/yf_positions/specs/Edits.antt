@@ -79,11 +79,11 @@ pub record EditsOfScript (e : Encoding) (old new : List ℕ) (edits : List Range
   pub news : news script ≡ lines_of new
   pub follow : EditsFollow e old 0 script edits
 
--- nothing goes and nothing comes between two offsets
+-- no line is dropped or added between two offsets
 abbrev pub is_empty : Offsets → Offsets → Bool
 is_empty from to = from.old == to.old && from.new == to.new
 
--- the edit of a range with this text is added; none if nothing goes or comes
+-- the edit of a range with this text is added, unless nothing is dropped or added
 pub data AddsEdit (e : Encoding) (t text : List ℕ) (from to : Offsets) (before after : List RangeEdit) : Type 0 where
   no_edit : from.old ≡ to.old → from.new ≡ to.new → after ≡ before → AddsEdit e t text from to before after
   one_edit : (x : RangeEdit) → (from.old ≡ to.old → from.new ≡ to.new → ⊥) → edit_start e t x ≡ from.old

@@ -6,7 +6,7 @@ use Rattle.yf_positions.specs.Units.{is_break}
 abbrev pub ends_line : ℕ → List ℕ → Bool
 ends_line c t = c == 10 || (c == 13 && not (slice_index t 0 == 10))
 
--- how many lines end in the first i bytes
+-- the number of lines that end in the first i bytes
 abbrev pub lines_before : List ℕ → ℕ → ℕ
 lines_before [] i = 0
 lines_before (c ∷ t) zero = 0

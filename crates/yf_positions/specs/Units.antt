@@ -4,7 +4,7 @@ use Rattle.std.specs.Char.{len_utf8}
 use Rattle.yf_positions.specs.declared.encoding.Encoding.{Encoding}
 use Rattle.yf_positions.specs.declared.encoding.Encoding.TheVariants.{Utf8, Utf16, Utf32}
 
--- how many code units a character has in the encoding
+-- the number of code units of a character in the encoding
 abbrev pub char_units : Encoding → ℕ → ℕ
 char_units Utf8 c = len_utf8 c
 char_units Utf16 c = if nat_lt c 0x10000 then 1 else 2

@@ -12,7 +12,7 @@ use crate::position::{LspPosition, LspRange};
 use std::alloc::{AllocError, Global};
 use std::marker::Model;
 
-/// The text of a document and the offsets at which its lines begin. In a contract it is the bytes of the text.
+/// The text of a document and the offsets at which its lines begin. A contract sees the bytes of the text.
 #[derive(Drop)]
 pub struct Document {
     text: String,
@@ -56,7 +56,7 @@ impl Document {
     ///
     /// # Errors
     ///
-    /// `AllocError` if memory was refused.
+    /// `AllocError` if memory is refused.
     pub fn new(alloc: Global, text: String) -> Result<Document, AllocError>
         ensures { IfOk result (λ document. document ≡ string_bytes text) }
     {

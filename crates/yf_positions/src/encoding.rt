@@ -16,7 +16,7 @@ pub enum Encoding {
 /// The UTF-16 code units of a character above U+FFFF.
 const SURROGATE_PAIR: usize = 2;
 
-/// Returns how many units the character has that begins with the byte. A byte that continues a character has none.
+/// Returns the number of units of the character that begins with the byte, or 0 for a byte that continues a character.
 #[inline(always)]
 pub fn byte_units(encoding: Encoding, byte: u8) -> usize
     ensures { result ≡ byte_units encoding byte }

@@ -90,7 +90,7 @@ pub struct Offsets {
     pub new: usize,
 }
 
-/// Returns whether nothing goes and nothing comes between two offsets.
+/// Returns whether no line is dropped or added between two offsets.
 fn is_empty(from: Offsets, to: Offsets) -> bool
     ensures { result ≡ is_empty from to }
 {

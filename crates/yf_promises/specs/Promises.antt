@@ -22,9 +22,9 @@ use Rattle.yf_promises.specs.Said.{ContentSaid, IsAccepted, SameComments, SameCo
 pub record Tool : Type 1 where
   -- these are the events of a text that it prints. (How it writes an event, with its resolved tag, is not part of this.)
   pub Prints : List ℕ → List EventValue → Type 0
-  -- in a style it gives a second text for a text
+  -- the second text that it gives for a text in a style
   pub Formats : List ℕ → Style → List ℕ → Type 0
-  -- in a text, in a style, a rule finds faults at these offsets and at no others
+  -- exactly the offsets at which a rule finds faults in a text in a style
   pub Finds : StyleRule → List ℕ → Style → List ℕ → Type 0
   -- formatting fixes the findings of the rule
   pub fixes : StyleRule → Bool

@@ -53,7 +53,7 @@ pub record CommentDetail (t : List ℕ) (d : Detail) : Type 0 where
   pub tab : MatchBool has_tab (HasTab t white d.span.start) (HasTab t white d.span.start → ⊥)
   pub message : d.message ≡ Says.CommentSpace (d.span.start - white) has_tab
 
--- line-length: the rest of the line, and how many characters it has
+-- line-length: the rest of the line, and its number of characters
 pub record LengthDetail (t : List ℕ) (max_line : ℕ) (d : Detail) : Type 0 where
   pub count : ℕ
   pub rest : LineRest t d.span.start d.span.end count
@@ -64,7 +64,7 @@ pub data HiddenDetail (t : List ℕ) (d : Detail) : Type 0 where
   one : {c : ℕ} → CharAt t d.span.start c d.span.end → d.message ≡ Says.HiddenCharacter c → HiddenDetail t d
   none : code t d.span.start ≡ no_char → d.span.end ≡ d.span.start → d.message ≡ Says.HiddenCharacter 0 → HiddenDetail t d
 
--- of a rule with a span of its own, that; of the others so far the character at the finding's offset
+-- the detail of a rule with its own span; for the other rules so far the character at the finding's offset
 abbrev pub DetailOf : StyleRule → List ℕ → Style → Detail → Type 0
 DetailOf TrailingBlanks t style = EndsBy (WhiteSpan t) Says.TrailingBlanks
 DetailOf Indentation t style = EndsBy (CharacterSpan t) Says.Indentation

@@ -53,7 +53,7 @@ act_read Read.Close = close
 abbrev pub event_read : DocumentEvent → Event
 event_read event = record { uri = event.uri.now; act = act_read event.act }
 
--- a document with the text that changes left; as it was if a range was reversed
+-- a document with the text after changes; it is unchanged if a range was reversed
 abbrev pub with_text : OpenText → ℤ → Option (List ℕ) → OpenText
 with_text was version None = was
 with_text was version (Some text) = record { version = version; text = text }

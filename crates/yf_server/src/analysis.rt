@@ -58,7 +58,7 @@ pub trait Analysis {
     ///
     /// # Errors
     ///
-    /// `AllocError` if memory was refused.
+    /// `AllocError` if memory is refused.
     fn problems(&self, alloc: Global, text: &str) -> Result<Vec<Problem>, AllocError>
         ensures { IfOk result (λ problems. (claim self.now).Finds text.now (map problem_read problems.items)) };
 }

@@ -181,7 +181,7 @@ fn changed_document<'v>(
 ///
 /// # Errors
 ///
-/// `AllocError` if memory was refused.
+/// `AllocError` if memory is refused.
 pub fn changed(alloc: Global, params: &Value) -> Result<Option<DocumentEvent<'_>>, AllocError>
     ensures { IfOk result (λ event. option_map event_read event ≡ changed (view params.now)) }
 {

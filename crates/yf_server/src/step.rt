@@ -17,7 +17,7 @@ use yf_json_rpc::error_code::ErrorCode;
 use yf_json_rpc::message::{Message, message_of, reply};
 use yf_positions::encoding::Encoding;
 
-/// A server: how far it is, the encoding of positions, and the open documents.
+/// A server: its phase, the encoding of positions, and the open documents.
 #[derive(Drop)]
 pub struct Server {
     pub phase: Phase,

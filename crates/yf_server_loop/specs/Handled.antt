@@ -53,7 +53,7 @@ pub record IsRefused (before : Server) (answer : List ℕ) (after : Server) (exi
   pub fails : FailsWith null ParseError (Some sent)
   pub written : IsWritten answer sent
 
--- memory for a request was refused: it gets an error, and the server is as it was
+-- memory for a request was refused: it gets an error, and the server is unchanged
 pub record IsUndone (before : Server) (value : Data) (answer : List ℕ) (after : Server) (exit : Option Bool) : Type 0
   where
     pub same : IsSame before after

@@ -13,7 +13,7 @@ pub const CONTENT_LIMIT: usize = 1_073_741_824;
 /// The number of bytes after which a message must be complete: a content's, and 64 KiB for the header section.
 pub const MESSAGE_LIMIT: usize = 1_073_807_360;
 
-/// How many bytes a read takes at most.
+/// The most bytes that a read takes.
 pub const CHUNK: usize = 8192;
 
 /// Reads until the inbox begins with a message, and returns the span of its content. Reads nothing if the inbox already
