@@ -32,8 +32,8 @@ pub fn read_line_end<'a>(alloc: Global, src: &Src<'a>, at: usize) -> ReadResult<
     }
 }
 
-/// Reads the longest separation (s-separate(n,c), production 80) from a byte offset, with all its comments in order.
-/// `n` is an indentation, from -1.
+/// Reads the longest separation (s-separate(n,c), production 80) that begins at a byte offset, with all its comments in
+/// order. `n` is an indentation, from -1.
 ///
 /// It may end before a comment, since its last line needs the indentation. Returns `None` if the production derives
 /// nothing.

@@ -134,8 +134,8 @@ fn after_tag<'a>(
     }
 }
 
-/// Reads properties (c-ns-properties(n,c), production 96) from a byte offset: a tag, an anchor, or both in either order
-/// with separation between them, with all characters that may be in them. `n` is an indentation, from -1.
+/// Reads properties (c-ns-properties(n,c), production 96) that begin at a byte offset: a tag, an anchor, or both in
+/// either order with separation between them, with all characters that may be in them. `n` is an indentation, from -1.
 ///
 /// Returns `None` if no properties begin at the offset. Usually none do, and a test of the first character shows it.
 #[inline(always)]

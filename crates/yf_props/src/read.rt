@@ -12,8 +12,8 @@ use yf_chars::context::Ctx;
 use yf_lines::fault::Fault;
 use yf_lines::source_text::Src;
 
-/// Reads an alias (c-ns-alias-node, production 104) from a byte offset. Returns its name, without the `*`, and the byte
-/// offset after it, or `None` if no alias begins there.
+/// Reads an alias (c-ns-alias-node, production 104) that begins at a byte offset. Returns its name, without the `*`,
+/// and the byte offset after it, or `None` if no alias begins there.
 ///
 /// The name includes all characters that may be in it.
 pub fn read_alias<'a>(src: &Src<'a>, at: usize) -> Option<(&'a str, usize)>
@@ -26,8 +26,8 @@ pub fn read_alias<'a>(src: &Src<'a>, at: usize) -> Option<(&'a str, usize)>
     }
 }
 
-/// Reads properties (c-ns-properties(n,c), production 96) from a byte offset: a tag, an anchor, or both in either order
-/// with separation between them, and the comments of the separation. `n` is an indentation, from -1.
+/// Reads properties (c-ns-properties(n,c), production 96) that begin at a byte offset: a tag, an anchor, or both in
+/// either order with separation between them, and the comments of the separation. `n` is an indentation, from -1.
 ///
 /// Names include all characters that may be in them. Returns `None` if no properties begin there.
 ///
