@@ -10,7 +10,7 @@ use Rattle.std.proofs.lemmas.List.Sums.{sum_by_push}
 use Rattle.std.proofs.lemmas.Slice.Eq.{bytes_eq-Decides}
 use Rattle.yf_baseline.specs.SeenTexts.{IsCounted, CountsOneMore, count_of, occurrences}
 
--- a text whose count was set to one more is counted once more
+-- a text is counted once more if its count is set to one more
 pub counts_one_more : {Y : Type 0} (old new : BTreeMap (String Y) ℕ) (text : List ℕ) (next : ℕ) →
     next ≡ count_of old text + 1 →
     ((other : List ℕ) → get_by_text new other ≡ update bytes_eq (get_by_text old) text (Some next) other) →

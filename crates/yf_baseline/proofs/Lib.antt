@@ -10,7 +10,7 @@ pub mod EntryLemmas
 pub mod LineTextLemmas
 -- `write_baseline`
 pub mod TextLemmas
--- `read_baseline`, and what is written is read
+-- `read_baseline`; a written baseline is read
 pub mod ReadLemmas
 -- `lines_of`, `unlisted` and `missing`
 pub mod ListedLemmas

@@ -1,4 +1,4 @@
--- Sets of texts, and what they say of entries.
+-- Sets of texts, and tests of entries by them.
 use Rattle.std.proofs.Common.{◌≡◌, ℕ, ◌+◌, ◌<◌, ◌≤◌, Bool, true, false, not, ◌&&◌, ◌||◌, List, [], ◌∷◌, ◌++◌, length, map}
 use Rattle.std.proofs.Common.{take, drop, get_or, String, cond, refl, sym, ap, ◌∙◌, subst, arith}
 use Rattle.std.specs.Prelude.{bytes_eq, filter}
@@ -23,7 +23,7 @@ module _ {Y : Type 0} where
   pub holds_none : (set : BTreeSet (String Y)) → IsEmpty set → Holds set []
   holds_none set empty text = rw empty refl
 
-  -- a set to which a text was added
+  -- a set with one more text
   pub holds_more : (old new : BTreeSet (String Y)) (text : List ℕ) (texts : List (List ℕ)) → Holds old texts →
       ((other : List ℕ) → contains_text new other ≡ cond (bytes_eq text other) true (contains_text old other)) →
       Holds new (texts ++ text ∷ [])
@@ -41,7 +41,7 @@ module _ {Y : Type 0} where
           let back : bytes_eq other text ≡ false = nat_list_eq_equiv.symm other text ∙ differs in
           rw differs (h other ∙ or_false (is_among texts other) (bytes_eq other text) back)
 
-  -- the set has what the first i items give
+  -- the set has the texts of the first i items
   pub holds_taken : {X : Type 0} (f : X → List ℕ) (xs : List X) (i : ℕ) (d : X) (old new : BTreeSet (String Y))
       (text : List ℕ) → i < length xs → text ≡ f (get_or xs i d) → Holds old (map f (take i xs)) →
       ((other : List ℕ) → contains_text new other ≡ cond (bytes_eq text other) true (contains_text old other)) →
@@ -91,7 +91,7 @@ module _ {Y : Type 0} where
   seen_all set i es s over =
       ap (λ l. repeats_after s.seen (map (λ e. entry_line e) l)) (sym (drop_all i es over)) ∙ s.rest
 
-  -- ---- what the sets say
+  -- ---- tests by the sets
 
   pub unlisted_is : (set : BTreeSet (String Y)) (flags : List Bool) (es : List Entry)
       (lines : List (List ℕ)) → flags ≡ map (λ e. not (contains_text set (entry_line e))) es → Holds set lines →

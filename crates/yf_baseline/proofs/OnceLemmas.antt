@@ -1,4 +1,4 @@
--- The entries of the findings of a file come once each.
+-- Each entry of the findings of a file occurs once.
 use Rattle.std.proofs.Common.{◌≡◌, ℕ, ◌+◌, ◌^◌, ◌<◌, ◌≤◌, Bool, true, false, ◌||◌, List, [], ◌∷◌, ◌++◌, length, map}
 use Rattle.std.proofs.Common.{Some, option_and_then, refl, sym, ap, ◌∙◌, subst, arith, length-append, if◌then◌else◌}
 use Rattle.std.specs.Prelude.{bytes_eq, ⊤}
@@ -63,7 +63,7 @@ seen_once_more text seen =
 few : (text : List ℕ) (seen : List (List ℕ)) → occurrences text seen ≤ length seen
 few text seen = count_by-le-length (λ other. bytes_eq text other) seen
 
--- an entry whose ordinal is the number of marks like its own is a new one
+-- an entry is new if its ordinal is the number of marks like its own
 absent : (seen : List (List ℕ)) (earlier : List Entry) (e : Entry) → length seen < 2 ^ 64 → Below seen earlier →
     e.ordinal ≡ occurrences (mark_in e) seen → is_among (map (λ x. entry_line x) earlier) (entry_line e) ≡ false
 absent seen [] e small h here = refl

@@ -1,4 +1,4 @@
--- The order of the findings doesn't matter to which entries they have.
+-- The entries of findings don't depend on the order of the findings.
 use Rattle.std.proofs.Common.{◌≡◌, ◌≢◌, ℕ, ◌+◌, ◌*◌, ◌<◌, ◌≤◌, Bool, true, false, List, [], ◌∷◌, ◌++◌, length, map, take, drop}
 use Rattle.std.proofs.Common.{◌⊎◌, inl, inr, refl, sym, ap, ◌∙◌, subst, arith, length-append, if◌then◌else◌}
 use Rattle.std.specs.Prelude.{bytes_eq, ⊤}
@@ -28,7 +28,7 @@ occurrences-cons text other texts = sum_by-cons (λ x. if bytes_eq text x then 1
 one : (text : List ℕ) → ◌≡◌ {A = ℕ} (if bytes_eq text text then 1 else 0) 1
 one text = rw (nat_list_eq_equiv.refl text) refl
 
--- what an entry of the findings that are left is
+-- the entries of the remaining findings
 record Bounds (file : List ℕ) (seen : List (List ℕ)) (ks : List Kept) (e : Entry) : Type 0 where
   named : e.file ≡ file
   long : length e.hash ≡ 64

@@ -1,4 +1,4 @@
--- What is read of a baseline that was written.
+-- Reading a written baseline.
 use Rattle.std.proofs.Common.{◌≡◌, ◌≢◌, ℕ, ◌+◌, ◌-◌, ◌^◌, ◌<◌, Bool, true, false, List, [], ◌∷◌, ◌++◌, length, map, take, drop, get_or}
 use Rattle.std.proofs.Common.{Option, None, Some, Ok, Err, option_and_then, option_map, decimal, codes, ◌&&◌}
 use Rattle.std.proofs.Common.{refl, sym, ap, ◌∙◌, arith, append_assoc, append-nil, if◌then◌else◌}
@@ -22,7 +22,7 @@ use Rattle.yf_baseline.proofs.TextLemmas.{body, document-body, without_feed-text
 
 -- ---- the end of the text
 
--- a text that ends with no line feed is left as it is
+-- a text without a line feed at its end is unchanged
 pub no_feed : (text : List ℕ) → ((front : List ℕ) → text ≢ front ++ 10 ∷ []) → text ≡ without_feed text
 no_feed [] h = refl
 no_feed (x ∷ xs) h = cases (slice_index (x ∷ xs) (length (x ∷ xs) - 1) == 10) refl
@@ -53,7 +53,7 @@ is_numeral ds h =
     let b = and_parts _ _ a.1 in
     ((ltb-true 0 (length ds) b.0, own.to ds a.0), ltb-true (digits_value 10 ds) (2 ^ 64) b.1)
 
--- what std's reader of numbers gives
+-- the result of std's reader of numbers
 pub parsed_is : (s : List ℕ) (r : Option ℕ) → ParsesUnsigned 64 10 s (ok_or r s) → r ≡ number_from s
 parsed_is s (Some n) h = rw (numeral_is (without_leading_plus s) h.0.0 h.0.1) (ap Some h.1)
 parsed_is s None h = cases (is_number (without_leading_plus s)) refl
@@ -67,7 +67,7 @@ number_of_text : (o : Option (List ℕ)) (r : Option ℕ) →
 number_of_text None r h = h
 number_of_text (Some s) r h = parsed_is s r h
 
--- the number of a member that is there
+-- the number of a member that is present
 pub number_is : (name : List ℕ) (j member : Json) (r : Option ℕ) → Some member ≡ get name j →
     MatchOption (as_number member) (r ≡ None) (λ s. ParsesUnsigned 64 10 s (ok_or r s)) → r ≡ number_in name j
 number_is name j member r e h =

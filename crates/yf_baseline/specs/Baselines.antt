@@ -35,7 +35,7 @@ abbrev pub baseline_json : List Entry → Json
 baseline_json es =
     object (member (codes "findings") (array (entry_items es)) (member (codes "version") (number (codes "1")) no_members))
 
--- what is before a line: a comma after another line, and a line feed
+-- the text before a line: a comma after another line, and a line feed
 abbrev pub separator : Bool → List ℕ
 separator after = if after then codes ",\n" else codes "\n"
 
@@ -111,7 +111,7 @@ abbrev pub if_json : Option Json → Result (List Entry) Refusal
 if_json None = Err NotJson
 if_json (Some j) = if_version j (number_in (codes "version") j)
 
--- the entries of a text, or why it is no baseline
+-- the entries of a text, or why it is not a baseline
 abbrev pub baseline_in : List ℕ → Result (List Entry) Refusal
 baseline_in text = if_json (document (without_feed text))
 

@@ -1,4 +1,4 @@
--- Those of some things whose flags are set, in order.
+-- The items with set flags, in order.
 use Rattle.std.specs.Prelude.{ℕ, ◌-◌, ◌&&◌, Bool, nat_le, nat_lt, List, [], ◌∷◌, if◌then◌else◌}
 
 abbrev pub chosen : {F : Type 0} → List F → List Bool → List F

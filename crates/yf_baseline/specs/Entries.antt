@@ -1,4 +1,4 @@
--- The entries of findings: what is kept of a finding, so that it is known again after lines have moved.
+-- The entries of findings, which identify findings after lines have moved.
 use Rattle.std.specs.Prelude.{◌≡◌, ℕ, ◌-◌, List, [], ◌∷◌, ◌++◌, slice_get, slice_range, option_map, string_bytes}
 use Rattle.std.specs.Option.{unwrap_or}
 use Rattle.sha2.specs.Sha256.{sha256}
@@ -18,7 +18,7 @@ line_text src number =
 unfoldable pub line_hash : Table → ℕ → List ℕ
 line_hash src number = encode_lower (sha256 (line_text src number))
 
--- what is kept of a finding beside its file: its rule, and the hash of the text of its line
+-- the parts of a finding that its entry keeps beside the file: its rule, and the hash of the text of its line
 pub record Kept : Type 0 where
   pub rule : List ℕ
   pub hash : List ℕ

@@ -1,4 +1,4 @@
--- What follows from the definitions.
+-- Consequences of the definitions.
 use Rattle.std.specs.Prelude.{◌≡◌, ◌<◌, ◌^◌, ◌⊎◌, List, [], ◌∷◌, ℕ, length, map, false, ⊤}
 use Rattle.std.specs.List.Sorted.{IsPermutation}
 use Rattle.yf_lines.specs.Lines.{Table}
@@ -18,7 +18,7 @@ EntriesGoByTexts = (file : List ℕ) (src other : Table) (some others : List Fou
     → map (rule_and_text src) some ≡ map (rule_and_text other) others
     → entries_of file (map (kept_of src) some) ≡ entries_of file (map (kept_of other) others)
 
--- The entries of the findings of a file come once each, so a baseline of them is read.
+-- Each entry of the findings of a file occurs once, so a baseline of them is read.
 abbrev pub EntriesComeOnce : Type 0
 EntriesComeOnce = (file : List ℕ) (ks : List Kept) → length ks < 2 ^ 64
     → repeats (map (λ e. entry_line e) (entries_of file ks)) ≡ false
@@ -33,7 +33,7 @@ abbrev pub HashesAreLong : List Kept → Type 0
 HashesAreLong [] = ⊤
 HashesAreLong (k ∷ ks) = (length k.hash ≡ 64) × HashesAreLong ks
 
--- The order of the findings doesn't matter to which entries they have.
+-- The entries of findings don't depend on the order of the findings.
 abbrev pub EntriesIgnoreOrder : Type 0
 EntriesIgnoreOrder = (file : List ℕ) (some others : List Kept) → HashesAreLong some × HashesAreLong others
     → IsPermutation some others → (e : Entry) → Has (entries_of file some) e → Has (entries_of file others) e

@@ -1,16 +1,16 @@
 -- texts that were seen
 pub mod SeenTexts
--- what an entry is, and the entries of findings
+-- entries, and the entries of findings
 pub mod Entries
 -- how a baseline is written and read
 pub mod Baselines
 -- the order of entries
 pub mod Sorted
--- those of some things whose flags are set
+-- the items with set flags
 pub mod Chosen
--- which findings a baseline lists, and which entries no longer occur
+-- the findings that a baseline lists, and the entries that no longer occur
 pub mod Listed
--- which ranges have an asked line
+-- ranges with an asked line
 pub mod OnLines
--- what follows from the definitions
+-- consequences of the definitions
 pub mod Laws

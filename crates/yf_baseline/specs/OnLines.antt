@@ -1,4 +1,4 @@
--- Which ranges have an asked line.
+-- Ranges with an asked line.
 use Rattle.std.specs.Prelude.{◌≡◌, ℕ, ◌-◌, ◌≤◌, ◌&&◌, Bool, true, nat_le, nat_lt, List, if◌then◌else◌}
 use Rattle.std.specs.List.{list_any}
 use Rattle.yf_line_ranges.specs.declared.range.LineRange.{LineRange}

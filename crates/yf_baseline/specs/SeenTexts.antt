@@ -5,11 +5,11 @@ use Rattle.std.specs.Option.{unwrap_or}
 use Rattle.std.specs.BTreeMap.{BTreeMap, get_by_text}
 use Rattle.std.specs.BTreeSet.{BTreeSet, contains_text}
 
--- of these texts, how many are this one
+-- the number of these texts that are equal to this one
 abbrev pub occurrences : List ℕ → List (List ℕ) → ℕ
 occurrences text seen = count_by (λ other. bytes_eq text other) seen
 
--- the text is one of these
+-- the text is one of the texts
 abbrev pub is_among : List (List ℕ) → List ℕ → Bool
 is_among texts text = list_any (λ other. bytes_eq text other) texts
 

@@ -38,7 +38,7 @@ fn push_lines(alloc: Global, out: &mut Vec<u8>, entries: &[Entry]) -> Result<(),
     Ok(())
 }
 
-// Adds what is before a line: a comma after another line, and a line feed.
+// Adds the text before a line: a comma after another line, and a line feed.
 fn push_separator(out: &mut Vec<u8>, after: bool) -> Result<(), AllocError>
     ensures { OnOk result (out.new.items ≡ out.old.items ++ separator after) }
 {

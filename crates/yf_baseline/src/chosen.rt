@@ -1,10 +1,10 @@
-//! Those of some things whose flags are set.
+//! The items with set flags.
 ghost use Rattle.std.specs.Prelude.{◌≡◌, ◌≤◌, length, IfOk};
 ghost use Rattle.yf_baseline.specs.Chosen.{chosen};
 
 use std::alloc::{AllocError, Global};
 
-/// Returns the items whose flags are set, in order.
+/// Returns the items with set flags, in order.
 ///
 /// # Errors
 ///

@@ -20,8 +20,8 @@ struct Hashed {
 
 /// Returns the entry of each finding of a file, in the order of the findings.
 ///
-/// The text of a line is hashed again only where a finding is on another line than the one before it, so findings that
-/// are sorted by line cost time linear in the text and `n log n` in their number.
+/// It hashes a line again only if a finding is on another line than the one before it. So findings sorted by line take
+/// time linear in the text and `n log n` in their number.
 ///
 /// # Errors
 ///

@@ -1,8 +1,8 @@
-//! What a baseline keeps of a finding.
+//! The parts of a finding that a baseline keeps.
 
 use yf_lines::text::OwnedText;
 
-/// What a baseline keeps of a finding.
+/// The parts of a finding that a baseline keeps.
 #[derive(Drop)]
 pub struct Entry {
     /// The file's name as the user wrote it.
@@ -11,7 +11,7 @@ pub struct Entry {
     pub rule: OwnedText,
     /// The SHA-256 hash of the text of the line, in hexadecimal digits.
     pub hash: OwnedText,
-    /// How many earlier findings of the file have this rule and this hash.
+    /// The number of earlier findings of the file with this rule and this hash.
     pub ordinal: u64,
 }
 

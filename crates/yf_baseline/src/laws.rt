@@ -1,23 +1,23 @@
-//! What follows from the definitions.
+//! Consequences of the definitions.
 ghost use Rattle.yf_baseline.specs.Laws.{EntriesComeOnce, EntriesGoByTexts, EntriesIgnoreOrder};
 ghost use Rattle.yf_baseline.specs.OnLines.{IsOnTells};
 
-/// Entries go by the texts of lines, and not by their numbers.
+/// Entries depend on the texts of lines, and not on their numbers.
 pub fn entries_go_by_texts()
     ensures { EntriesGoByTexts }
 {}
 
-/// The entries of the findings of a file come once each.
+/// Each entry of the findings of a file occurs once.
 pub fn entries_come_once()
     ensures { EntriesComeOnce }
 {}
 
-/// The order of the findings doesn't matter to which entries they have.
+/// The entries of findings don't depend on the order of the findings.
 pub fn entries_ignore_order()
     ensures { EntriesIgnoreOrder }
 {}
 
-/// A range is on asked lines if one of its lines is asked, and only then.
+/// A range is on asked lines if and only if one of its lines is asked.
 pub fn is_on_tells()
     ensures { IsOnTells }
 {}

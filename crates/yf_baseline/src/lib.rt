@@ -1,7 +1,7 @@
-//! Baselines and asked lines: which findings of a check are left.
+//! Baselines and asked lines: they select findings of a check.
 //!
-//! A baseline lists the findings that a team has accepted, so that a check reports only what is new. An entry of it is a
-//! finding without its place: the file, the rule, a hash of the text of its line, and the number of earlier findings
+//! A baseline lists the findings that a team has accepted, so that a check reports only new ones. An entry of it is a
+//! finding without its position: the file, the rule, a hash of the text of its line, and the number of earlier findings
 //! that have an equal rule and an equal hash. So an entry stays when lines move. The crate knows no YAML and no rule.
 //! docs/FORMATS.md describes the file for users.
 #![tactic(auto)]

@@ -1,4 +1,4 @@
-//! Which findings a baseline lists, and which of its entries no longer occur.
+//! The findings that a baseline lists, and its entries that no longer occur.
 ghost use Rattle.std.specs.Prelude.{◌≡◌, ◌≤◌, ◌&&◌, ℕ, List, length, map, not, IfOk};
 ghost use Rattle.std.specs.BTreeSet.{contains_text};
 ghost use Rattle.yf_baseline.specs.Baselines.{entry_line};
@@ -103,7 +103,7 @@ pub fn missing<'a>(
     Ok(found)
 }
 
-// Whether an entry is one of a file that was checked, and no longer occurs.
+// Returns whether an entry belongs to a file that was checked, and no longer occurs.
 fn is_missing(
     alloc: Global,
     entry: &Entry,

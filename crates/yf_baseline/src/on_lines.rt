@@ -1,4 +1,4 @@
-//! The findings on lines that were asked for.
+//! The findings on asked lines.
 ghost use Rattle.std.specs.Prelude.{◌≡◌, ◌≤◌, length, map, IfOk};
 ghost use Rattle.yf_baseline.specs.Chosen.{chosen};
 ghost use Rattle.yf_baseline.specs.OnLines.{has_common, is_on, last_line};
@@ -47,7 +47,7 @@ pub fn is_on(range: &Range, asked: &[LineRange]) -> bool
         .any(|lines| has_common(lines, range.line, last))
 }
 
-// Whether one of these lines is at least `first` and at most `last`.
+// Returns whether one of these lines is at least `first` and at most `last`.
 fn has_common(lines: &LineRange, first: usize, last: usize) -> bool
     ensures { result ≡ has_common lines.now first last }
 {

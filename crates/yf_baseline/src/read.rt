@@ -20,7 +20,7 @@ use std::collections::BTreeSet;
 ///
 /// # Errors
 ///
-/// `Memory` if memory runs out. Otherwise a `Refusal` says why the text is no baseline.
+/// `Memory` if memory runs out. Otherwise a `Refusal` says why the text is not a baseline.
 pub fn read_baseline(alloc: Global, text: &str) -> Result<Vec<Entry>, Refusal>
     ensures ok { IfOk result (λ es. baseline_in text.now ≡ Ok es.items) }
     ensures refused { IfErr result (λ e. e ≢ Refusal.Memory → baseline_in text.now ≡ Err e) }
@@ -55,7 +55,7 @@ fn entries_of_value(alloc: Global, value: &Value<'_>) -> Result<Vec<Entry>, Refu
     }
 }
 
-// Returns the entries of a value, if each comes once.
+// Returns the entries of a value, if each occurs once.
 fn entries_each_once(alloc: Global, value: &Value<'_>) -> Result<Vec<Entry>, Refusal>
     ensures ok { IfOk result (λ es. if_each_once (entries_in (value_view value.now)) ≡ Ok es.items) }
     ensures refused { IfErr result (λ e. e ≢ Refusal.Memory
@@ -144,7 +144,7 @@ fn number_in(value: &Value<'_>, name: &str) -> Option<u64>
     }
 }
 
-// Whether an entry comes twice.
+// Returns whether an entry occurs twice.
 fn repeats(alloc: Global, entries: &[Entry]) -> Result<bool, AllocError>
     ensures { IfOk result (λ found. found ≡ repeats (map (λ e. entry_line e) entries.now)) }
 {

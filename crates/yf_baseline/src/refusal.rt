@@ -1,4 +1,4 @@
-//! Why a text is no baseline.
+//! Why a text is not a baseline.
 
 use std::alloc::AllocError;
 
@@ -7,13 +7,13 @@ use std::alloc::AllocError;
 pub enum Refusal {
     /// Memory ran out.
     Memory,
-    /// The text is no JSON.
+    /// The text is not JSON.
     NotJson,
-    /// It is no object whose member `version` is 1.
+    /// It is not an object whose member `version` is 1.
     Version,
-    /// The member `findings` is no array of entries.
+    /// The member `findings` is not an array of entries.
     Shape,
-    /// An entry comes twice.
+    /// An entry occurs twice.
     Repeated,
 }
 

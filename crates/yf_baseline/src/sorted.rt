@@ -11,7 +11,7 @@ use std::cmp::Ordering;
 ///
 /// # Errors
 ///
-/// `AllocError` if memory runs out. The entries then stay as they are.
+/// `AllocError` if memory runs out; the entries are then unchanged.
 pub fn sort_entries(entries: &mut Vec<Entry>) -> Result<(), AllocError>
     ensures same { IsPermutation entries.old.items entries.new.items }
     ensures sorted { OnOk result (IsSortedBy comes_before entries.new.items) }

@@ -1,6 +1,6 @@
 //! The words of the command line.
 
-/// What is done with each stream.
+/// The work on each stream.
 #[derive(Clone, Copy)]
 pub enum Verb {
     Events,
@@ -8,19 +8,20 @@ pub enum Verb {
     Fmt,
 }
 
-/// What the words ask for.
+/// The command that the words give.
 #[derive(Clone, Copy)]
 pub struct Command {
     pub verb: Verb,
-    /// How many streams.
+    /// The number of streams.
     pub count: u32,
-    /// How many pieces the largest stream has, at most.
+    /// The most pieces of the largest stream.
     pub pieces: u32,
     pub seed: u64,
 }
 
 impl Command {
-    /// How many pieces the stream with that index has: every sixth one is largest, the others have a half, a quarter and so on.
+    /// Returns the number of pieces of the stream with that index: every sixth stream is largest, the others have a
+    /// half, a quarter and so on.
     pub fn size_of(&self, index: u32) -> u32 {
         (self.pieces >> (index % 6)).max(1)
     }
@@ -35,7 +36,7 @@ fn read_verb(word: &str) -> Option<Verb> {
     }
 }
 
-/// The command of four words, or none.
+/// Returns the command of four words, or `None`.
 pub fn read_command(words: &[String]) -> Option<Command> {
     let [verb, count, pieces, seed] = words else {
         return None;

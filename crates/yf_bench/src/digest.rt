@@ -1,6 +1,6 @@
 //! A digest of bytes.
 
-/// An odd number whose bits are those of the golden ratio.
+/// An odd number with the bits of the golden ratio.
 const FACTOR: u64 = 0x9e37_79b9_7f4a_7c15;
 
 /// A digest of all bytes and numbers that were added, in their order.
@@ -24,7 +24,7 @@ impl Digest {
         self.value = (self.value ^ number).wrapping_mul(FACTOR).rotate_left(29);
     }
 
-    /// Adds bytes, and how many they are.
+    /// Adds bytes and their number.
     pub fn add_bytes(&mut self, bytes: &[u8]) {
         let (chunks, rest) = bytes.as_chunks::<8>();
         for chunk in chunks {

@@ -1,9 +1,9 @@
-//! Makes streams of YAML from the pieces of a file and a seed, does the work of one command on each, and prints a digest of
-//! all that came out. `bench/run` times it.
+//! Makes streams of YAML from the pieces of a file and a seed, runs one command on each, and prints a digest of the
+//! output. `bench/run` times it.
 //!
-//! Words: `events`, `check` or `fmt`; how many streams; of how many pieces the largest is made; the seed. Standard input
-//! holds the pieces, between lines `%%`; in a piece `@w` stands for a word, `@n` for a number, and `@i` for a number that
-//! no other place of the streams has.
+//! Words: `events`, `check` or `fmt`; the number of streams; the number of pieces of the largest; the seed. Standard
+//! input contains the pieces, between lines `%%`; in a piece `@w` is replaced by a word, `@n` by a number, and `@i` by
+//! a number that occurs nowhere else in the streams.
 #![tactic(auto)]
 
 mod command;
@@ -19,7 +19,7 @@ use std::{env, io};
 use streams::Streams;
 use work::Work;
 
-/// The status where words or pieces can't be read, or memory is refused.
+/// The status if words or pieces can't be read, or if memory is refused.
 const REFUSED: u8 = 3;
 
 fn main(rt: HostRuntime) -> ExitCode {
@@ -32,7 +32,7 @@ fn main(rt: HostRuntime) -> ExitCode {
     }
 }
 
-/// Does what the words ask for, and prints how much was done.
+/// Does the work that the words describe, and prints its amount.
 fn done(rt: &HostRuntime) -> io::Result<()> {
     let mut words = env::args(rt)?;
     let _program = words.next();

@@ -2,7 +2,7 @@
 
 use std::alloc::{AllocError, Global};
 
-/// What is before a part's text.
+/// The text before a part's text.
 #[derive(Clone, Copy)]
 pub enum Preamble {
     /// Nothing.
@@ -24,7 +24,8 @@ pub struct TextPart<'a> {
     pub text: &'a str,
 }
 
-/// A slot by its letter, with the text after that; before a text with no such letter is the sign.
+/// Returns the slot of a letter with the text after it. For another letter, it returns the text with the sign before
+/// it.
 fn part_of(text: &str) -> TextPart<'_> {
     if let Some(text) = text.strip_prefix('w') {
         return TextPart {
@@ -50,7 +51,7 @@ fn part_of(text: &str) -> TextPart<'_> {
     }
 }
 
-/// The parts of a piece.
+/// Returns the parts of a piece.
 fn parts_of(alloc: Global, piece: &str) -> Result<Vec<TextPart<'_>>, AllocError> {
     let mut parts = Vec::new(alloc);
     let mut texts = piece.split('@');
@@ -66,7 +67,7 @@ fn parts_of(alloc: Global, piece: &str) -> Result<Vec<TextPart<'_>>, AllocError>
     Ok(parts)
 }
 
-/// All pieces of a text, each with its parts.
+/// Returns all pieces of a text, each with its parts.
 pub fn pieces_of(alloc: Global, text: &str) -> Result<Vec<Vec<TextPart<'_>>>, AllocError> {
     let mut pieces = Vec::new(alloc);
     for piece in text.split("%%\n") {

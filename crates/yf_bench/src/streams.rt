@@ -6,7 +6,7 @@ use rand_core::Rng;
 use rand_pcg::Pcg32;
 use std::alloc::{AllocError, Global};
 
-/// What is where a piece has a slot for a word.
+/// The words that replace a slot of a piece.
 const WORDS: [&str; 32] = [
     "web",
     "database",
@@ -52,7 +52,7 @@ pub struct Streams<'a> {
 }
 
 impl<'a> Streams<'a> {
-    /// A maker of streams of the pieces of a text.
+    /// Returns a maker of streams of the pieces of a text.
     pub fn new(alloc: Global, pieces: &'a str, seed: u64) -> Result<Streams<'a>, AllocError> {
         Ok(Streams {
             pieces: pieces_of(alloc, pieces)?,
@@ -62,7 +62,7 @@ impl<'a> Streams<'a> {
         })
     }
 
-    /// The next stream, of so many pieces.
+    /// Returns the next stream, of `pieces` pieces.
     pub fn next_text(&mut self, pieces: u32) -> Result<&str, AllocError> {
         self.text.clear();
         for _ in 0..pieces {

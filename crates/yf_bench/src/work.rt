@@ -16,7 +16,7 @@ use yf_rules::finding::Finding;
 use yf_rules::format::format;
 use yf_stream::stream::read_stream;
 
-/// What was done so far.
+/// The work done so far.
 #[derive(Drop)]
 pub struct Work {
     pub streams: u64,
@@ -27,7 +27,7 @@ pub struct Work {
 }
 
 impl Work {
-    /// Nothing was done yet.
+    /// Returns the state before any work.
     pub fn new(alloc: Global) -> Work {
         Work {
             streams: 0,
@@ -38,7 +38,7 @@ impl Work {
         }
     }
 
-    /// Does the work of a verb on a stream, and adds what comes out to the digest. Memory that is refused ends it.
+    /// Does the work of a verb on a stream, and adds its output to the digest. Fails if memory is refused.
     pub fn take(&mut self, alloc: Global, verb: Verb, text: &str) -> Result<(), AllocError> {
         self.streams = self.streams.wrapping_add(1);
         self.bytes = self.bytes.wrapping_add(text.len() as u64);
@@ -107,7 +107,7 @@ impl Work {
     }
 }
 
-/// Returns what all rules find in a text, in the house style.
+/// Returns the findings of all rules in a text, in the house style.
 fn findings_in(alloc: Global, text: &str) -> Result<Vec<Finding>, Fault> {
     let Ok(src) = Src::new(alloc, text) else {
         return Err(Fault::Memory);

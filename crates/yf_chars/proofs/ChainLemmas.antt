@@ -1,4 +1,4 @@
--- Chains of steps: how they grow, how two of one start meet, and that the greedy one is the longest.
+-- Chains of steps: they grow, two chains from one offset meet, and the greedy chain is the longest.
 use Rattle.std.proofs.Common.{true≢false, Bool, true, false, ◌≡◌, ℕ, ◌<◌, ◌≤◌, List, [], ◌∷◌, ◌++◌, refl, sym, ap, ◌∙◌, subst, arith, append_assoc, append-nil}
 use Rattle.yf_chars.specs.Text.{code, next}
 use Rattle.yf_chars.proofs.TextLemmas.{next_later}
@@ -27,7 +27,7 @@ data Starts {A : Type 0} (S : ℕ → ℕ → List A → Type 0) : ℕ → ℕ �
   stays : {i : ℕ} → Starts S i i []
   moves : {i h j : ℕ} {x y : List A} → S i h x → Chain S h j y → Starts S i j (x ++ y)
 
--- of two chains from one place one is the prefix of the other
+-- of two chains from one offset, one is the prefix of the other
 pub data Meets {A : Type 0} (S : ℕ → ℕ → List A → Type 0) (j k : ℕ) (x y : List A) : Type 0 where
   goes_on : (z : List A) → Chain S j k z → y ≡ x ++ z → Meets S j k x y
   falls_short : (z : List A) → Chain S k j z → x ≡ y ++ z → Meets S j k x y
@@ -60,7 +60,7 @@ module _ {A : Type 0} {S : ℕ → ℕ → List A → Type 0} where
   only_of {x = x} f stuck (goes_on z c e) = e ∙ ap (λ v. x ++ v) (nothing_more stuck c).1 ∙ append-nil x
   only_of {y = y} f stuck (falls_short z c e) = sym (e ∙ ap (λ v. y ++ v) (nothing_more stuck c).1 ∙ append-nil y)
 
-  -- the chain that goes on as long as there is a step is the longest, and its meaning the only one
+  -- the chain that goes on until no step is possible is the longest, and its meaning is the only one
   pub chain_chosen : {i j : ℕ} {x : List A} → Functional S → Chain S i j x → Stuck (S j) → Chosen (Chain S i) j x
   chain_chosen f c stuck = record {
     derived = c;
@@ -68,7 +68,7 @@ module _ {A : Type 0} {S : ℕ → ℕ → List A → Type 0} where
     only = λ y d. only_of f stuck (chain_meet f c d);
   }
 
-  -- two chains from one place that are both stuck are one
+  -- two chains from one offset that both end stuck are equal
   pub stuck_unique : {i j k : ℕ} {x y : List A} → Functional S → Chain S i j x → Stuck (S j) → Chain S i k y → Stuck (S k)
       → (j ≡ k) × (x ≡ y)
   stuck_unique {i} {j} {k} {x} {y} f c stuck d stuck' =
@@ -77,7 +77,7 @@ module _ {A : Type 0} {S : ℕ → ℕ → List A → Type 0} where
       let same : j ≡ k = omega arith in
       (same, sym ((chain_chosen f c stuck).only y (subst (λ m. Chain S i m y) (sym same) d)))
 
--- a run of a class: a step is unique, it moves on, and the run that stops at another character is the longest
+-- runs of a class: a step is unique and moves on, and the run before another character is the longest
 module _ (t : List ℕ) (p : ℕ → Bool) where
   one_end : {i j k : ℕ} {x y : List ℕ} → One t p i j x → One t p i k y → j ≡ k
   one_end (one a) (one b) = refl
@@ -97,7 +97,7 @@ module _ (t : List ℕ) (p : ℕ → Bool) where
   pub one_stuck : (i : ℕ) → p (code t i) ≡ false → Stuck (One t p i)
   one_stuck i e = record { none = λ j x s. true≢false (sym (one_passes s) ∙ e) }
 
-  -- a chosen run's one more character
+  -- a chosen run with one more character
   pub many_more : {i j : ℕ} {x : List ℕ} → Many t p i j x → p (code t j) ≡ true → Many t p i (next t j) (x ++ code t j ∷ [])
   many_more c e = chain_more c (one e)
 

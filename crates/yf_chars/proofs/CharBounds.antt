@@ -1,4 +1,4 @@
--- Characters lie below the number that is where none begins, and visible ASCII breaks no line.
+-- Characters are below `no_char`, and a visible ASCII character doesn't break a line.
 use Rattle.std.proofs.Common.{◌≡◌, ℕ, ◌<◌, ◌≤◌, true, arith}
 use Rattle.std.proofs.lemmas.Bool.Decides.{nat_tests}
 use Rattle.yf_chars.specs.Text.{no_char}

@@ -1,4 +1,4 @@
--- What single characters are: facts of the classes of characters.
+-- Facts about single characters and the classes that contain them.
 use Rattle.std.proofs.Common.{◌≡◌, true, false, refl}
 use Rattle.yf_chars.specs.Class.{is_between, is_break_char, is_digit, is_flow_indicator, is_nb_char, is_nb_json, is_ns_char, is_printable, is_tag_char, is_uri_char, is_white, is_word_char}
 use Rattle.yf_chars.specs.Text.{no_char}

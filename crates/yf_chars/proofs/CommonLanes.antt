@@ -1,4 +1,4 @@
--- From a vector's masks to bytes that are spelled by themselves.
+-- From the masks of a vector to bytes that need no escape.
 use Rattle.std.proofs.Common.{◌≡◌, ℕ, ◌+◌, ◌≤◌, Bool, true, false, true≢false, eqb, ltb, List, length, refl, sym, arith}
 use Rattle.std.proofs.lemmas.Bool.Decides.{nat_tests}
 use Rattle.std.specs.Prelude.{◌≢◌}

@@ -1,4 +1,4 @@
--- Texts of characters that are spelled by themselves are in double quotes as they are.
+-- Double quotes hold texts of characters that need no escape unchanged.
 use Rattle.std.proofs.Common.{◌≡◌, ℕ, zero, suc, ◌<◌, true, false, List, [], ◌∷◌, ◌++◌, refl, ap, ◌∙◌, arith, flat_map, encode_utf8_all}
 use Rattle.std.specs.Prelude.{is_some}
 use Rattle.std.specs.Str.{IsAscii, chars}
@@ -39,7 +39,7 @@ common_ascii (b ∷ t) a (suc i) = common_ascii t (λ k l. a (suc k) (omega (ari
 pub common_out : (c : ℕ) → is_common c ≡ true → spelled_out c ≡ c ∷ []
 common_out c e = let low = common_below c e in spelled_alike c (low_itself c (omega arith)) ∙ common_spelled c e
 
--- such a text is spelled by itself, where each common character is
+-- such a text is unchanged if each common character is
 module _ (f : ℕ → List ℕ) (itself : (c : ℕ) → is_common c ≡ true → f c ≡ c ∷ []) where
   common_each : (t : List ℕ) → AreCommon t → flat_map f t ≡ t
   common_each [] a = refl

@@ -1,4 +1,4 @@
--- Laws of escapes: from a place there is one escape at most.
+-- Laws of escapes: at most one escape begins at an offset.
 use Rattle.std.proofs.Common.{◌≢◌, ◌⊎◌, ◌≡◌, ℕ, ◌+◌, ◌-◌, ◌*◌, ◌^◌, ◌<◌, ◌≤◌, true, false, true≢false, Some, None, refl, sym, ap, ◌∙◌, subst, ⊎_elim, arith, add-one, leb, List, [], ◌∷◌, ◌++◌, ◌/◌, ◌%◌, encode_utf8_all, encode_utf8, append-nil, append_assoc}
 use native.Mathlib.Numerals.{unary_clauses}
 use Rattle.std.proofs.Math.Nat.{pow-le-pow_right}
@@ -13,7 +13,7 @@ use Rattle.yf_chars.specs.Class.{is_between}
 use Rattle.yf_chars.specs.Escape.{named, number, Digits, NumericEscape, is_high, is_low, joined, NoLow, Escape, upper_digit, two_digits, is_by_two, is_by_four, spelled_long, spelled_by, spelled, short_name, by_number}
 use Rattle.yf_chars.specs.Escape.Escape.{by_letter, by_two, by_four, by_half, by_pair, by_eight}
 
--- what has one end and one meaning is the longest
+-- a result with only one end and one meaning is chosen
 pub chosen_only : {X : Type 0} {P : ℕ → X → Type 0} {j : ℕ} {x : X} → P j x → ((k : ℕ) (y : X) → P k y → (k ≡ j) × (y ≡ x)) → Chosen P j x
 chosen_only {j = j} d u = record {
   derived = d;
@@ -45,7 +45,7 @@ digits_unique a b = sym a.value ∙ b.value
 pub numbered_unique : {t : List ℕ} {i c k v w : ℕ} → NumericEscape t i c k v → NumericEscape t i c k w → v ≡ w
 numbered_unique a b = digits_unique a.digits b.digits
 
--- the three letters that digits follow name nothing themselves
+-- the three letters before digits have no meaning as a single letter
 pub unnamed_x : named 120 ≡ None
 unfolding named
 unnamed_x = refl
@@ -156,7 +156,7 @@ chosen_pair {t} {i} {v} {w} n h o l = chosen_only (by_pair n h o l) (λ k y d. o
   only n h o l (by_pair m g p q) = (refl, (let a = numbered_unique m n in let b = numbered_unique p o in cc))
   only n h o l (by_eight m) = let a = n.letter in let b = m.letter in absurd (omega arith)
 
--- none at all
+-- no escape
 pub no_escape : {t : List ℕ} {i : ℕ} → ((v : ℕ) → NumericEscape t i 117 4 v → ⊥) → ((v : ℕ) → NumericEscape t i 120 2 v → ⊥)
     → ((v : ℕ) → NumericEscape t i 85 8 v → ⊥) → ((v : ℕ) → code t i ≡ 92 → named (code t (i + 1)) ≡ Some v → ⊥) → Stuck (Escape t i)
 no_escape {t} {i} u x e l = record { none = λ j v d. none u x e l d } where
@@ -169,7 +169,7 @@ no_escape {t} {i} u x e l = record { none = λ j v d. none u x e l d } where
   none u x e l (by_pair {v = v} n h o q) = u v n
   none u x e l (by_eight {v = v} n) = e v n
 
--- how characters are spelled, in bytes
+-- the bytes of written characters
 pub upper_below : (d : ℕ) → d < 16 → upper_digit d < 128
 unfolding upper_digit
 upper_below d l = grind (arith, nat_tests)
@@ -213,7 +213,7 @@ pub two_spelled : (c : ℕ) → is_by_two c ≡ true → encode_utf8_all (spelle
 unfolding encode
 two_spelled c e = ap encode_utf8_all (spelled_two c e) ∙ ap (λ w. 92 ∷ 120 ∷ w) (two_bytes c (by_two_below c e))
 
--- after two digits, the bytes of what is in ASCII
+-- two digits and an ASCII text are their own bytes
 more_bytes : (v : ℕ) {w : List ℕ} → v < 256 → encode_utf8_all w ≡ w → encode_utf8_all (two_digits v ++ w) ≡ two_digits v ++ w
 more_bytes v {w} l e = encodes-append (two_digits v) w ∙ ap (λ z. z ++ encode_utf8_all w) (two_bytes v l) ∙ ap (λ z. two_digits v ++ z) e
 
@@ -259,7 +259,7 @@ glue_two a x y p q = q ∙ ap (λ w. w ++ y ∷ []) p ∙ append_assoc a (x ∷ 
 pub glue : {b d e : List ℕ} (a : List ℕ) (x y : ℕ) (z : List ℕ) → b ≡ a ++ x ∷ [] → d ≡ b ++ y ∷ [] → e ≡ d ++ z → e ≡ a ++ x ∷ y ∷ z
 glue a x y z p q r = r ∙ ap (λ w. w ++ z) (glue_two a x y p q) ∙ append_assoc a (x ∷ y ∷ []) z
 
--- an escape is one
+-- an escape is the only one there
 escape_chosen : {t : List ℕ} {i j v : ℕ} → Escape t i j v → Chosen (Escape t i) j v
 escape_chosen (by_letter b e) = chosen_letter b e
 escape_chosen (by_two n) = chosen_two n
@@ -275,7 +275,7 @@ escape_unique {t} {i} {j} {k} {v} {w} a b =
     let same : j ≡ k = omega arith in
     (same, (escape_chosen b).only v (subst (λ m. Escape t i m v) same a))
 
--- it begins with a backslash, moves on, and no line break is after the backslash
+-- it begins with a backslash and moves on, and no line break follows the backslash
 pub escape_backslash : {t : List ℕ} {i j v : ℕ} → Escape t i j v → code t i ≡ 92
 escape_backslash (by_letter b e) = b
 escape_backslash (by_two n) = n.backslash

@@ -1,4 +1,4 @@
--- Which characters are hidden: none below U+0085.
+-- No character below U+0085 is hidden.
 use Rattle.std.proofs.Common.{◌≡◌, ℕ, ◌<◌, ◌≤◌, true, false, Bool, ◌&&◌, refl, arith}
 use Rattle.std.specs.Prelude.{nat_lt}
 use Rattle.std.proofs.lemmas.Bool.Decides.{nat_tests}
@@ -30,7 +30,7 @@ pub hidden_besides : (c : ℕ) → is_default_ignorable_code_point c ≡ false �
 unfolding is_hidden
 hidden_besides c e = rw e refl
 
--- when a hidden character is spelled by its number
+-- hidden characters that are written by their number
 pub low_itself : (c : ℕ) → c ≤ 160 → is_spelled_out c ≡ false
 unfolding is_spelled_out
 low_itself c l = rw (le-ltb 160 c l) refl

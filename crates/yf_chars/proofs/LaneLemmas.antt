@@ -7,7 +7,8 @@ use Rattle.std.specs.List.{prefix_len}
 use lib.Lanes.{chunk, mask_l, top}
 use Rattle.yf_chars.specs.Lanes.{lanes_before, LaneRun}
 
--- each lane of z is computed from its byte by f, and its highest bit is set just where the byte does not pass the test
+-- f computes each lane of z from its byte, and the highest bit of a lane is set if and only if the byte doesn't pass
+-- the test
 module _ (test : ℕ → Bool) (d : List ℕ) (i r : ℕ) (z : List ℕ) (f : ℕ → ℕ) (room : i + 16 ≤ length d) (fits : (k : ℕ) → Fits w8 (get_or d k 0))
     (found : r ≡ lanes_before (mask_l (map (top 7) z) % 2 ^ 64)) (lanes : z ≡ map f (chunk i 16 d))
     (all : agree_below (λ x. top 7 (f x)) (λ x. not (test x)) 256 ≡ true) where

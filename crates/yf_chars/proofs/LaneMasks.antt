@@ -1,4 +1,4 @@
--- What the mask of a comparison with one byte tells of the bytes under a vector.
+-- The mask of a comparison with one byte, and the bytes that were compared.
 use Rattle.std.proofs.Common.{◌≡◌, ℕ, suc, ◌+◌, ◌%◌, ◌^◌, ◌<◌, ◌≤◌, Bool, false, cond, ltb, List, [], ◌∷◌, length, map, get_or, replicate, refl, sym, ap, ◌∙◌, arith, w8}
 use Rattle.std.proofs.lemmas.List.{length-map}
 use Rattle.std.proofs.lemmas.Simd.{length-chunk, get_or-chunk, bitmask_splat, none_from_empty_mask, tops_compared, zip2_splat_left, mask_l-mod}
@@ -32,7 +32,7 @@ module _ (d : List ℕ) (i n y : ℕ) (room : i + n ≤ length d) (few : n ≤ 6
       ap (λ l. mask_l l % 2 ^ 64) (tops_compared w8 ltb (replicate n y) lanes ∙ zip2_splat_left ltb y n lanes long)
       ∙ mask_l-mod (map (λ x. ltb y x) lanes) 64 (omega (arith, few, long, length-map lanes (λ x. ltb y x)))
 
-  -- no byte passes where the mask is empty, and the mask is empty where no byte passes
+  -- the mask is empty if and only if no byte passes
   pub none_under : (t : ℕ → ℕ → Bool) → mask_of t d i n y ≡ 0 → (k : ℕ) → i ≤ k → k < i + n → t (get_or d k 0) y ≡ false
   none_under t none = none_from_empty_mask (λ x. t x y) d i n 0 room (sym (made t) ∙ none)
 

@@ -1,4 +1,4 @@
--- The lemmas, each group under the function or the theorem that it serves.
+-- The lemmas, grouped by the function or the theorem that needs them.
 
 -- characters at offsets: `peek` and `is_there`, and each reader above
 pub mod TextLemmas
@@ -8,13 +8,13 @@ pub mod BreakChars
 mod NbLemmas
 -- a reader takes the longest part, with one meaning (`Chosen` of all readers above)
 pub mod ChainLemmas
--- escapes: `read_escape` and `push_escaped`, and that what is spelled is read again
+-- escapes: `read_escape` and `push_escaped`; a written character is read again
 pub mod EscapeLemmas
 pub mod SpelledLemmas
 pub mod CommonLemmas
 -- `is_hidden`
 pub mod HiddenLemmas
--- bytes that are looked at 16 at once, in the crates above
+-- tests of 16 bytes at once, in the crates above
 pub mod LaneLemmas
 pub mod LaneMasks
 mod CommonLanes

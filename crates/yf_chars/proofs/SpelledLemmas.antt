@@ -1,4 +1,4 @@
--- A spelled character is read again.
+-- A written character is read again.
 use Rattle.std.proofs.Common.{◌⊎◌, ◌≡◌, ℕ, ◌+◌, ◌*◌, ◌/◌, ◌%◌, ◌<◌, ◌≤◌, Bool, true, false, Option, Some, None, refl, sym, ap, ◌∙◌, subst, inl, inr, ⊎_elim, arith, List, [], ◌∷◌, ◌++◌, length, drop, encode_utf8_all, if◌then◌else◌}
 use Rattle.std.proofs.lemmas.Bool.{cases_Bool, cases_lt}
 use Rattle.std.proofs.lemmas.Bool.Decides.{nat_tests}
@@ -18,7 +18,7 @@ use Rattle.yf_chars.proofs.TextLemmas.{reads_char, scalar_below}
 use Rattle.yf_chars.proofs.EscapeLemmas.{no_digits, more_digits, upper_below, by_two_below, by_four_below, spelled_none, two_spelled, four_spelled, self_spelled, letter_spelled, few_spelled, many_spelled}
 use Rattle.yf_chars.proofs.Tests.{none_some}
 
--- the bytes from a place on
+-- the bytes from an offset on
 pub record IsAt (t : List ℕ) (q : ℕ) (r : List ℕ) : Type 0 where
   pub bytes : drop q t ≡ r
   pub boundary : IsCharBoundary t q

@@ -1,4 +1,4 @@
--- Tests of numbers, of options and of lists: facts that everything above uses, each once.
+-- Tests of numbers, options and lists: facts that everything above uses.
 use Rattle.std.proofs.Common.{◌≡◌, ℕ, ◌<◌, ◌≤◌, Bool, true, false, List, [], ◌∷◌, ◌++◌, append_assoc, Option, Some, None, refl, ap, ◌∙◌, arith}
 use Rattle.std.specs.Prelude.{is_some, nat_lt, not}
 use Rattle.std.specs.List.{slice_get}
@@ -50,6 +50,6 @@ pub turned_false : (b : Bool) → not b ≡ true → b ≡ false
 turned_false true e = absurd cc
 turned_false false e = refl
 
--- what is added twice at the end
+-- two pieces that are appended one after another
 pub glue_more : {A : Type 0} {d e : List A} (a z w : List A) → d ≡ a ++ z → e ≡ d ++ w → e ≡ a ++ (z ++ w)
 glue_more a z w p q = q ∙ ap (λ v. v ++ w) p ∙ append_assoc a z w

@@ -26,7 +26,7 @@ begins_from_boundary t i b l =
     (λ (h : 128 ≤ get_or t i 0). rw (lt-ltb i (length t) l, le-ltb (get_or t i 0) 128 h, le-leb 192 (get_or t i 0) (b.1 l h)))
     (cases_lt (get_or t i 0) 128)
 
--- the first character of a text is a character
+-- the first character of a text is a Unicode scalar value
 scalar_first : (bs rest : List ℕ) (c : ℕ) → IsUtf8 bs → bs ≡ encode c ++ rest → IsScalar c
 scalar_first bs rest c u e =
     let cut = S.cons_from_encodes u.0 rest c (u.1.1 ∙ e) in
@@ -42,7 +42,7 @@ take-encode c rest = rw (← length-encode c) (take-append_seam (encode c) rest)
 chars-encode : (c : ℕ) → IsScalar c → chars (encode c) ≡ c ∷ []
 chars-encode c s = S.chars_past_char (encode c) [] c (S.IsUtf8-encode c s) (sym (append-nil (encode c))) ∙ ap (λ w. c ∷ w) S.chars-nil
 
--- a character that is first in the rest of a text is there in the text
+-- the first character of the rest of a text is at that offset of the text
 pub reads_char : (t : List ℕ) (i c : ℕ) (rest : List ℕ) → IsUtf8 t → IsCharBoundary t i → i < length t → drop i t ≡ encode c ++ rest → CharAt t i c (i + len_utf8 c)
 unfolding next before
 reads_char t i c rest u b l e =
@@ -65,7 +65,7 @@ reads_char t i c rest u b l e =
       bytes = whole;
     }
 
--- the same for a byte below 128, which is its own character
+-- a byte below 128 is its own character
 pub reads_ascii : (t : List ℕ) (i : ℕ) → IsUtf8 t → i < length t → get_or t i 0 < 128 → CharAt t i (get_or t i 0) (i + 1)
 reads_ascii t i u l a =
     let c = get_or t i 0 in
@@ -79,7 +79,7 @@ pub code-end : (t : List ℕ) → code t (length t) ≡ no_char
 unfolding code begins
 code-end t = rw (le-ltb (length t) (length t) (omega arith))
 
--- where the offset begins no character, there is none
+-- an offset at which no character begins has no code
 pub code-nowhere : (t : List ℕ) (i : ℕ) → begins t i ≡ false → code t i ≡ no_char
 unfolding code
 code-nowhere t i h = rw h
@@ -102,7 +102,7 @@ first_of : (t : List ℕ) (i : ℕ) (cs : List ℕ) → i < length t → encodes
 first_of t i [] l e = let same : length (drop i t) ≡ 0 = ap length (sym e) in absurd (omega (arith, length-drop i t))
 first_of t i (c ∷ cs) l e = (c, cs, sym e)
 
--- in a text, the character that begins at an offset is there
+-- in a text, CharAt holds at an offset at which a character begins
 pub reads_there : (t : List ℕ) (i : ℕ) → IsUtf8 t → begins t i ≡ true → CharAt t i (code t i) (next t i)
 reads_there t i u h =
     let b : IsCharBoundary t i = boundary_from_begins t i h in
@@ -113,7 +113,7 @@ reads_there t i u h =
     let q : CharAt t i cut.0 (next t i) = subst (λ j. CharAt t i cut.0 j) (sym r.end) r in
     subst (λ c. CharAt t i c (next t i)) (sym r.char) q
 
--- the same where the code is known to be a character's, as in a class
+-- CharAt holds if the code is below no_char, as in each class
 pub reads_real : (t : List ℕ) (i : ℕ) → IsUtf8 t → code t i < no_char → CharAt t i (code t i) (next t i)
 reads_real t i u h =
     ⊎_elim (λ (e : begins t i ≡ true). reads_there t i u e)
@@ -154,7 +154,7 @@ byte_from_code t i u h =
     (λ (e : begins t i ≡ false). let same : code t i ≡ no_char = code-nowhere t i e in absurd (omega arith))
     (cases_Bool (begins t i))
 
--- past the end there is no character
+-- past the end there is `no_char`
 pub code-past : (t : List ℕ) (i : ℕ) → length t ≤ i → code t i ≡ no_char
 unfolding code begins
 code-past t i l = rw (le-ltb i (length t) l)
@@ -166,7 +166,7 @@ within_from_code t i h =
     (λ (l : length t ≤ i). let same : code t i ≡ no_char = code-past t i l in absurd (omega arith))
     (cases_lt i (length t))
 
--- a byte below 128 is among the bytes just where its character begins
+-- a byte below 128 is in the text if and only if its character begins there
 pub byte_test : (t : List ℕ) (i b : ℕ) → IsUtf8 t → b < 128 → i < length t → eqb (get_or t i 0) b ≡ eqb (code t i) b
 byte_test t i b u low l =
     ⊎_elim (λ (a : get_or t i 0 < 128). ap (λ w. eqb w b) (sym (code_from_byte t i u l a)))
@@ -178,7 +178,7 @@ byte_test t i b u low l =
 pub byte_test_past : (t : List ℕ) (i b : ℕ) → b < 128 → length t ≤ i → eqb (code t i) b ≡ false
 byte_test_past t i b low l = ne_eqb (code t i) b (λ e. let past = code-past t i l in omega arith)
 
--- what a test for a byte tells
+-- the result of a test for a byte
 pub match_byte : (t : List ℕ) (i b : ℕ) → IsUtf8 t → b < 128 → MatchBool (eqb (code t i) b) (CharAt t i b (i + 1)) (code t i ≢ b)
 match_byte t i b u low =
     ⊎_elim (λ (e : code t i ≡ b). rw (eq-eqb (code t i) b e) (reads_byte t i b u e low))
@@ -266,7 +266,7 @@ pub next-mark : (t : List ℕ) (i : ℕ) → code t i ≡ 0xFEFF → next t i �
 unfolding next
 next-mark t i e = ap (λ c. i + len_utf8 c) e
 
--- at a boundary before the end a character is, and at the end none
+-- a character begins at each boundary before the end, and none at the end
 pub code_at_boundary : (t : List ℕ) (i : ℕ) → IsUtf8 t → IsCharBoundary t i → i < length t → code t i < no_char
 code_at_boundary t i u b l = (reads_there t i u (begins_from_boundary t i b l)).below
 

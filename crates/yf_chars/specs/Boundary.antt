@@ -2,7 +2,7 @@
 use Rattle.std.specs.Prelude.{ℕ, ◌≤◌, List}
 use Rattle.std.specs.Str.{IsCharBoundary}
 
--- a boundary at an offset or after it
+-- a boundary at or after an offset
 pub record BoundaryFrom (t : List ℕ) (at p : ℕ) : Type 0 where
   pub boundary : IsCharBoundary t p
   pub order : at ≤ p

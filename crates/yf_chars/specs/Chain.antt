@@ -1,14 +1,14 @@
--- What a production derives, as relations between offsets: a relation S with S i j x says that the characters from i to
--- j are derived with the meaning x, a list. A star of the grammar is a chain of steps.
+-- Productions as relations between offsets: S i j x says that the characters from i to j are derived with the meaning
+-- x, a list. A star of the grammar is a chain of steps.
 use Rattle.std.specs.Prelude.{◌≡◌, ℕ, ◌<◌, ◌≤◌, Bool, true, List, [], ◌∷◌, ◌++◌}
 use Rattle.yf_chars.specs.Text.{code, next}
 
--- a step, any number of times, with the meanings joined
+-- zero or more steps, with their meanings joined
 pub data Chain {A : Type 0} (S : ℕ → ℕ → List A → Type 0) : ℕ → ℕ → List A → Type 0 where
   done : {i : ℕ} → Chain S i i []
   step : {i h j : ℕ} {x y : List A} → S i h x → Chain S h j y → Chain S i j (x ++ y)
 
--- from a place a step leads to one end with one meaning, and it moves on
+-- from each offset, a step leads to only one end, with one meaning, and the end is later
 pub record Functional {A : Type 0} (S : ℕ → ℕ → List A → Type 0) : Type 0 where
   pub one_end : {i j k : ℕ} {x y : List A} → S i j x → S i k y → j ≡ k
   pub one_meaning : {i j k : ℕ} {x y : List A} → S i j x → S i k y → x ≡ y
@@ -18,13 +18,14 @@ pub record Functional {A : Type 0} (S : ℕ → ℕ → List A → Type 0) : Typ
 pub record Stuck {X : Type 0} (P : ℕ → X → Type 0) : Type 0 where
   pub none : (j : ℕ) (x : X) → P j x → ⊥
 
--- the longest part that is derived from there ends at j, and x is its one meaning
+-- the longest part that is derived from there ends at j, and x is its only meaning
 pub record Chosen {X : Type 0} (P : ℕ → X → Type 0) (j : ℕ) (x : X) : Type 0 where
   pub derived : P j x
   pub longest : (k : ℕ) (y : X) → P k y → k ≤ j
   pub only : (y : X) → P j y → y ≡ x
 
--- the same for what has no meaning of its own: nothing ends anywhere from there; the farthest end from there
+-- the corresponding relations for productions without a meaning: nothing is derived from there; the farthest end from
+-- there
 pub record Nowhere (P : ℕ → Type 0) : Type 0 where
   pub none : (j : ℕ) → P j → ⊥
 
@@ -32,10 +33,10 @@ pub record Farthest (P : ℕ → Type 0) (j : ℕ) : Type 0 where
   pub derived : P j
   pub longest : (k : ℕ) → P k → k ≤ j
 
--- one character of a class; it is its own meaning
+-- one character of a class, which is its own meaning
 pub data One (t : List ℕ) (p : ℕ → Bool) : ℕ → ℕ → List ℕ → Type 0 where
   one : {i : ℕ} → p (code t i) ≡ true → One t p i (next t i) (code t i ∷ [])
 
--- characters of a class, as many as there may be
+-- zero or more characters of a class
 abbrev pub Many : List ℕ → (ℕ → Bool) → ℕ → ℕ → List ℕ → Type 0
 Many t p = Chain (One t p)

@@ -1,5 +1,5 @@
--- The character classes of YAML 1.2.2, chapter 5 (and 6.9, 7.3 for names, tags and plain scalars), as tests on a
--- character's code. No class holds 0x110000, which stands for "no character" (`code` of `Text`).
+-- The character classes of YAML 1.2.2, chapter 5 (and 6.9, 7.3 for names, tags and plain scalars), as tests of a
+-- character's code. No class contains 0x110000, which means "no character" (`code` of `Text`).
 use Rattle.std.specs.Prelude.{ℕ, Bool, false, ◌==◌, nat_le, not, ◌&&◌, ◌||◌}
 use Rattle.yf_chars.specs.Text.{no_char}
 use Rattle.yf_chars.specs.Signs.{AMPERSAND, ASTERISK, AT_SIGN, BACKTICK, BAR, BYTE_ORDER_MARK, CARRIAGE_RETURN, COLON, COMMA, DASH, DOLLAR, DOT, DOUBLE_QUOTE, EQUALS, EXCLAMATION, GREATER, LEFT_BRACE, LEFT_BRACKET, LEFT_PARENTHESIS, LINE_FEED, NUMBER_SIGN, PERCENT, PLUS, QUESTION, RIGHT_BRACE, RIGHT_BRACKET, RIGHT_PARENTHESIS, SEMICOLON, SINGLE_QUOTE, SLASH, SPACE, TAB, TILDE, UNDERSCORE}
@@ -23,7 +23,7 @@ is_nb_json c = (c == TAB) || is_between 0x20 0x10FFFF c
 unfoldable pub is_break_char : ℕ → Bool
 is_break_char c = (c == LINE_FEED) || (c == CARRIAGE_RETURN)
 
--- nb-char: printable, no line break and no byte order mark
+-- nb-char: printable, but neither a line break nor a byte order mark
 unfoldable pub is_nb_char : ℕ → Bool
 is_nb_char c = is_printable c && (not (is_break_char c) && not (c == BYTE_ORDER_MARK))
 
@@ -56,7 +56,7 @@ is_hex_digit c = is_digit c || is_between 65 70 c || is_between 97 102 c
 unfoldable pub is_word_char : ℕ → Bool
 is_word_char c = is_digit c || is_between 65 90 c || is_between 97 122 c || (c == DASH)
 
--- ns-uri-char as a single character: % alone is none, it begins an escape of three characters
+-- ns-uri-char as a single character; % is not one, since it begins an escape of three characters
 -- word characters and # ; / ? : @ & = + $ , _ . ! ~ * ' ( ) [ ]
 unfoldable pub is_uri_char : ℕ → Bool
 is_uri_char c = is_word_char c || (c == NUMBER_SIGN) || (c == SEMICOLON) || (c == SLASH) || (c == QUESTION) || (c == COLON) || (c == AT_SIGN) || (c == AMPERSAND)
@@ -80,6 +80,6 @@ is_plain_safe c BlockKey = is_ns_char c
 is_plain_safe c FlowIn = is_ns_char c && not (is_flow_indicator c)
 is_plain_safe c FlowKey = is_ns_char c && not (is_flow_indicator c)
 
--- what may follow a document marker, and `-`, `?` or `:` as an indicator: white, a break or the end of the text
+-- a character that may follow a document marker, and `-`, `?` or `:` as an indicator: white space, a break or the end
 unfoldable pub is_white_or_end : ℕ → Bool
 is_white_or_end c = is_white c || is_break_char c || (c == no_char)

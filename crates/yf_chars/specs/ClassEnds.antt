@@ -1,4 +1,4 @@
--- Nothing belongs to these classes where no character begins.
+-- These classes don't contain `no_char`.
 use Rattle.std.specs.Prelude.{◌≡◌, false, refl}
 use Rattle.yf_chars.specs.Text.{no_char}
 use Rattle.yf_chars.specs.Class.{is_between, is_printable, is_break_char, is_nb_char, is_white, is_ns_char, is_flow_indicator, is_digit, is_word_char, is_anchor_char}

@@ -1,4 +1,4 @@
--- Texts of ASCII characters that are spelled by themselves in double quotes: of all that are printed, but " and \
+-- Texts of ASCII characters that double quotes hold unescaped: all printable ones except " and \
 use Rattle.std.specs.Prelude.{◌≡◌, ℕ, ◌<◌, Bool, true, ◌||◌, List, length, slice_index}
 use Rattle.yf_chars.specs.Class.{is_between}
 

@@ -1,4 +1,4 @@
--- The characters that have a meaning of their own, by their names; a text is the list of such numbers.
+-- Names of the characters that have a special meaning; a text is a list of such numbers.
 use Rattle.std.specs.Prelude.{ℕ}
 
 -- a tab

@@ -1,4 +1,4 @@
--- A text is the list of its bytes, and a place in it is a byte offset. The words below hide UTF-8 from all that is
+-- A text is the list of its bytes, and a byte offset locates a character. The words below hide UTF-8 from everything
 -- above: the character that begins at an offset, the offset after it, and the character that ends at an offset.
 use Rattle.std.specs.Prelude.{◌≡◌, ℕ, ◌+◌, ◌<◌, ◌≤◌, Bool, List, [], ◌∷◌, ◌++◌, ◌&&◌, ◌||◌, nat_lt, nat_le, length, take, drop, slice_index, if◌then◌else◌, encode_utf8}
 use Rattle.std.specs.Char.{len_utf8}
@@ -16,7 +16,7 @@ abbrev pub last_or : ℕ → List ℕ → ℕ
 last_or d [] = d
 last_or d (c ∷ cs) = last_or c cs
 
--- whether a character begins at the offset: a byte is there that continues no character
+-- whether a character begins at the offset: the byte there doesn't continue a character
 unfoldable pub begins : List ℕ → ℕ → Bool
 begins t i = nat_lt i (length t) && (nat_lt (slice_index t i) 128 || nat_le 192 (slice_index t i))
 
@@ -28,7 +28,7 @@ code t i = if begins t i then first_or_none (chars (drop i t)) else no_char
 unfoldable pub next : List ℕ → ℕ → ℕ
 next t i = i + len_utf8 (code t i)
 
--- the character that ends at the offset, or no_char where none does
+-- the character that ends at the offset, or no_char if none does
 unfoldable pub before : List ℕ → ℕ → ℕ
 before t i = last_or no_char (chars (take i t))
 

@@ -4,7 +4,7 @@ ghost use Rattle.yf_chars.specs.Class as Class;
 
 use crate::context::Ctx;
 
-/// A printable character (c-printable, production 1).
+/// Returns whether the character is printable (c-printable, production 1).
 #[tactic(auto, unfolding(crate::specs::Class::is_printable, crate::specs::Class::is_between))]
 #[inline(always)]
 pub fn is_printable(c: char) -> bool
@@ -13,7 +13,8 @@ pub fn is_printable(c: char) -> bool
     matches!(c, '\t' | '\n' | '\r' | ' '..='~' | '\u{85}' | '\u{A0}'..='\u{D7FF}' | '\u{E000}'..='\u{FFFD}' | '\u{10000}'..='\u{10FFFF}')
 }
 
-/// A character that a quoted scalar may hold as itself (nb-json, production 2): a tab or anything from a space on.
+/// Returns whether a quoted scalar may hold the character as itself (nb-json, production 2): a tab or anything from a
+/// space on.
 #[tactic(auto, unfolding(crate::specs::Class::is_nb_json, crate::specs::Class::is_between))]
 #[inline(always)]
 pub fn is_nb_json(c: char) -> bool
@@ -22,7 +23,7 @@ pub fn is_nb_json(c: char) -> bool
     matches!(c, '\t' | ' '..='\u{10FFFF}')
 }
 
-/// A character of a line break (b-char, production 26): line feed or carriage return.
+/// Returns whether the character belongs to a line break (b-char, production 26): line feed or carriage return.
 #[tactic(auto, unfolding(crate::specs::Class::is_break_char))]
 #[inline(always)]
 pub fn is_break_char(c: char) -> bool
@@ -31,7 +32,8 @@ pub fn is_break_char(c: char) -> bool
     matches!(c, '\n' | '\r')
 }
 
-/// A printable character that is no line break and no byte order mark (nb-char, production 27).
+/// Returns whether the character is printable, but neither a line break nor the byte order mark (nb-char, production
+/// 27).
 #[tactic(auto, unfolding(crate::specs::Class::is_nb_char, crate::specs::Class::is_printable, crate::specs::Class::is_between, crate::specs::Class::is_break_char))]
 #[inline(always)]
 pub fn is_nb_char(c: char) -> bool
@@ -46,7 +48,7 @@ pub fn is_nb_char(c: char) -> bool
     false
 }
 
-/// A white: space or tab (s-white, production 33).
+/// Returns whether the character is white space: a space or a tab (s-white, production 33).
 #[tactic(auto, unfolding(crate::specs::Class::is_white))]
 #[inline(always)]
 pub fn is_white(c: char) -> bool
@@ -55,7 +57,7 @@ pub fn is_white(c: char) -> bool
     matches!(c, ' ' | '\t')
 }
 
-/// A character of content that is no white space (ns-char, production 34).
+/// Returns whether the character is content that isn't white space (ns-char, production 34).
 #[tactic(auto, unfolding(crate::specs::Class::is_ns_char, crate::specs::Class::is_nb_char, crate::specs::Class::is_printable, crate::specs::Class::is_between, crate::specs::Class::is_break_char, crate::specs::Class::is_white))]
 #[inline(always)]
 pub fn is_ns_char(c: char) -> bool
@@ -67,7 +69,7 @@ pub fn is_ns_char(c: char) -> bool
     is_nb_char(c)
 }
 
-/// One of `,` `[` `]` `{` `}` (c-flow-indicator, production 23).
+/// Returns whether the character is one of `,` `[` `]` `{` `}` (c-flow-indicator, production 23).
 #[tactic(auto, unfolding(crate::specs::Class::is_flow_indicator))]
 #[inline(always)]
 pub fn is_flow_indicator(c: char) -> bool
@@ -76,7 +78,7 @@ pub fn is_flow_indicator(c: char) -> bool
     matches!(c, ',' | '[' | ']' | '{' | '}')
 }
 
-/// An indicator (c-indicator, production 22).
+/// Returns whether the character is an indicator (c-indicator, production 22).
 #[tactic(auto, unfolding(crate::specs::Class::is_indicator))]
 #[inline(always)]
 pub fn is_indicator(c: char) -> bool
@@ -91,7 +93,7 @@ pub fn is_indicator(c: char) -> bool
     )
 }
 
-/// A decimal digit (ns-dec-digit, production 35).
+/// Returns whether the character is a decimal digit (ns-dec-digit, production 35).
 #[tactic(auto, unfolding(crate::specs::Class::is_digit, crate::specs::Class::is_between))]
 pub fn is_digit(c: char) -> bool
     ensures { result ≡ Class.is_digit c }
@@ -99,7 +101,7 @@ pub fn is_digit(c: char) -> bool
     matches!(c, '0'..='9')
 }
 
-/// A hexadecimal digit (ns-hex-digit, production 36).
+/// Returns whether the character is a hexadecimal digit (ns-hex-digit, production 36).
 #[tactic(auto, unfolding(crate::specs::Class::is_hex_digit, crate::specs::Class::is_digit, crate::specs::Class::is_between))]
 pub fn is_hex_digit(c: char) -> bool
     ensures { result ≡ Class.is_hex_digit c }
@@ -107,7 +109,7 @@ pub fn is_hex_digit(c: char) -> bool
     matches!(c, '0'..='9' | 'A'..='F' | 'a'..='f')
 }
 
-/// A digit, an ASCII letter or `-` (ns-word-char, production 38).
+/// Returns whether the character is a digit, an ASCII letter or `-` (ns-word-char, production 38).
 #[tactic(auto, unfolding(crate::specs::Class::is_word_char, crate::specs::Class::is_digit, crate::specs::Class::is_between))]
 pub fn is_word_char(c: char) -> bool
     ensures { result ≡ Class.is_word_char c }
@@ -115,7 +117,7 @@ pub fn is_word_char(c: char) -> bool
     matches!(c, '0'..='9' | 'A'..='Z' | 'a'..='z' | '-')
 }
 
-/// A character that stands for itself in a URI (ns-uri-char, production 39, without its `%` escapes).
+/// Returns whether the character represents itself in a URI (ns-uri-char, production 39, without its `%` escapes).
 #[tactic(auto, unfolding(crate::specs::Class::is_uri_char))]
 pub fn is_uri_char(c: char) -> bool
     ensures { result ≡ Class.is_uri_char c }
@@ -148,7 +150,8 @@ pub fn is_uri_char(c: char) -> bool
     )
 }
 
-/// A character that stands for itself in a tag's suffix (ns-tag-char, production 40, without its `%` escapes).
+/// Returns whether the character represents itself in a tag's suffix (ns-tag-char, production 40, without its `%`
+/// escapes).
 #[tactic(auto, unfolding(crate::specs::Class::is_tag_char))]
 pub fn is_tag_char(c: char) -> bool
     ensures { result ≡ Class.is_tag_char c }
@@ -162,7 +165,7 @@ pub fn is_tag_char(c: char) -> bool
     false
 }
 
-/// A character of an anchor's or an alias's name (ns-anchor-char, production 102).
+/// Returns whether an anchor's or an alias's name may contain the character (ns-anchor-char, production 102).
 #[tactic(auto, unfolding(crate::specs::Class::is_anchor_char))]
 pub fn is_anchor_char(c: char) -> bool
     ensures { result ≡ Class.is_anchor_char c }
@@ -174,9 +177,9 @@ pub fn is_anchor_char(c: char) -> bool
     }
 }
 
-/// A character that may be in a plain scalar in that context (ns-plain-safe(c), productions 127 to 129).
+/// Returns whether a plain scalar in the context may contain the character (ns-plain-safe(c), productions 127 to 129).
 ///
-/// In the two block contexts there is none, since plain scalars are read in flow and key contexts alone.
+/// The result is false in the two block contexts, since plain scalars are read only in flow and key contexts.
 #[tactic(auto, unfolding(crate::specs::Class::is_plain_safe))]
 #[inline(always)]
 pub fn is_plain_safe(c: char, ctx: Ctx) -> bool

@@ -1,4 +1,4 @@
-//! Texts of ASCII characters that are spelled by themselves in double quotes. Two loads that overlap cover a short text.
+//! Texts of ASCII characters that double quotes hold unescaped. Two overlapping loads cover a short text.
 ghost use Rattle.std.specs.Prelude.{◌+◌, ◌≤◌, length};
 ghost use Rattle.yf_chars.specs.CommonParts.{TellsCommon};
 
@@ -67,7 +67,7 @@ fn many_are_common(text: &[u8]) -> bool
     common_16(text, text.len() - 16)
 }
 
-/// Whether each byte is an ASCII character that is spelled by itself.
+/// Returns whether each byte is an ASCII character that needs no escape.
 #[inline(always)]
 pub(crate) fn all_common(text: &[u8]) -> bool
     ensures { TellsCommon result text.now 0 (length text.now) }

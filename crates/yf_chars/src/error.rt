@@ -1,8 +1,8 @@
-//! The one error of this crate.
+//! The only error of this crate.
 
 use std::alloc::AllocError;
 
-/// A growth of memory was refused.
+/// Memory was refused.
 #[derive(Clone, Copy)]
 pub struct NoMemory;
 

@@ -11,19 +11,20 @@ use crate::common::all_common;
 use crate::error::NoMemory;
 use crate::text::{is_char_at, peek};
 
-/// An escape that is in a text: the number that it writes, and the byte offset after it.
+/// An escape in a text: its number, and the byte offset after it.
 ///
-/// The number need not be a character: half of a pair and numbers above U+10FFFF are given as they are.
+/// The number need not be a character: halves of a pair and numbers above U+10FFFF are kept as they are.
 #[derive(Clone, Copy)]
 pub struct Escape {
     pub value: u32,
     pub end: usize,
 }
 
-/// Reads the escape (c-ns-esc-char, production 62) that begins with the backslash at the byte offset.
+/// Reads the escape (c-ns-esc-char, production 62) whose backslash is at the byte offset, or returns `None` if no
+/// escape is there.
 ///
-/// `None` where no escape is there. `\u` with a high surrogate and `\u` with a low one directly after it are one
-/// escape, for the one character that the pair encodes in UTF-16.
+/// `\u` with a high surrogate and `\u` with a low one directly after it are one escape, which means the character that
+/// the pair encodes in UTF-16.
 pub fn read_escape(s: &str, at: usize) -> Option<Escape>
     ensures reads { MatchOption result (Stuck (Escapes.Escape s.now at)) (λ e. Chosen (Escapes.Escape s.now at) e.end e.value) }
     ensures boundary { IfSome result (λ e. IsCharBoundary s.now e.end) }
@@ -55,7 +56,7 @@ pub fn read_escape(s: &str, at: usize) -> Option<Escape>
     }
 }
 
-// The escape that begins with that number by \u: with the low half of a pair that may be after it.
+// Returns the escape that begins with `\u` and the number, together with the low half of a pair that may follow.
 fn paired(s: &str, at: usize, value: u32) -> Escape
     requires number { Escapes.NumericEscape s.now at 117 4 value }
     requires follows { IsCharBoundary s.now (at + 6) }
@@ -80,7 +81,7 @@ fn paired(s: &str, at: usize, value: u32) -> Escape
     }
 }
 
-// The first half of a pair.
+// Returns whether the number is the first half of a pair.
 #[tactic(auto, unfolding(crate::specs::Escape::is_high, crate::specs::Class::is_between))]
 fn is_high(value: u32) -> bool
     ensures { result ≡ Escapes.is_high value }
@@ -88,7 +89,7 @@ fn is_high(value: u32) -> bool
     matches!(value, 0xD800..=0xDBFF)
 }
 
-// The second half of a pair.
+// Returns whether the number is the second half of a pair.
 #[tactic(auto, unfolding(crate::specs::Escape::is_low, crate::specs::Class::is_between))]
 fn is_low(value: u32) -> bool
     ensures { result ≡ Escapes.is_low value }
@@ -96,7 +97,7 @@ fn is_low(value: u32) -> bool
     matches!(value, 0xDC00..=0xDFFF)
 }
 
-// What a single letter after the backslash stands for.
+// Returns the meaning of a single letter after the backslash.
 #[tactic(auto, unfolding(crate::specs::Escape::named))]
 fn named(letter: char) -> Option<u32>
     ensures { result ≡ Escapes.named letter }
@@ -123,7 +124,7 @@ fn named(letter: char) -> Option<u32>
     }
 }
 
-// The number of an escape by that letter, which so many hexadecimal digits follow.
+// Returns the number of an escape with the letter, which `count` hexadecimal digits follow.
 fn numbered(s: &str, at: usize, letter: u8, count: usize) -> Option<u32>
     requires ascii { letter < 128 }
     requires few { count ≤ 8 }
@@ -140,7 +141,7 @@ fn numbered(s: &str, at: usize, letter: u8, count: usize) -> Option<u32>
     digits(s, at + 2, count)
 }
 
-// The number that so many hexadecimal digits write from the offset on.
+// Returns the number that `count` hexadecimal digits at the offset write.
 fn digits(s: &str, at: usize, count: usize) -> Option<u32>
     requires boundary { IsCharBoundary s.now at }
     requires few { count ≤ 8 }
@@ -160,14 +161,14 @@ fn digits(s: &str, at: usize, count: usize) -> Option<u32>
     Some(value)
 }
 
-/// Appends a character as it is spelled in double quotes by this project: `"`, `\`, line feed, tab, carriage return and
-/// NUL by a backslash and a letter, other characters below a space and those from U+007F to U+00A0 as `\xHH`, separators
-/// of lines and paragraphs, the byte order mark, U+FFFE and U+FFFF as `\uHHHH`, digits in upper case, all else as itself.
-/// Wherever the bytes that are appended are in a text, they are read as that character in double quotes.
+/// Appends a character as this project writes it in double quotes: `"`, `\`, line feed, tab, carriage return and NUL by
+/// a backslash and a letter; other characters below a space and those from U+007F to U+00A0 as `\xHH`; separators of
+/// lines and paragraphs, the byte order mark, U+FFFE and U+FFFF as `\uHHHH`, with digits in upper case; all others as
+/// themselves. In any text, the appended bytes are read as that character in double quotes.
 ///
 /// # Errors
 ///
-/// `NoMemory` where a growth of memory was refused; the string is then as before.
+/// `NoMemory` if memory is refused; the string is then unchanged.
 pub fn push_escaped(out: &mut String, c: char) -> Result<(), NoMemory>
     ensures spelled { string_bytes out.new ≡ (if is_ok result then string_bytes out.old ++ encode_utf8_all (Escapes.spelled c)
         else string_bytes out.old) }
@@ -182,7 +183,7 @@ pub fn push_escaped(out: &mut String, c: char) -> Result<(), NoMemory>
     }
 }
 
-// The same where there is room.
+// Appends the character as `push_escaped` does, to a string with enough capacity.
 fn put_spelled(out: &mut String, c: char)
     requires { string_len out.old + 6 ≤ string_capacity out.old }
     ensures { string_bytes out.new ≡ string_bytes out.old ++ encode_utf8_all (Escapes.spelled c) }
@@ -196,7 +197,7 @@ fn put_spelled(out: &mut String, c: char)
     }
 }
 
-// Appends an ASCII character where there is room.
+// Appends an ASCII character to a string with enough capacity.
 fn put(out: &mut String, c: char)
     requires ascii { c < 128 }
     requires room { string_len out.old + 1 ≤ string_capacity out.old }
@@ -210,7 +211,7 @@ fn put(out: &mut String, c: char)
     }
 }
 
-// The letter of the shortest escape, where the character has one.
+// Returns the letter of the shortest escape, if the character has one.
 #[tactic(auto, unfolding(crate::specs::Escape::short_name))]
 fn short_name(c: char) -> Option<char>
     ensures value { result ≡ Escapes.short_name c }
@@ -227,7 +228,7 @@ fn short_name(c: char) -> Option<char>
     }
 }
 
-// The spelling of a character that has no letter, where there is room.
+// Appends a character that has no letter, to a string with enough capacity.
 fn put_long(out: &mut String, c: char)
     requires { string_len out.old + 6 ≤ string_capacity out.old }
     ensures { string_bytes out.new ≡ string_bytes out.old ++ encode_utf8_all (Escapes.spelled_long c) }
@@ -252,7 +253,7 @@ fn put_long(out: &mut String, c: char)
     }
 }
 
-// Appends two hexadecimal digits in upper case where there is room.
+// Appends two hexadecimal digits in upper case, to a string with enough capacity.
 fn put_digits(out: &mut String, value: u32)
     requires small { value < 256 }
     requires room { string_len out.old + 2 ≤ string_capacity out.old }
@@ -264,7 +265,7 @@ fn put_digits(out: &mut String, value: u32)
     put(out, upper_digit(value % 16));
 }
 
-// A hexadecimal digit in upper case.
+// Returns a hexadecimal digit in upper case.
 #[tactic(auto, unfolding(crate::specs::Escape::upper_digit))]
 fn upper_digit(digit: u32) -> char
     requires { digit < 16 }
@@ -277,12 +278,12 @@ fn upper_digit(digit: u32) -> char
     char::from(b'A' + (digit - 10) as u8)
 }
 
-/// Appends a character as it is spelled in double quotes by its number: as `\uHHHH`, above U+FFFF as `\UHHHHHHHH`, digits in
-/// upper case. Wherever the bytes that are appended are in a text, they are read as that character in double quotes.
+/// Appends a character as an escape of its number in double quotes: as `\uHHHH`, or above U+FFFF as `\UHHHHHHHH`, with
+/// digits in upper case. In any text, the appended bytes are read as that character in double quotes.
 ///
 /// # Errors
 ///
-/// `NoMemory` where a growth of memory was refused; the string is then as before.
+/// `NoMemory` if memory is refused; the string is then unchanged.
 pub fn push_number(out: &mut String, c: char) -> Result<(), NoMemory>
     ensures spelled { string_bytes out.new ≡ (if is_ok result then string_bytes out.old ++ encode_utf8_all (Escapes.by_number c)
         else string_bytes out.old) }
@@ -297,7 +298,7 @@ pub fn push_number(out: &mut String, c: char) -> Result<(), NoMemory>
     }
 }
 
-// The same where there is room.
+// Appends the character as `push_number` does, to a string with enough capacity.
 fn put_number(out: &mut String, c: char)
     requires { string_len out.old + 10 ≤ string_capacity out.old }
     ensures { string_bytes out.new ≡ string_bytes out.old ++ encode_utf8_all (Escapes.by_number c) }
@@ -317,7 +318,7 @@ fn put_number(out: &mut String, c: char)
     put_digits(out, code % 256);
 }
 
-/// Whether it is an ASCII character that is spelled by itself, as most are. Lower-case letters take two tests.
+/// Returns whether the byte is an ASCII character that needs no escape, as most are. Lower-case letters take two tests.
 #[inline(always)]
 #[tactic(auto, unfolding(crate::specs::Common::is_common, crate::specs::Class::is_between))]
 pub fn is_common(byte: u8) -> bool
@@ -329,7 +330,8 @@ pub fn is_common(byte: u8) -> bool
     byte <= b'~'
 }
 
-/// Whether each character is an ASCII one that is spelled by itself, so that the text is in double quotes as it is.
+/// Returns whether each character is an ASCII character that needs no escape, so that double quotes hold the text
+/// unchanged.
 #[inline]
 pub fn are_common(text: &str) -> bool
     ensures common { result ≡ true → AreCommon text.now }
@@ -338,7 +340,7 @@ pub fn are_common(text: &str) -> bool
     all_common(text.as_bytes())
 }
 
-/// Whether a character that has no letter is spelled by two digits.
+/// Returns whether a character that has no letter is written with two digits.
 #[inline]
 #[tactic(auto, unfolding(crate::specs::Escape::is_by_two, crate::specs::Class::is_between))]
 pub fn is_by_two(c: char) -> bool
@@ -347,7 +349,7 @@ pub fn is_by_two(c: char) -> bool
     matches!(c, '\0'..='\u{1F}' | '\u{7F}'..='\u{A0}')
 }
 
-/// Whether another one is spelled by four digits.
+/// Returns whether a character that has no letter and isn't written with two digits is written with four.
 #[inline]
 #[tactic(auto, unfolding(crate::specs::Escape::is_by_four))]
 pub fn is_by_four(c: char) -> bool

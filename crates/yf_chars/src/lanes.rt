@@ -1,8 +1,8 @@
-//! Bytes that are looked at 16 at once.
+//! Tests of 16 bytes at once.
 ghost use Rattle.std.specs.Prelude.{◌≡◌};
 ghost use Rattle.yf_chars.specs.Lanes.{lanes_before};
 
-/// How many of 16 lanes are before the first whose bit is set in the mask: all where none is set.
+/// Returns the number of lanes before the first one whose bit is set in the mask, or 16 if no bit is set.
 #[inline(always)]
 pub fn lanes_before(mask: u64) -> usize
     ensures { result ≡ lanes_before mask }

@@ -1,4 +1,4 @@
-//! Characters: the classes of YAML 1.2.2, escapes, the check that bytes are UTF-8, and the one way in which the
+//! Characters: the classes of YAML 1.2.2, escapes, the check that bytes are UTF-8, and the functions by which all
 //! crates above read a character at a byte offset.
 #![tactic(auto)]
 

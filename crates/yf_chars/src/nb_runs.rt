@@ -7,7 +7,7 @@ ghost use Rattle.yf_chars.specs.Text.{code, no_char, CharAt};
 
 use crate::classes::is_nb_char;
 
-// Whether a printable ASCII character is there, from the space to `~`.
+// Returns whether a printable ASCII character, from the space to `~`, is at the offset.
 #[inline(always)]
 fn is_ascii_at(s: &str, at: usize) -> bool
     ensures class { MatchBool result (Class.is_nb_char (code s.now at) ≡ true) ⊤ }
@@ -26,7 +26,7 @@ fn is_ascii_at(s: &str, at: usize) -> bool
     true
 }
 
-// The offset after all such characters that are at the offset.
+// Returns the offset after all such characters at the offset.
 #[inline(always)]
 fn ascii_run(s: &str, at: usize) -> usize
     requires { IsCharBoundary s.now at }
@@ -41,8 +41,8 @@ fn ascii_run(s: &str, at: usize) -> usize
     end
 }
 
-// The character that begins at the offset, and the offset after it; `None` at the end of the text. A character of ASCII
-// is decoded as any other.
+// Returns the character at the offset and the offset after it, or `None` at the end of the text. It decodes ASCII like
+// any other character.
 #[inline(always)]
 fn decoded(s: &str, at: usize) -> Option<(char, usize)>
     requires { IsCharBoundary s.now at }
@@ -54,9 +54,9 @@ fn decoded(s: &str, at: usize) -> Option<(char, usize)>
     }
 }
 
-/// The offset after all characters within a line (nb-char, production 27) that are at the offset.
+/// Returns the offset after all characters within a line (nb-char, production 27) at the offset.
 ///
-/// After a character beyond ASCII mostly another one follows, and after one of ASCII a run.
+/// Usually another character beyond ASCII follows such a character, and a run follows an ASCII character.
 #[inline]
 pub fn skip_nb_chars(s: &str, at: usize) -> usize
     requires { IsCharBoundary s.now at }

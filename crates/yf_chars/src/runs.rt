@@ -7,21 +7,21 @@ ghost use Rattle.yf_chars.specs.Text.{code};
 use crate::classes;
 use crate::text::peek;
 
-/// A class of characters, to which the number that is where no character begins does not belong.
+/// A class of characters that doesn't contain `no_char`.
 pub trait CharClass {
     ghost use Rattle.std.specs.Prelude.{◌≡◌, ℕ, Bool, false};
     ghost use Rattle.yf_chars.specs.Text.{no_char};
 
     ghost members: { ℕ → Bool };
 
-    /// Whether the character is in the class.
+    /// Returns whether the class contains the character.
     fn holds(c: char) -> bool
         ensures { result ≡ members c };
 
     ghost none: { members no_char ≡ false };
 }
 
-/// The characters within a line, but for byte order marks (nb-char, production 27).
+/// The characters within a line, except byte order marks (nb-char, production 27).
 pub struct NbChars;
 
 impl CharClass for NbChars {
@@ -72,7 +72,7 @@ impl CharClass for WordChars {
     }
 }
 
-/// The characters of content that are no white space (ns-char, production 34).
+/// The characters of content that aren't white space (ns-char, production 34).
 pub struct NsChars;
 
 impl CharClass for NsChars {
@@ -106,7 +106,7 @@ impl CharClass for Digits {
     }
 }
 
-/// The offset after all characters of the class that are at the offset.
+/// Returns the offset after all characters of the class at the offset.
 #[inline]
 pub fn skip_while<C: CharClass>(s: &str, at: usize) -> usize
     requires { IsCharBoundary s.now at }

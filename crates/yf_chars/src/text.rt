@@ -1,9 +1,9 @@
-//! Characters of a text at byte offsets: the one base on which all readers are.
+//! Characters of a text at byte offsets, on which all readers are based.
 ghost use Rattle.std.specs.Prelude.{◌≡◌, ◌≢◌, ◌+◌, ◌<◌, ◌≤◌, ◌==◌, length, MatchOption, MatchBool};
 ghost use Rattle.std.specs.Str.{IsCharBoundary};
 ghost use Rattle.yf_chars.specs.Text.{code, before, no_char, CharAt};
 
-/// The character that begins at the byte offset, and the offset after it; `None` at the end of the text.
+/// Returns the character at the byte offset and the offset after it, or `None` at the end of the text.
 ///
 /// ASCII takes one test and no decoding.
 #[inline(always)]
@@ -25,7 +25,7 @@ pub fn peek(s: &str, at: usize) -> Option<(char, usize)>
     }
 }
 
-/// Whether that ASCII character begins at the byte offset.
+/// Returns whether the ASCII character begins at the byte offset.
 #[inline(always)]
 pub fn is_char_at(s: &str, at: usize, byte: u8) -> bool
     requires { byte < 128 }

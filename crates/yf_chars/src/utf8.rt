@@ -1,4 +1,4 @@
-//! Whether bytes are text.
+//! Checks whether bytes are UTF-8.
 ghost use Rattle.std.specs.Prelude.{◌≡◌, MatchResult};
 ghost use Rattle.std.specs.Str.{IsUtf8, IsValidUpTo};
 
@@ -7,13 +7,15 @@ use bstr::ByteSlice;
 /// Bytes that are not UTF-8.
 #[derive(Clone, Copy)]
 pub struct BadByte {
-    /// Where the longest front that is UTF-8 ends, in bytes from 0.
+    /// The length of the longest front that is UTF-8, in bytes.
     pub offset: usize,
 }
 
-/// The text of the bytes (YAML 1.2.2, section 5.2; streams in UTF-8 alone are read).
+/// Returns the bytes as a text (YAML 1.2.2, section 5.2; only streams in UTF-8 are read).
 ///
-/// Where the bytes are not UTF-8 the answer is the end of their longest front that is.
+/// # Errors
+///
+/// If the bytes are not UTF-8, `BadByte` with the end of their longest front that is.
 pub fn check_utf8(bytes: &[u8]) -> Result<&str, BadByte>
     ensures { MatchResult result
         (λ text. IsUtf8 bytes.now × (text.now ≡ bytes.now))

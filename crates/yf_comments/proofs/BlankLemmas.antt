@@ -1,4 +1,4 @@
--- Going back from a place over white space, breaks and marks.
+-- Going back over white space, breaks and byte order marks.
 use Rattle.std.proofs.Common.{◌≡◌, ◌≢◌, ℕ, ◌+◌, ◌-◌, ◌<◌, ◌≤◌, Bool, true, false, ◌⊎◌, inl, inr, ⊎_elim, List, refl, sym, ap, ◌∙◌, subst, arith, true≢false, MatchBool}
 use Rattle.std.proofs.lemmas.Bool.{cases_eq, cases_lt, cases_Bool, ne_eqb, eqb-true}
 use Rattle.std.specs.Char.{len_utf8}
@@ -71,7 +71,7 @@ pub white_cr : is_white 13 ≡ false
 unfolding is_white
 white_cr = refl
 
--- two characters that end at one place begin at one place
+-- two characters that end at one offset begin at one offset
 pub same_place : (t : List ℕ) (i k : ℕ) → IsUtf8 t → code t i < no_char → code t k < no_char → next t i ≡ next t k → i ≡ k
 unfolding next
 same_place t i k u a b e =
@@ -95,7 +95,7 @@ break_last {t} (lone_lf {i = i} a b) = record { place = i; ends = next_ascii t i
 last_below : {t : List ℕ} {i j : ℕ} → (b : Last t i j) → code t b.place < no_char
 last_below b = ⊎_elim (λ (l : _ ≡ 10). omega arith) (λ (r : _ ≡ 13). omega arith) b.char
 
--- what is before a place
+-- the start of the text, or the break or the white space that ends at a blank offset
 pub data BlankView (t : List ℕ) (j : ℕ) : Type 0 where
   text_view : j ≡ 0 → BlankView t j
   break_view : (i : ℕ) → Break t i j → BlankView t j
@@ -119,7 +119,7 @@ abbrev pub Outside : List ℕ → ℕ → Type 0
 Outside t j = code t j ≡ 10 → code t (j - 1) ≢ 13
 
 module _ (t : List ℕ) (u : IsUtf8 t) where
-  -- another character than a break's, at whose end no break ends
+  -- no break ends at the end of another character than a break's
   pub not_last : {i j : ℕ} (q : ℕ) → code t q < no_char → next t q ≡ j → code t q ≢ 10 → code t q ≢ 13 → Break t i j → ⊥
   not_last q l e n m b =
       let a = break_last b in
@@ -169,7 +169,7 @@ module _ (t : List ℕ) (u : IsUtf8 t) where
   inside l (lone_cr p q) b = let f = break_forward b in absurd (omega arith)
   inside l (lone_lf p q) b = let f = break_forward b in absurd (omega arith)
 
-  -- two breaks that end at one place are one
+  -- two breaks that end at one offset are equal
   pub start_unique : {i h j : ℕ} → Break t i j → Break t h j → i ≡ h
   start_unique {i} {h} {j} a b =
       ⊎_elim (λ (l : i < h). absurd (inside l a b))
@@ -204,7 +204,7 @@ module _ (t : List ℕ) (u : IsUtf8 t) where
     go (line_view i c k) = inl (subst (λ v. Blank t v) (start_unique k b) c)
     go (gap_view i c v f) = inr (over_break b i c v f)
 
-  -- and on over it
+  -- and over it from its other side
   pub on_break : {h j : ℕ} → Break t h j → BlankBefore t h → BlankBefore t j
   on_break (cr_lf {i = h} p q) d =
       let a : BlankBefore t (h + 1) = subst (λ k. BlankBefore t k) (next_ascii t h (omega arith)) (past_gap d (gap_of_char _ 13 p gap_cr)) in
@@ -217,7 +217,7 @@ module _ (t : List ℕ) (u : IsUtf8 t) where
   outside_break (lone_cr p q) = λ e. absurd (omega arith)
   outside_break (lone_lf p q) = λ e. q
 
-  -- where neither a white nor a mark nor a break ends, no gap does
+  -- no gap ends at an offset if neither white space nor a mark nor a break does
   pub no_before : (j : ℕ) → is_white (code t (j - 1)) ≡ false → (3 ≤ j → code t (j - 3) ≢ 0xFEFF) → ((i : ℕ) → Break t i j → ⊥)
       → Outside t j → BlankBefore t j → ⊥
   no_before j w m b o d = go (before_view d) where
@@ -253,7 +253,7 @@ module _ (t : List ℕ) (u : IsUtf8 t) where
         let s : i ≡ j - 1 = omega arith in
         true≢false (sym v ∙ ap (λ k. is_white (code t k)) s ∙ w)
 
--- what is left to find from a place on: a blank line, or what begins a line of which white space and a break are after
+-- the walk back finds a blank line from j on; if blank is set, j itself may begin one
 abbrev pub Ends : List ℕ → ℕ → Bool → Type 0
 Ends t j true = Blank t j ⊎ BlankBefore t j
 Ends t j false = BlankBefore t j
@@ -335,7 +335,7 @@ pub walk_end : (t : List ℕ) (i j : ℕ) (b : Bool) → j ≡ 0 → Walked t i 
 walk_end t i j true e k = k.there (inl (subst (λ v. Blank t v) (sym e) text_begins))
 walk_end t i j false e k = λ d. no_before_start t (subst (λ v. BlankBefore t v) e (k.back d))
 
--- the break that ends at a place
+-- the break that ends at an offset
 pub break_of_two : (t : List ℕ) (j : ℕ) → 0 < j → code t (j - 2) ≡ 13 → code t (j - 1) ≡ 10 → Break t (j - 2) j
 break_of_two t j z c l =
     ⊎_elim

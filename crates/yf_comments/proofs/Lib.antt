@@ -1,4 +1,4 @@
--- The lemmas, each group under the function or the theorem that it serves.
+-- The lemmas, grouped by the function or the theorem that needs them.
 
 -- `line_end` and `read_line_end`
 pub mod RowLemmas
@@ -6,14 +6,14 @@ pub mod LineEndLemmas
 pub mod LineOrder
 -- `separate`, `separate_lines`, `flow_line_prefix` and `read_separation`
 pub mod SeparateLemmas
--- the frequent cases of `next_row`, `line_end` and `separate`
+-- the common cases of `next_row`, `line_end` and `separate`
 mod SolidLemmas
--- `is_blank_before`, and that its answer is known of every text (`ReadingOf` of yf_stream)
+-- `is_blank_before`, whose result is known for every text (`ReadingOf` of yf_stream)
 pub mod BlankLemmas
 mod VisibleLemmas
 pub mod NoteKnown
--- what is written is read again (the laws of layouts of yf_laws)
+-- a written separation is read again (the laws of layouts of yf_laws)
 pub mod SpaceLemmas
 pub mod GapLinesLemmas
--- the definitions by small texts
+-- the definitions on small texts
 mod NoteShown

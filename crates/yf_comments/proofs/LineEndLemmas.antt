@@ -24,7 +24,7 @@ module _ {t : List ℕ} where
   rest_line l (whites s e) = whites_line s e
   rest_line l (comment s c e) = comment_line s c e
 
-  -- after it a line begins, or nothing is left
+  -- after it a line begins or the text ends
   pub rest_next : {i j : ℕ} {x : List CommentValue} → LineRest t i j x → LineStart t j ⊎ (j ≡ length t)
   rest_next (nothing e) = end_next e
   rest_next (whites s e) = end_next e
@@ -87,7 +87,7 @@ module _ {t : List ℕ} where
   pub line_end_stuck : {i : ℕ} → (LineStart t i → ⊥) → Stuck (LineRest t i) → Stuck (LineEnd t i)
   line_end_stuck n s = record { none = λ j x d. nowhere_to_end n s d }
 
--- what a reader has kept, and how it goes on
+-- the comments that a reader has kept, and how it continues
 pub kept_none : (t : List ℕ) (i : ℕ) (a : List CommentValue) → RowsKept t i i a a
 kept_none t i a = record { more = []; rows = done; list = sym (append-nil a) }
 

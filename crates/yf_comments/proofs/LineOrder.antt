@@ -1,4 +1,4 @@
--- The end of a line and a separation lie at their start or after it.
+-- The end of a line and a separation end at or after their start.
 use Rattle.std.proofs.Common.{ℕ, ℤ, ◌≤◌, List, arith}
 use Rattle.yf_chars.specs.declared.context.Ctx.{Ctx}
 use Rattle.yf_chars.specs.Class.{is_white}

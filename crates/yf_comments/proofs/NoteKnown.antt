@@ -1,4 +1,4 @@
--- Whether a blank line is before a place is known of every text.
+-- Every text either has a blank line before an offset or hasn't.
 use Rattle.std.proofs.Common.{◌≡◌, ◌≢◌, ℕ, zero, suc, ◌-◌, ◌<◌, ◌≤◌, Bool, true, false, true≢false, ◌⊎◌, inl, inr, ⊎_elim, List, sym, ap, ◌∙◌, subst, arith}
 use Rattle.std.proofs.lemmas.Bool.{cases_eq, cases_lt, cases_Bool}
 use Rattle.std.specs.Str.{IsUtf8}
@@ -13,7 +13,7 @@ use Rattle.yf_comments.specs.Comments.BlankBefore.{blank_line, past_gap}
 use Rattle.yf_comments.specs.Comments.HasBlankNote.{noted, not_noted}
 use Rattle.yf_comments.proofs.BlankLemmas.{gap_cases, gap_below, gap_of_mark, gap_of_lf, gap_of_cr, gap_of_white, same_place, blank_view, before_view, start_unique, BlankView, text_view, break_view, white_view, BeforeView, line_view, gap_view, past_break, not_last}
 
--- the break that ends at a place
+-- the break that ends at an offset
 pub break_known : (t : List ℕ) (j : ℕ) → ((h : ℕ) × Break t h j) ⊎ ((h : ℕ) → Break t h j → ⊥)
 break_known t j =
     ⊎_elim (λ (z : j ≡ 0). inr (λ h b. let f = break_forward b in omega arith))
@@ -61,7 +61,7 @@ gap_known t j = with_low (cases_lt (code t (j - 1)) 128) (cases_Bool (is_gap (co
       ⊎_elim (λ (z : j ≡ 0). inr (λ i _ e. let f = next_later t i in omega arith))
       (λ (z : j ≢ 0). inl (j - 1, g, next_ascii t (j - 1) l ∙ omega arith)) (cases_eq j 0)
 
--- whether nothing but white space is before a place on its line
+-- whether only white space is before an offset on its line
 pub blank_known : (t : List ℕ) (n j : ℕ) → IsUtf8 t → j ≤ n → Blank t j ⊎ (Blank t j → ⊥)
 blank_known t zero j u l = let z : 0 ≡ j = omega arith in inl (subst (λ k. Blank t k) z text_begins)
 blank_known t (suc n) j u l =
@@ -94,7 +94,7 @@ blank_known t (suc n) j u l =
         let same : i ≡ j - 1 = omega arith in
         true≢false (sym v ∙ ap (λ k. is_white (code t k)) same ∙ w)
 
--- whether a blank line is before a place
+-- whether a blank line is before an offset
 pub before_known : (t : List ℕ) (n j : ℕ) → IsUtf8 t → j ≤ n → BlankBefore t j ⊎ (BlankBefore t j → ⊥)
 before_known t zero j u l = inr (λ d. nowhere (before_view d)) where
   nowhere : BeforeView t j → ⊥
@@ -128,7 +128,8 @@ before_known t (suc n) j u l = with_line (λ i m. before_known t n i u m) (break
 pub note_known : (t : List ℕ) (i : ℕ) → IsUtf8 t → (b : Bool) × HasBlankNote t i b
 note_known t i u = ⊎_elim (λ (d : BlankBefore t i). (true, noted d)) (λ (no : BlankBefore t i → ⊥). (false, not_noted no)) (before_known t i i u (omega arith))
 
--- a line of white space alone is one, and it is before each place that gaps lead to; after a character that is no gap is none
+-- a line with only white space is a blank line before each offset that gaps lead to; no blank line is before the end of
+-- a character that is no gap
 pub blank_after : {t : List ℕ} {h i j : ℕ} → Break t h i → Break t i j → BlankBefore t j
 blank_after a b = blank_line (break_ends a) b
 

@@ -1,4 +1,4 @@
--- Texts by hand: a blank line before a comment, and none.
+-- Example texts with and without a blank line before a comment.
 use Rattle.std.proofs.Common.{◌≡◌, ℕ, List, [], ◌∷◌, refl, arith}
 use Rattle.std.specs.Str.{chars, IsUtf8}
 use Rattle.yf_chars.specs.Text.{code, next, begins}

@@ -1,4 +1,4 @@
--- The rest of a line: where it ends and what it means are unique, and comment lines are a chain of such rests.
+-- The end and the meaning of a line's rest are unique, and comment lines are a chain of such rests.
 use Rattle.std.proofs.Common.{◌≡◌, ◌≢◌, ℕ, ◌+◌, ◌<◌, ◌≤◌, Bool, true, false, ◌⊎◌, inl, inr, ⊎_elim, List, [], ◌∷◌, ◌++◌, length, slice_range, refl, sym, ap, ◌∙◌, subst, arith, MatchBool}
 use Rattle.std.proofs.lemmas.Bool.{cases_lt}
 use Rattle.yf_chars.specs.Text.{code, no_char, CharAt}
@@ -18,7 +18,7 @@ use Rattle.yf_comments.specs.Comments.CommentText.{comment_text}
 use Rattle.yf_comments.specs.Comments.BreakOrEnd.{by_break, by_end}
 use Rattle.yf_comments.specs.Comments.LineRest.{nothing, whites, comment}
 
--- which characters no white and no character of a comment is
+-- characters that are neither white space nor part of a comment
 pub hash_white : (c : ℕ) → c ≡ 35 → is_white c ≡ false
 unfolding is_white
 hash_white c e = ap is_white e
@@ -71,7 +71,7 @@ module _ {t : List ℕ} where
   end_unique (by_end e) (by_break a) = absurd (break_not_end a e)
   end_unique (by_end e) (by_end f) = refl
 
-  -- the next line begins there, or nothing is left
+  -- the next line begins there or the text ends
   pub end_next : {i j : ℕ} → BreakOrEnd t i j → LineStart t j ⊎ (j ≡ length t)
   end_next (by_break b) = inl (after_break b)
   end_next (by_end e) = inr e
@@ -99,7 +99,7 @@ module _ {t : List ℕ} where
   separate_whites (by_whites {x = x} m l) = (x, m)
   separate_whites (at_start s) = ([], done)
 
--- a rest of a line by the place where its white space ends
+-- the rest of a line, by the end of its white space
 data RestView (t : List ℕ) : ℕ → ℕ → List CommentValue → Type 0 where
   bare_view : {i h j : ℕ} {w : List ℕ} → Many t is_white i h w → BreakOrEnd t h j → RestView t i j []
   comment_view : {i h k j : ℕ} {w : List ℕ} {x : List CommentValue} → Many t is_white i h w → CommentText t h k x → BreakOrEnd t k j → RestView t i j x
@@ -149,7 +149,7 @@ module _ {t : List ℕ} where
     forward = λ a. a.later;
   }
 
-  -- a rest that goes nowhere has no comment
+  -- an empty rest has no comment
   pub rest_still : {i j : ℕ} {x : List CommentValue} → LineRest t i j x → j ≤ i → (j ≡ i) × (x ≡ [])
   rest_still r l =
       let f = view_forward (rest_view r) in
@@ -178,7 +178,7 @@ module _ {t : List ℕ} where
   pub rest_at_end : {i j : ℕ} {x : List CommentValue} → LineRest t i j x → i ≡ length t → i < j → ⊥
   rest_at_end r e l = view_at_end (rest_view r) e l
 
-  -- white space that is where the rest begins end before the rest does, or with it at the end of the text
+  -- the white space at the start of a rest ends before the rest does, or with it at the end of the text
   view_tail : {i j k : ℕ} {w : List ℕ} {x : List CommentValue} → Many t is_white i j w → RestView t i k x
       → (j ≤ k) × (j ≡ k → (x ≡ []) × (k ≡ length t))
   view_tail {j = j} {k = k} {w = w} m (bare_view {h = h} n e) =
@@ -199,7 +199,7 @@ module _ {t : List ℕ} where
       → (j ≤ k) × (j ≡ k → (x ≡ []) × (k ≡ length t))
   rest_tail m r = view_tail m (rest_view r)
 
-  -- where nothing is left of a line
+  -- nothing is left of a line
   view_hash : {i h k : ℕ} {w : List ℕ} {x : List CommentValue} → Many t is_white i h w → CommentText t h k x → is_nb_char (code t k) ≡ false
       → Nowhere (BreakOrEnd t k) → {j : ℕ} {y : List CommentValue} → RestView t i j y → ⊥
   view_hash {h = h} m c n none (bare_view {h = g} o e) =

@@ -1,4 +1,4 @@
--- The longest separation: after the last line at whose start there is enough indentation.
+-- The longest separation ends in the last line with enough indentation.
 use Rattle.std.proofs.Common.{◌≡◌, ◌≢◌, ℕ, ℤ, pos, ◌<ℤ◌, suc, zero, ◌+◌, ◌<◌, ◌≤◌, true, false, ◌⊎◌, inl, inr, ⊎_elim, List, [], ◌∷◌, ◌++◌, length, refl, sym, ap, ◌∙◌, subst, arith, append-nil, add-zero, true≢false}
 use Rattle.std.proofs.lemmas.Bool.{cases_lt, cases_Bool}
 use Rattle.std.proofs.lemmas.Int.{ints}
@@ -65,7 +65,7 @@ module _ {t : List ℕ} where
   still done l = (refl, refl)
   still (step r c) l = let a = r.later in let b = chain_forward row_functional c in absurd (omega arith)
 
-  -- the tail after an earlier row ends no later, and where it ends there it has the same comments
+  -- the tail after an earlier row ends no later; if it ends at the later one's end, it has the same comments
   tail_after : {h j q e : ℕ} {w v : List ℕ} {y z : List CommentValue} → Many t is_white h j w → h ≤ q → Many t is_white q e v
       → is_white (code t e) ≡ false → Meets (Row t) h q y z → (j ≤ e) × (j ≡ e → z ≡ y)
   tail_after {y = y} m l n s (goes_on x c f) =
@@ -76,7 +76,7 @@ module _ {t : List ℕ} where
       let m' : Many t is_white q j w = subst (λ v. Many t is_white v j w) (sym a.0) m in
       ((many_chosen t is_white n s).longest j w m', λ _. sym (f ∙ ap (λ v. z ++ v) a.1 ∙ append-nil z))
 
-  -- rows from one place pass the same places
+  -- rows from one offset pass the same offsets
   past : {p q h : ℕ} {x' z : List CommentValue} → Row t p q x' → Chain (Row t) p h z → (h ≤ p) ⊎ (q ≤ h)
   past r done = inl (omega arith)
   past r (step s c) =
@@ -133,7 +133,7 @@ module _ {t : List ℕ} {n : ℤ} {i : ℕ} where
   separate_upto c s (over_lines {h = h} {x = y} d f) =
       upto_lines d ((chain_chosen row_functional c s).longest h y (line_end_rows d)) f
 
--- what is chosen of one relation is chosen of another that derives the same
+-- equivalent relations have the same chosen results
 chosen_along : {X : Type 0} {P Q : ℕ → X → Type 0} {j : ℕ} {x : X} → ((k : ℕ) (y : X) → P k y → Q k y) → ((k : ℕ) (y : X) → Q k y → P k y)
     → Chosen P j x → Chosen Q j x
 chosen_along {j = j} {x = x} f g c = record {
@@ -145,7 +145,7 @@ chosen_along {j = j} {x = x} f g c = record {
 stuck_along : {X : Type 0} {P Q : ℕ → X → Type 0} → ((k : ℕ) (y : X) → Q k y → P k y) → Stuck P → Stuck Q
 stuck_along g s = record { none = λ k y d. s.none k y (g k y d) }
 
--- indentation and white space, as a reader finds them
+-- indentation and white space, as a reader reads them
 module _ {t : List ℕ} where
   -- white space after a part of them
   rest_of_whites : {i h e : ℕ} {x y : List ℕ} → Many t is_white i h x → Many t is_white i e y → is_white (code t e) ≡ false
@@ -195,7 +195,7 @@ module _ {t : List ℕ} where
   pub in_line_nowhere : {i : ℕ} → is_white (code t i) ≡ false → (LineStart t i → ⊥) → Nowhere (SeparateInLine t i)
   in_line_nowhere w n = record { none = λ j s. no_separation w n s }
 
-  -- at the first place
+  -- at the first offset
   pub upto_first : {n : ℤ} {i e : ℕ} → SeparateInLine t i e → is_white (code t e) ≡ false → Chosen (Upto t n i i) e []
   upto_first s w = upto_best (upto_line s) done (separate_whites s).1 w
 
@@ -203,7 +203,7 @@ module _ {t : List ℕ} where
   no_upto {j = j} s f (upto_line a) = s.none j a
   no_upto {j = j} s f (upto_lines {h = h} {y = y} d l p) = f h y d l j p
 
-  -- a line's end that goes nowhere
+  -- an empty end of a line
   rest_stays : {i j : ℕ} {x : List CommentValue} → Nowhere (SeparateInLine t i) → LineRest t i j x → j ≤ i → i ≡ length t
   rest_stays s (nothing (by_break b)) l = let f = break_forward b in absurd (omega arith)
   rest_stays s (nothing (by_end e)) l = e
@@ -287,7 +287,7 @@ module _ {t : List ℕ} {n : ℤ} {i : ℕ} where
   pub lines_stuck : {p : ℕ} {x : List CommentValue} → Chain (Row t) i p x → Stuck (Row t p) → Stuck (Upto t n i p) → Stuck (SeparateLines t n i)
   lines_stuck k s d = stuck_along (λ j y u. separate_upto k s u) d
 
--- where no line is passed
+-- no line is passed
 indent_negative : {t : List ℕ} {n : ℤ} {i j : ℕ} → n <ℤ pos 0 → Indent t n i j → ⊥
 indent_negative l (exactly k e s) = let h = rw e at l in omega (arith, ints)
 

@@ -1,4 +1,4 @@
--- Where a line goes on with a character that begins neither white space nor a comment nor the end of the line.
+-- Lines that continue with a character that begins neither white space nor a comment nor the end of the line.
 use Rattle.std.proofs.Common.{◌≡◌, ◌≢◌, ℕ, ℤ, ◌<◌, ◌≤◌, true, false, inl, ⊎_elim, List, [], length, refl, subst, arith}
 use Rattle.std.proofs.lemmas.Bool.{cases_lt, cases_Bool}
 use Rattle.yf_chars.specs.declared.context.Ctx.{Ctx}
@@ -18,7 +18,7 @@ use Rattle.yf_comments.proofs.LineEndLemmas.{kept_none, line_end_from, row_stuck
 use Rattle.yf_comments.proofs.SeparateLemmas.{upto_first, stuck_first, lines_chosen, lines_stuck, alone_chosen, alone_stuck, node_chosen, node_stuck}
 
 module _ {t : List ℕ} where
-  -- white space alone is left of the line
+  -- only white space is left of the line
   pub rest_bare : {i h j : ℕ} {w : List ℕ} → Many t is_white i h w → BreakOrEnd t h j → LineRest t i j []
   rest_bare {i} {h} {j} m e =
       let l = chain_forward (one_functional t is_white) m in
@@ -34,13 +34,13 @@ module _ {t : List ℕ} where
   pub no_end : {i : ℕ} → i < length t → code t i ≢ 10 → code t i ≢ 13 → Nowhere (BreakOrEnd t i)
   no_end l n m = record { none = λ j e. ends_with l n m e }
 
-  -- a line ends, and the next one goes on with such a character
+  -- a line ends, and the next one continues with such a character
   pub ended_chosen : {i h e : ℕ} {w : List ℕ} → LineRest t i h [] → Many t is_white h e w → is_white (code t e) ≡ false → code t e ≢ 35
       → Nowhere (BreakOrEnd t e) → Chosen (LineEnd t i) h []
   ended_chosen {h = h} r m s n none = line_end_from refl ([], r, refl) (kept_none t h []) (row_stuck (stuck_at_solid m s n none))
 
 module _ {t : List ℕ} {n : ℤ} {c : Ctx} {i : ℕ} where
-  -- white space alone, before such a character
+  -- only white space, before such a character
   pub solid_chosen : {e : ℕ} → Farthest (SeparateInLine t i) e → is_white (code t e) ≡ false → code t e ≢ 35 → Nowhere (BreakOrEnd t e)
       → Chosen (Separate t n c i) e []
   solid_chosen {e} f w s r =
@@ -49,7 +49,7 @@ module _ {t : List ℕ} {n : ℤ} {c : Ctx} {i : ℕ} where
       (λ (k : is_key c ≡ false). node_chosen k (lines_chosen done stuck (upto_first f.derived w)))
       (cases_Bool (is_key c))
 
-  -- and nothing, where the line does not start there
+  -- nothing, if the line doesn't start there
   pub solid_stuck : Nowhere (SeparateInLine t i) → is_white (code t i) ≡ false → code t i ≢ 35 → Nowhere (BreakOrEnd t i)
       → Stuck (Separate t n c i)
   solid_stuck f w s r =

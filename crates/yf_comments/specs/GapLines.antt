@@ -1,4 +1,4 @@
--- The lines that are written between two lines with nodes: blank ones, and comments with so many spaces before them.
+-- The lines that are written between two lines with nodes: blank lines and indented comments.
 use Rattle.std.specs.Prelude.{◌≡◌, ℕ, ◌<◌, List, [], ◌∷◌, ◌++◌, replicate}
 use Rattle.yf_chars.specs.Signs.{LINE_FEED, NUMBER_SIGN, SPACE}
 use Rattle.yf_lines.specs.LineText.{IsLineText}
@@ -7,7 +7,7 @@ pub data GapLine : Type 0 where
   blank : GapLine
   remark : ℕ → List ℕ → GapLine
 
--- their bytes, and r after them
+-- the bytes of the lines, and r after them
 abbrev pub gap_then : List GapLine → List ℕ → List ℕ
 gap_then [] r = r
 gap_then (blank ∷ gs) r = LINE_FEED ∷ gap_then gs r

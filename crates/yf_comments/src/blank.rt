@@ -1,4 +1,4 @@
-//! Whether a blank line is before a place.
+//! Looks for a blank line before an offset.
 ghost use Rattle.std.specs.Prelude.{◌≡◌, ◌≢◌, ◌-◌, ◌<◌, ◌≤◌, ℕ, MatchBool, MatchOption, length, ⊤};
 ghost use Rattle.yf_chars.specs.Signs.{CARRIAGE_RETURN, LINE_FEED};
 ghost use Rattle.yf_chars.specs.Text.{code};
@@ -8,7 +8,7 @@ ghost use Rattle.yf_comments.specs.Comments.{Blank, BlankBefore};
 use yf_chars::text::is_char_at;
 use yf_lines::basic::{is_white_at, mark_ends};
 
-// The offset of the break that ends at the offset.
+// Returns the offset of the break that ends at the offset.
 fn break_before(s: &str, at: usize) -> Option<usize>
     ensures { MatchOption result ((i : ℕ) → Break s.now i at → ⊥) (λ i. Break s.now i at) }
 {
@@ -30,9 +30,10 @@ fn break_before(s: &str, at: usize) -> Option<usize>
     None
 }
 
-/// Whether, going back from the offset over white space, line breaks and byte order marks, a line of white space alone is met.
+/// Returns whether a line with only white space is before the offset, with nothing but white space, line breaks and
+/// byte order marks between.
 ///
-/// The walk ends at the first other character, so walks from different comments do not overlap.
+/// The walk back ends at the first other character, so walks from different comments don't overlap.
 #[inline]
 pub fn is_blank_before(s: &str, at: usize) -> bool
     requires { code s.now at ≡ LINE_FEED → code s.now (at - 1) ≢ CARRIAGE_RETURN }
@@ -55,7 +56,7 @@ pub fn is_blank_before(s: &str, at: usize) -> bool
     walk_back(s, at)
 }
 
-// Whether a visible ASCII character ends at the offset.
+// Returns whether a visible ASCII character ends at the offset.
 #[inline(always)]
 fn visible_ends(s: &str, at: usize) -> bool
     ensures before { MatchBool result (BlankBefore s.now at → ⊥) ⊤ }
@@ -78,14 +79,14 @@ fn visible_ends(s: &str, at: usize) -> bool
     true
 }
 
-// Whether a line of white space alone is met going back from the offset.
+// Returns `is_blank_before` by a walk back from the offset.
 #[inline(never)]
 fn walk_back(s: &str, at: usize) -> bool
     requires { code s.now at ≡ LINE_FEED → code s.now (at - 1) ≢ CARRIAGE_RETURN }
     ensures { MatchBool result (BlankBefore s.now at) (BlankBefore s.now at → ⊥) }
 {
     let mut place = at;
-    // whether white space alone is between the place and a line break
+    // whether only white space is between `place` and a line break
     let mut blank = false;
     'back: while place > 0 {
         if is_white_at(s, place - 1) {

@@ -6,6 +6,7 @@ pub struct Comment<'a> {
     pub text: &'a str,
     /// The byte offset of the `#`.
     pub offset: usize,
-    /// Whether a line of white space alone is before the comment, with nothing but white space and line breaks between.
+    /// Whether a line with only white space is before the comment, with only white space, line breaks and byte order
+    /// marks between.
     pub blank_before: bool,
 }

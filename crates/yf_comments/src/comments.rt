@@ -6,14 +6,14 @@ use crate::comment::Comment;
 use std::alloc::{AllocError, Global};
 use std::marker::Model;
 
-/// What was read: the comments in it, and the offset after it.
+/// A separation that was read: its comments, and the offset after it.
 #[derive(Drop)]
 pub struct Separation<'a> {
     pub comments: Comments<'a>,
     pub end: usize,
 }
 
-/// Comments in the order of the text. In a contract it is the list of what they are.
+/// Comments in the order of the text. A contract sees the list of their values.
 #[derive(Drop)]
 pub struct Comments<'a> {
     list: Vec<Comment<'a>>,
@@ -49,7 +49,7 @@ impl<'a> Comments<'a> {
         self.list.len()
     }
 
-    /// The comment at an index.
+    /// Returns the comment at an index.
     pub fn at(&self, i: usize) -> &Comment<'a>
         requires { i < length self.now }
         ensures { slice_get self.now i ≡ Some (comment_value result.now) }
@@ -57,7 +57,7 @@ impl<'a> Comments<'a> {
         &self.list[i]
     }
 
-    /// Appends a comment; where memory is refused, the list is as it was.
+    /// Appends a comment. If memory is refused, the list is unchanged.
     pub fn push(&mut self, comment: Comment<'a>) -> Result<(), AllocError>
         ensures { self.new ≡ (if is_ok result then self.old ++ comment_value comment.entry ∷ [] else self.old) }
     {
@@ -65,15 +65,15 @@ impl<'a> Comments<'a> {
         Ok(())
     }
 
-    /// Keeps the first comments, that many at most.
+    /// Keeps at most the first `count` comments.
     pub fn truncate(&mut self, count: usize)
         ensures { self.new ≡ take count self.old }
     {
         self.list.truncate(count);
     }
 
-    /// Moves all comments of another list to the end; where memory is refused, the list is as it was. Most lists that are
-    /// appended have none.
+    /// Moves all comments of another list to the end. If memory is refused, the list is unchanged. Most lists that are
+    /// appended are empty.
     #[inline(always)]
     pub fn append(&mut self, mut other: Comments<'a>) -> Result<(), AllocError>
         ensures { self.new ≡ (if is_ok result then self.old ++ other.entry else self.old) }

@@ -1,4 +1,4 @@
-//! Comments, and the lines that hold nothing else (YAML 1.2.2, section 6.6).
+//! Comments and the lines that hold only a comment (YAML 1.2.2, section 6.6).
 ghost use Rattle.std.specs.Prelude.{◌≡◌, ◌≢◌, ◌+◌, ◌-◌, ◌<◌, ◌≤◌, ℕ, List, [], ◌∷◌, ◌++◌, Bool, true, false, Option, Some, None, length, IfOk, IfSome, IfNone, MatchOption, MatchBool};
 ghost use Rattle.std.specs.Str.{IsCharBoundary};
 ghost use Rattle.yf_chars.specs.Signs.{NUMBER_SIGN};
@@ -31,7 +31,7 @@ pub struct RestOfLine<'a> {
     pub end: usize,
 }
 
-// Reads a comment's text (c-nb-comment-text, production 75), as long as its characters go.
+// Reads all of a comment's text (c-nb-comment-text, production 75).
 fn comment_text<'a>(s: &'a str, at: usize) -> Option<CommentPart<'a>>
     ensures reads { MatchOption result (code s.now at ≢ NUMBER_SIGN) (λ p. CommentText s.now at p.end (comment_value p.comment ∷ [])) }
     ensures all { IfSome result (λ p. is_nb_char (code s.now p.end) ≡ false) }
@@ -64,7 +64,7 @@ fn break_or_end(s: &str, at: usize) -> Option<usize>
     }
 }
 
-// Whether a character is there that begins neither white space nor a comment nor the end of a line.
+// Returns whether a character at the offset begins neither white space nor a comment nor the end of a line.
 #[inline(always)]
 pub(crate) fn is_solid_at(s: &str, at: usize) -> bool
     ensures white { result ≡ true → is_white (code s.now at) ≡ false }
@@ -89,7 +89,7 @@ pub(crate) fn is_solid_at(s: &str, at: usize) -> bool
     true
 }
 
-// Reads what is left of a line after its white space: a comment, if there is one, and a break or the end of the text.
+// Reads the rest of a line after its white space: an optional comment, and a break or the end of the text.
 #[inline(always)]
 fn past_whites<'a>(s: &'a str, at: usize, place: usize) -> Option<RestOfLine<'a>>
     requires boundary { IsCharBoundary s.now place }
@@ -116,8 +116,8 @@ fn past_whites<'a>(s: &'a str, at: usize, place: usize) -> Option<RestOfLine<'a>
     }
 }
 
-// Reads what is left of a line whose white space ends at the place: a comment where white space or the start of the line
-// is before it, and a break or the end of the text.
+// Reads the rest of a line whose white space ends at `place`: an optional comment, if it begins the line or follows
+// white space, and a break or the end of the text.
 #[inline(always)]
 fn rest_from<'a>(s: &'a str, at: usize, place: usize, starts: bool) -> Option<RestOfLine<'a>>
     requires boundary { IsCharBoundary s.now place }
@@ -139,8 +139,8 @@ fn rest_from<'a>(s: &'a str, at: usize, place: usize, starts: bool) -> Option<Re
     }
 }
 
-/// Reads what is left of a line: white space, a comment where white space or the start of the line is before it, and a
-/// break or the end of the text (s-b-comment, production 77).
+/// Reads the rest of a line (s-b-comment, production 77): white space, an optional comment, if it begins the line or
+/// follows white space, and a break or the end of the text.
 #[inline(always)]
 pub fn line_rest<'a>(s: &'a str, at: usize, starts: bool) -> Option<RestOfLine<'a>>
     requires boundary { IsCharBoundary s.now at }
@@ -152,10 +152,10 @@ pub fn line_rest<'a>(s: &'a str, at: usize, starts: bool) -> Option<RestOfLine<'
     rest_from(s, at, place, starts)
 }
 
-// Reads what is left of a line whose white space ends at the place, and keeps its comment; the offset after it, or `None`,
-// with no comment kept.
+// Reads the rest of a line whose white space ends at `place`, and keeps its comment. Returns the offset after it, or
+// `None`, and then keeps no comment.
 //
-// Most lines have no comment: then a break or the end of the text is all that is looked for.
+// Most lines have no comment, so this looks only for a break or the end of the text.
 #[inline(always)]
 pub(crate) fn next_row<'a>(
     s: &'a str,
@@ -182,7 +182,7 @@ pub(crate) fn next_row<'a>(
     }
 }
 
-// The same, where there may be a comment.
+// Reads a row as `next_row` does, in general: it may hold a comment.
 #[inline(never)]
 fn comment_row<'a>(
     s: &'a str,
@@ -214,8 +214,8 @@ fn comment_row<'a>(
     }
 }
 
-// Reads comment lines (l-comment, production 78) as long as there are any, from the start of a line or the end of the
-// text on, where white space ends at the first place.
+// Reads all comment lines (l-comment, production 78) from the start of a line or the end of the text; white space ends
+// at `first`.
 fn comment_lines<'a>(
     s: &'a str,
     at: usize,
@@ -245,7 +245,7 @@ fn comment_lines<'a>(
     Ok(end)
 }
 
-// The offset after all white space that is at the offset, where mostly none is.
+// Returns the offset after all white space at the offset. Usually there is none.
 #[inline(always)]
 fn past_white(s: &str, at: usize) -> usize
     requires { IsCharBoundary s.now at }
@@ -260,7 +260,7 @@ fn past_white(s: &str, at: usize) -> usize
     at
 }
 
-// The same, where some does: a call of its own, so that `line_end` stays small where it is inlined.
+// Returns the offset after all white space. It is a call of its own, so that `line_end` stays small when it is inlined.
 #[inline(never)]
 fn white_end(s: &str, at: usize) -> usize
     requires { IsCharBoundary s.now at }
@@ -272,10 +272,10 @@ fn white_end(s: &str, at: usize) -> usize
     skip_whites(s, at)
 }
 
-/// Reads the end of a line and the comment lines after it (s-l-comments, production 79): as much as there is.
+/// Reads the end of a line and all comment lines after it (s-l-comments, production 79).
 ///
-/// What is left of the line may hold a comment; at the start of a line there need be nothing at all.
-/// `None` where neither the rest of a line nor the start of one is there, as between the CR and the LF of one break.
+/// The rest of the line may hold a comment; at the start of a line, it may be empty. Returns `None` if neither the rest
+/// of a line nor the start of one is there, as between the CR and the LF of one break.
 #[inline(always)]
 pub fn line_end<'a>(
     alloc: Global,
@@ -306,8 +306,8 @@ pub fn line_end<'a>(
     line_end_far(alloc, s, at, from, first)
 }
 
-// The same, where a comment may be before the break, or comment lines follow. It goes on from a line that has ended, if
-// one has, and where white space ends at the place.
+// Reads a line's end as `line_end` does, in general: a comment may be before the break, and comment lines may follow.
+// It continues after the first break, if that was read; white space ends at `place`.
 #[inline(never)]
 fn line_end_far<'a>(
     alloc: Global,

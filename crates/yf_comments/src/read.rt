@@ -1,4 +1,4 @@
-//! The readers of comments and separation over a text with its lines.
+//! Readers of comments and separation in a text with its lines.
 ghost use Rattle.std.specs.Prelude.{◌≡◌, IfSome, MatchOption, MatchResult};
 ghost use Rattle.std.specs.Str.{IsCharBoundary};
 ghost use Rattle.yf_chars.specs.Chain.{Chosen, Stuck};
@@ -13,14 +13,14 @@ use yf_lines::fault::Fault;
 use yf_lines::source_text::Src;
 use yf_lines::text::ReadResult;
 
-/// Reads the end of a line and the comment lines after it (s-l-comments, production 79), from a byte offset on: as much
-/// as there is, with all comments in order.
+/// Reads the end of a line and all comment lines after it (s-l-comments, production 79), from a byte offset, with all
+/// comments in order.
 ///
-/// `None` where the production derives nothing, as between the CR and the LF of one break.
+/// Returns `None` if the production derives nothing, as between the CR and the LF of one break.
 ///
 /// # Errors
 ///
-/// `Fault::Memory` where a growth of memory was refused.
+/// `Fault::Memory` if memory is refused.
 pub fn read_line_end<'a>(alloc: Global, src: &Src<'a>, at: usize) -> ReadResult<Separation<'a>>
     requires { IsCharBoundary src.now.text at }
     ensures { MatchResult result (λ o. MatchOption o (Stuck (LineEnd src.now.text at))
@@ -32,15 +32,15 @@ pub fn read_line_end<'a>(alloc: Global, src: &Src<'a>, at: usize) -> ReadResult<
     }
 }
 
-/// Reads a separation (s-separate(n,c), production 80), from a byte offset on: as much as there is, with all comments in
+/// Reads the longest separation (s-separate(n,c), production 80) that begins at a byte offset, with all its comments in
 /// order. `n` is an indentation, from -1.
 ///
-/// The longest part may end before a comment, since the last line needs its indentation.
-/// `None` where the production derives nothing.
+/// It may end before a comment, since its last line needs the indentation. Returns `None` if the production derives
+/// nothing.
 ///
 /// # Errors
 ///
-/// `Fault::Memory` where a growth of memory was refused.
+/// `Fault::Memory` if memory is refused.
 pub fn read_separation<'a>(
     alloc: Global,
     src: &Src<'a>,

@@ -14,14 +14,14 @@ use std::alloc::{AllocError, Global};
 use yf_chars::context::Ctx;
 use yf_lines::basic::{is_line_start, skip_spaces, skip_whites};
 
-// How far a separation goes, and how many of the comments read so far are in it.
+// The end of a separation, and the number of comments in it among those read so far.
 #[derive(Clone, Copy)]
 struct Reach {
     end: usize,
     count: usize,
 }
 
-/// Reads white space, or nothing at the start of a line (s-separate-in-line, production 66): as many as there are.
+/// Reads all white space at the offset (s-separate-in-line, production 66). At the start of a line, it may be empty.
 #[inline(always)]
 pub fn separate_in_line(s: &str, at: usize) -> Option<usize>
     requires { IsCharBoundary s.now at }
@@ -33,7 +33,7 @@ pub fn separate_in_line(s: &str, at: usize) -> Option<usize>
     in_line_from(s, at, end)
 }
 
-// The same, where the white space ends at the place.
+// Reads such a separation whose white space ends at `place`.
 #[inline(always)]
 fn in_line_from(s: &str, at: usize, place: usize) -> Option<usize>
     requires boundary { IsCharBoundary s.now place }
@@ -53,7 +53,7 @@ fn in_line_from(s: &str, at: usize, place: usize) -> Option<usize>
     None
 }
 
-// Whether so many spaces are there.
+// Returns whether `width` spaces are at the offset.
 fn is_indented(s: &str, at: usize, width: usize) -> bool
     requires { IsCharBoundary s.now at }
     ensures { MatchBool result (Spaces s.now at width) (Nowhere (FlowPrefix s.now (pos width) at)) }
@@ -65,7 +65,8 @@ fn is_indented(s: &str, at: usize, width: usize) -> bool
     true
 }
 
-/// Reads the prefix of a line in flow (s-flow-line-prefix(n), production 69), with all white space after the indentation.
+/// Reads the prefix of a line in flow (s-flow-line-prefix(n), production 69), with all white space after the
+/// indentation.
 pub fn flow_line_prefix(s: &str, at: usize, width: usize) -> Option<usize>
     requires { IsCharBoundary s.now at }
     ensures reads { MatchOption result (Nowhere (FlowPrefix s.now (pos width) at)) (λ e. Farthest (FlowPrefix s.now (pos width) at) e) }
@@ -78,7 +79,7 @@ pub fn flow_line_prefix(s: &str, at: usize, width: usize) -> Option<usize>
     None
 }
 
-// The indentation that a separation over lines has, if it may go over lines: not in keys, and not where n is negative.
+// Returns the indentation of a separation over lines, or `None` in keys and if `n` is negative: then it passes no line.
 fn line_width(n: i32, ctx: Ctx) -> Option<usize>
     ensures { MatchOption result ((is_key ctx ≡ true) ⊎ (n <ℤ pos 0)) (λ w. (is_key ctx ≡ false) × (n ≡ pos w)) }
 {
@@ -92,7 +93,7 @@ fn line_width(n: i32, ctx: Ctx) -> Option<usize>
     Some(n as usize)
 }
 
-// The longest separation that passes no line, where white space ends at the place.
+// Returns the longest separation that passes no line; white space ends at `place`.
 fn first_reach(s: &str, at: usize, place: usize, width: usize) -> Option<Reach>
     requires boundary { IsCharBoundary s.now at }
     requires place { IsCharBoundary s.now place }
@@ -114,8 +115,8 @@ fn first_reach(s: &str, at: usize, place: usize, width: usize) -> Option<Reach>
     None
 }
 
-// How far a separation goes from there, after rows of comments, which it keeps all, where white space ends at `first`. Of each row
-// `place` is where it begins, and `end` where the white space there ends.
+// Returns the longest separation after rows of comments, all of which it keeps; white space ends at `first`. In each
+// row, `place` is its start, and `end` is the end of the white space there.
 fn last_reach<'a>(
     s: &'a str,
     at: usize,
@@ -156,9 +157,9 @@ fn last_reach<'a>(
     Ok(reach)
 }
 
-/// Reads a separation that may go over lines (s-separate-lines(n), production 81): the longest.
+/// Reads the longest separation that may go over lines (s-separate-lines(n), production 81).
 ///
-/// It ends in the last line at whose start the indentation is, so a comment line that is indented less is not in it.
+/// It ends in the last line that is indented by `width`, so it leaves out a comment line that is indented less.
 pub fn separate_lines<'a>(
     alloc: Global,
     s: &'a str,
@@ -174,7 +175,7 @@ pub fn separate_lines<'a>(
     lines_from(alloc, s, at, place, width)
 }
 
-// The same, where white space ends at the place.
+// Reads such a separation whose first white space ends at `place`.
 fn lines_from<'a>(
     alloc: Global,
     s: &'a str,
@@ -203,9 +204,9 @@ fn lines_from<'a>(
     }
 }
 
-/// Reads a separation (s-separate(n,c), production 80): the longest, with its comments.
+/// Reads the longest separation (s-separate(n,c), production 80), with its comments.
 ///
-/// In the two key contexts, and where `n` is negative, it is white space alone, or nothing at the start of a line.
+/// In the two key contexts, and if `n` is negative, it is only white space, or nothing at the start of a line.
 #[inline(always)]
 pub fn separate<'a>(
     alloc: Global,
@@ -233,7 +234,8 @@ pub fn separate<'a>(
     }
 }
 
-// The same, where the line may end, or a comment may be there, and white space ends at the place.
+// Reads a separation as `separate` does, in general: the line may end or a comment may begin; white space ends at
+// `place`.
 #[inline(never)]
 fn separate_far<'a>(
     alloc: Global,

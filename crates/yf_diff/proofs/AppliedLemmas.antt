@@ -1,4 +1,4 @@
--- What is written of a script leads from its old lines to its new ones.
+-- The written hunks of a script lead from its old lines to its new ones.
 use Rattle.std.proofs.Common.{◌≡◌, ℕ, zero, suc, ◌+◌, ◌-◌, ◌<◌, ◌≤◌, ◌==◌, true, false, not, ⊎_elim, List, [], ◌∷◌, ◌++◌, length, take, drop, refl, sym, ap, subst, ◌∙◌, append_assoc, length-append, arith}
 use Rattle.std.proofs.lemmas.Bool.{cases_Bool}
 use Rattle.std.proofs.lemmas.Bool.Decides.{nat_tests}
@@ -27,7 +27,7 @@ begins_after script at =
     let z : (at + 1 == 0) ≡ false = grind (arith, nat_tests) in
     rw (z, e) refl
 
--- Inside of a hunk: its edits are first, and what is after it is applied.
+-- Within a hunk: its edits come first, and the rest after it is applied.
 record Run (script : List Edit) (at old_before new_before : ℕ) (rest : List Edit) : Type 0 where
   later : List Edit
   text : List ℕ
@@ -72,7 +72,7 @@ hidden script at a b (kept line) rest e f next =
 hidden script at a b (dropped line) rest e f next = absurd (let no : is_shown script at ≡ true = f refl in cc)
 hidden script at a b (added line) rest e f next = absurd (let no : is_shown script at ≡ true = f refl in cc)
 
--- the parts of a text joined otherwise
+-- the parts of a text, grouped in another way
 regrouped : (head x later edits text : List ℕ) → later ≡ edits ++ text → (head ++ x) ++ later ≡ head ++ ((x ++ edits) ++ text)
 regrouped head x later edits text e = rw e (append_assoc head x (edits ++ text) ∙ ap (λ z. head ++ z) (sym (append_assoc x edits text)))
 

@@ -1,4 +1,4 @@
--- What is written at one step.
+-- The text at one step.
 use Rattle.std.proofs.Common.{◌≡◌, ℕ, ◌<◌, true, false, List, [], ◌∷◌, ◌++◌, length, drop, get_or, refl, sym, ap, ◌∙◌, append_assoc, drop-cons, suc}
 use Rattle.yf_diff.specs.Script.{Edit}
 use Rattle.yf_diff.specs.Unified.{is_shown, hunk, text_at, head_text, edit_text}

@@ -1,4 +1,4 @@
--- The lemmas, each group under the function that it serves.
+-- The lemmas, grouped by the function that needs them.
 
 -- `first_line`
 pub mod LineLemmas

@@ -11,11 +11,11 @@ last_after : (came : Bool) (done : List Edit) (x : Edit) → came_last came (don
 last_after came [] x = refl
 last_after came (y ∷ done) x = last_after (is_added y) done x
 
--- a line that stays or comes may be anywhere
+-- a kept or an added line may be anywhere
 pub order_kept : (done after : List Edit) (x : Edit) → after ≡ done ++ x ∷ [] → is_dropped x ≡ false → in_order after ≡ in_order done
 order_kept done after x made is = rw (made, order_after false done x, is, and-false (came_last false done)) (and-true (in_order done))
 
--- one that goes may be after one that does not come
+-- a dropped line may follow one that isn't added
 pub order_dropped : (done after : List Edit) (x : Edit) → after ≡ done ++ x ∷ [] → came_last false done ≡ false → in_order after ≡ in_order done
 order_dropped done after x made is = rw (made, order_after false done x, is) (and-true (in_order done))
 

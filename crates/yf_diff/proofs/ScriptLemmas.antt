@@ -14,7 +14,7 @@ news_after (y ∷ script) x rest = simp append_assoc (ap (λ z. new_part y ++ z)
 pub old_passed : (done after : List Edit) (x : Edit) (line : List ℕ) (old : List (List ℕ)) (i : ℕ) → after ≡ done ++ x ∷ [] → old_part x ≡ line ∷ [] → line ≡ get_or old i [] → i < length old → olds done ++ drop i old ≡ old → olds after ++ drop (i + 1) old ≡ old
 old_passed done after x line old i made is here l all = rw (made, olds_after done x (drop (i + 1) old), is, here, add-one, ← drop-cons old i []) all
 
--- none is
+-- no line of it is passed
 olds_same : (done : List Edit) (x : Edit) → old_part x ≡ [] → olds (done ++ x ∷ []) ≡ olds done
 olds_same [] x is = rw is refl
 olds_same (y ∷ done) x is = ap (λ z. old_part y ++ z) (olds_same done x is)

@@ -28,7 +28,7 @@ unfolding all_kept
 kept_in_order [] = refl
 kept_in_order (line ∷ lines) = kept_in_order lines
 
--- of one text nothing is written
+-- nothing is written for equal texts
 pub nothing_added : (old_name new_name old new before : List ℕ) → old ≡ new → AddsDiff old_name new_name old new before before
 nothing_added old_name new_name old new before e = record {
   script = all_kept (lines_of old);

@@ -1,4 +1,4 @@
--- How the definitions split texts and write small scripts.
+-- Examples: how the definitions split texts and write small scripts.
 use Rattle.std.proofs.Common.{◌≡◌, ℕ, List, [], ◌∷◌, ◌++◌, refl}
 use Rattle.std.specs.Prelude.{codes}
 use Rattle.std.specs.Fmt.{digits}
@@ -25,7 +25,7 @@ no_text_has_no_line = refl
 a_return_ends_no_line : lines_of (codes "a\rb\r\nc") ≡ codes "a\rb\r\n" ∷ codes "c" ∷ []
 a_return_ends_no_line = refl
 
--- a range of one line is its number; what lacks a line feed is told
+-- a range of one line is its number; a note follows a line without a line feed
 one_line : shown (dropped (codes "a") ∷ added (codes "b\n") ∷ []) ≡ codes "--- o\n+++ n\n@@ -1 +1 @@\n-a\n\\ No newline at end of file\n+b\n"
 unfolding shown no_feed_note digits
 one_line = refl

@@ -1,4 +1,4 @@
--- Where nothing is written both texts are the same.
+-- If nothing is written, the texts are equal.
 use Rattle.std.proofs.Common.{◌≡◌, ℕ, ◌==◌, true, false, ⊎_elim, List, [], ◌∷◌, refl, sym, ap, ◌∙◌}
 use Rattle.std.specs.List.{concat}
 use Rattle.std.proofs.lemmas.Bool.{cases_Bool}
@@ -20,7 +20,7 @@ lines_joined (c ∷ t) =
     (λ (e : (c == 10) ≡ false). rw e (before_joined c (lines_of t) ∙ ap (λ z. c ∷ z) (lines_joined t)))
     (cases_Bool (c == 10))
 
--- without a change both have the same lines
+-- without a change both texts have equal lines
 same_lines : (script : List Edit) → has_change script ≡ false → olds script ≡ news script
 same_lines [] e = refl
 same_lines (kept line ∷ script) e = ap (λ z. line ∷ z) (same_lines script e)

@@ -1,11 +1,11 @@
--- What is written of two texts.
+-- The output for two texts.
 use Rattle.std.specs.Prelude.{◌≡◌, ℕ, true, List, ◌++◌}
 use Rattle.yf_diff.specs.Script.{Edit, olds, news, in_order}
 use Rattle.yf_diff.specs.Texts.{lines_of}
 use Rattle.yf_diff.specs.Unified.{unified}
 
--- After what was written before is the unified diff of a script that leads from the lines of the old text to those
--- of the new one. Between two lines that stay, those that go are before those that come.
+-- The output grew by the unified diff of a script from the lines of the old text to those of the new one. Between two
+-- kept lines, dropped lines come before added ones.
 pub record AddsDiff (old_name new_name old new before after : List ℕ) : Type 0 where
   pub script : List Edit
   pub olds : olds script ≡ lines_of old

@@ -1,7 +1,7 @@
--- Edit scripts: what becomes of each line of a text, and which lines come.
+-- Edit scripts: lists of lines that are kept, dropped or added.
 use Rattle.std.specs.Prelude.{ℕ, Bool, true, false, not, ◌&&◌, ◌||◌, List, [], ◌∷◌, ◌++◌}
 
--- a line that stays, goes or comes; a line has its line feed with it
+-- a line that is kept, dropped or added, with its line feed
 pub data Edit : Type 0 where
   kept : List ℕ → Edit
   dropped : List ℕ → Edit
@@ -19,12 +19,12 @@ new_part (kept line) = line ∷ []
 new_part (dropped line) = []
 new_part (added line) = line ∷ []
 
--- the lines of the old text: those that stay and those that go
+-- the lines of the old text: those kept or dropped
 abbrev pub olds : List Edit → List (List ℕ)
 olds [] = []
 olds (x ∷ rest) = old_part x ++ olds rest
 
--- the lines of the new text: those that stay and those that come
+-- the lines of the new text: those kept or added
 abbrev pub news : List Edit → List (List ℕ)
 news [] = []
 news (x ∷ rest) = new_part x ++ news rest
@@ -34,7 +34,7 @@ is_change (kept _) = false
 is_change (dropped _) = true
 is_change (added _) = true
 
--- a change is among the edits
+-- one of the edits is a change
 abbrev pub has_change : List Edit → Bool
 has_change [] = false
 has_change (x ∷ rest) = is_change x || has_change rest
@@ -49,16 +49,16 @@ is_added (kept _) = false
 is_added (dropped _) = false
 is_added (added _) = true
 
--- no line goes directly after one that comes, whether or not one has come before
+-- no line is dropped directly after an added one; the flag says whether a line was added just before
 abbrev pub in_order_after : Bool → List Edit → Bool
 in_order_after came [] = true
 in_order_after came (x ∷ rest) = not (came && is_dropped x) && in_order_after (is_added x) rest
 
--- So between two lines that stay, all that go are first.
+-- Between two kept lines, all dropped lines come first.
 abbrev pub in_order : List Edit → Bool
 in_order script = in_order_after false script
 
--- whether the last line is one that comes
+-- whether the last line was added
 abbrev pub came_last : Bool → List Edit → Bool
 came_last came [] = came
 came_last came (x ∷ rest) = came_last (is_added x) rest

@@ -9,7 +9,7 @@ use crate::script::script;
 use crate::step::Step;
 use std::alloc::{AllocError, Global};
 
-/// Whether a space is in a name.
+/// Returns whether the name contains a space.
 fn has_space(name: &[u8]) -> bool
     ensures { result ≡ has_space name.now }
 {
@@ -52,10 +52,10 @@ fn push_script(
     push_hunks(out, steps)
 }
 
-/// Adds the unified diff of an old text and a new one, as GNU `diff -u` writes it but for the times: each name is
-/// after its sign, `---` or `+++`, and a tab ends one that has a space. Exactly where both texts are the same, nothing is added.
+/// Adds the unified diff of an old and a new text, as GNU `diff -u` writes it, but without times: each name follows its
+/// sign, `---` or `+++`, and a tab follows a name with a space. It adds nothing if and only if the texts are equal.
 ///
-/// After an error, which tells that memory was refused, a part of the diff may have been added.
+/// Fails only if memory is refused; a part of the diff may then have been added.
 pub fn push_diff(
     alloc: Global,
     out: &mut Vec<u8>,

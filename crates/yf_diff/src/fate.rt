@@ -1,6 +1,6 @@
-//! What becomes of a line.
+//! What an edit does with a line.
 
-/// What becomes of a line of the old text, or that one of the new text comes.
+/// A line of the old text is kept or dropped, or a line of the new text is added.
 #[derive(Clone, Copy)]
 pub enum Fate {
     Kept,

@@ -1,27 +1,27 @@
-//! Which lines go and come where two texts differ: by a longest common subsequence of a part of both. Nothing is
-//! promised of it: what is written is a diff of both texts whatever it answers.
+//! Chooses the lines to drop and to add by a longest common subsequence of a part of both texts. No contract depends on
+//! it: the output is a diff of the texts whatever it returns.
 
 use crate::hashed_line::HashedLine;
 use crate::single_lines::Indices;
 use std::alloc::{AllocError, Global};
 
-/// So many lines of each text are looked at together.
+/// The number of lines of each text that are compared at a time.
 const WINDOW: usize = 256;
 
-/// The part of both texts that is looked at, and for all ends of it how many lines they have in common, in order.
+/// The compared part of both texts, and the number of lines that its ends have in common, in order.
 #[derive(Drop)]
 pub struct Guide {
     old_end: usize,
     new_end: usize,
-    /// The numbers of a row.
+    /// The length of a row.
     width: usize,
-    /// For each number of last lines of the old part, one row with a number for each number of last lines of the new one.
+    /// A row for each number of last lines of the old part, with a cell for each number of last lines of the new part.
     cells: Vec<u16>,
-    /// Both parts have no line in common.
+    /// Whether the parts have no line in common.
     is_apart: bool,
 }
 
-/// The number at the index, 0 where there is none.
+/// Returns the cell at the index, or 0 past the end.
 fn cell_at(cells: &[u16], index: usize) -> u16 {
     match cells.get(index) {
         Some(cell) => *cell,
@@ -29,7 +29,7 @@ fn cell_at(cells: &[u16], index: usize) -> u16 {
     }
 }
 
-/// Adds a row to the cells: that of one more line of the old part, after the row that begins at `above`.
+/// Adds a row to the cells, for one more line of the old part; the row before it begins at `above`.
 fn push_row(
     cells: &mut Vec<u16>,
     above: usize,
@@ -54,7 +54,7 @@ fn push_row(
     Ok(())
 }
 
-/// The cells of two parts.
+/// Returns the cells of two parts.
 fn cells_of(
     alloc: Global,
     old: &[HashedLine<'_>],
@@ -76,7 +76,7 @@ fn cells_of(
     Ok(cells)
 }
 
-/// At most `WINDOW` of the lines from that index on, and none from `end` on.
+/// Returns at most `WINDOW` lines from the index on, before `end`.
 fn part<'a, 'b>(lines: &'b [HashedLine<'a>], from: usize, end: usize) -> &'b [HashedLine<'a>] {
     let to = lines.len().min(end).min(from.saturating_add(WINDOW));
     if from > to {
@@ -86,7 +86,7 @@ fn part<'a, 'b>(lines: &'b [HashedLine<'a>], from: usize, end: usize) -> &'b [Ha
 }
 
 impl Guide {
-    /// A guide that has looked at nothing.
+    /// Returns a guide of an empty part.
     pub fn new(alloc: Global) -> Guide {
         Guide {
             old_end: 0,
@@ -97,7 +97,7 @@ impl Guide {
         }
     }
 
-    /// Looks at the old text from one index up to another, and at the new text so.
+    /// Compares a part of the old text with a part of the new one.
     pub fn look(
         alloc: Global,
         old: &[HashedLine<'_>],
@@ -118,7 +118,7 @@ impl Guide {
         })
     }
 
-    /// How many lines both texts have in common, in order, from these indices on and within the part.
+    /// Returns the number of lines that both texts have in common, in order, from these indices to the end of the part.
     fn common(&self, i: usize, j: usize) -> u16 {
         let row = self.old_end.saturating_sub(i);
         let column = self.new_end.saturating_sub(j);
@@ -128,8 +128,8 @@ impl Guide {
         )
     }
 
-    /// Whether the guide tells what to do at these indices. Where nothing is left in common within the part, a part from
-    /// there on tells more.
+    /// Returns whether the guide can decide at these indices. If nothing is left in common within the part, a part that
+    /// begins there can decide better.
     pub fn covers(&self, i: usize, j: usize) -> bool {
         if self.is_apart {
             return i < self.old_end || j < self.new_end;
@@ -137,7 +137,7 @@ impl Guide {
         self.common(i, j) > 0
     }
 
-    /// Whether the line of the old text goes next, and not one of the new text comes.
+    /// Returns whether to drop the line of the old text before adding one of the new text.
     pub fn drops(&self, i: usize, j: usize) -> bool {
         if i >= self.old_end {
             return false;

@@ -6,7 +6,7 @@ use memchr::memchr;
 use std::alloc::{AllocError, Global};
 use std::marker::Model;
 
-/// A line of a text with its line feed, and its hash, by which lines are told apart quickly.
+/// A line of a text with its line feed, and a hash for quick comparison.
 #[derive(Drop)]
 pub struct HashedLine<'a> {
     text: &'a [u8],
@@ -38,13 +38,13 @@ impl<'a> HashedLine<'a> {
         self.text
     }
 
-    /// A number that is the same for the same lines, and seldom else.
+    /// Returns the hash: equal lines have equal hashes, and other lines rarely do.
     pub fn hash(&self) -> u64 {
         self.hash
     }
 }
 
-/// How many bytes the first line of a text has.
+/// Returns the length of the first line of a text, in bytes.
 fn first_line(text: &[u8]) -> usize
     requires { 0 < length text.now }
     ensures low { 0 < result }
@@ -57,7 +57,7 @@ fn first_line(text: &[u8]) -> usize
     }
 }
 
-/// The lines of a text, in order.
+/// Returns the lines of a text, in order.
 pub fn hashed_lines<'a>(alloc: Global, text: &'a [u8]) -> Result<Vec<HashedLine<'a>>, AllocError>
     ensures { IfOk result (λ lines. lines.items ≡ lines_of text.now) }
 {

@@ -7,7 +7,7 @@ use crate::step::Step;
 use itoa::Buffer;
 use std::alloc::AllocError;
 
-/// Whether a change is among the steps.
+/// Returns whether the steps contain a change.
 pub fn any_change(steps: &[Step<'_>]) -> bool
     ensures { result ≡ has_change steps.now }
 {
@@ -19,7 +19,7 @@ pub fn any_change(steps: &[Step<'_>]) -> bool
     false
 }
 
-/// Whether a step is written: a change is at most three steps from it.
+/// Returns whether a step is written: if a change is at most three steps from it.
 fn is_written(steps: &[Step<'_>], at: usize) -> bool
     requires { at < length steps.now }
     ensures { result ≡ is_shown steps.now at }
@@ -31,7 +31,7 @@ fn is_written(steps: &[Step<'_>], at: usize) -> bool
     any_change(&steps[from..at + 4])
 }
 
-/// Whether a hunk begins at a step that is written.
+/// Returns whether a hunk begins at a written step.
 fn begins_hunk(steps: &[Step<'_>], at: usize) -> bool
     requires { at < length steps.now }
     ensures { result ≡ begins steps.now at }
@@ -42,14 +42,14 @@ fn begins_hunk(steps: &[Step<'_>], at: usize) -> bool
     !is_written(steps, at - 1)
 }
 
-/// How many lines of both texts a hunk has.
+/// The numbers of lines of both texts in a hunk.
 #[derive(Clone, Copy)]
 struct LineCounts {
     old: usize,
     new: usize,
 }
 
-/// How many lines of both texts the hunk has that begins at a step.
+/// Returns the numbers of lines of both texts in the hunk that begins at a step.
 #[tactic(auto, using(crate::proofs::HunkLemmas::hunk_ended))]
 fn counts_from(steps: &[Step<'_>], first: usize) -> LineCounts
     requires { first < length steps.now }
@@ -78,7 +78,7 @@ fn push_number(out: &mut Vec<u8>, number: usize) -> Result<(), AllocError>
     out.extend_from_slice(buffer.format(number).as_bytes())
 }
 
-/// Adds a range of lines: so many lines are before it, and so many in it.
+/// Adds a range of `count` lines, with `before` lines before it.
 fn push_range(out: &mut Vec<u8>, before: usize, count: usize) -> Result<(), AllocError>
     requires { before < usize.MAX }
     ensures { IfOk result (λ _. out.new.items ≡ out.old.items ++ range before count) }
@@ -113,7 +113,7 @@ fn push_hunk_line(
     out.extend_from_slice(b" @@\n")
 }
 
-/// Adds what tells that a last line has no line feed.
+/// Adds the note that the last line has no line feed.
 #[tactic(auto, unfolding(crate::specs::Unified::no_feed_note))]
 fn push_note(out: &mut Vec<u8>) -> Result<(), AllocError>
     ensures { IfOk result (λ _. out.new.items ≡ out.old.items ++ no_feed_note) }
@@ -121,7 +121,7 @@ fn push_note(out: &mut Vec<u8>) -> Result<(), AllocError>
     out.extend_from_slice(b"\n\\ No newline at end of file\n")
 }
 
-/// Adds what is after a line.
+/// Adds the text that follows a line.
 fn push_line_end(out: &mut Vec<u8>, line: &[u8]) -> Result<(), AllocError>
     ensures { IfOk result (λ _. out.new.items ≡ out.old.items ++ line_end line.now) }
 {
@@ -134,7 +134,7 @@ fn push_line_end(out: &mut Vec<u8>, line: &[u8]) -> Result<(), AllocError>
     push_note(out)
 }
 
-/// Adds a step: its sign, its line and what is after it.
+/// Adds a step: its sign, its line and the text that follows it.
 fn push_step(out: &mut Vec<u8>, step: &Step<'_>) -> Result<(), AllocError>
     ensures { IfOk result (λ _. out.new.items ≡ out.old.items ++ edit_text step.now) }
 {
@@ -162,7 +162,7 @@ fn push_head(
     push_hunk_line(out, steps, at, old_before, new_before)
 }
 
-/// Adds what is written at a step, with so many lines of both texts before it.
+/// Adds the text of a step; `old_before` and `new_before` are the numbers of lines before it.
 #[tactic(auto, using(crate::proofs::HunkLemmas::shown_at, crate::proofs::HunkLemmas::hidden_at))]
 fn push_at(
     out: &mut Vec<u8>,

@@ -1,8 +1,8 @@
-//! What follows from the definitions.
+//! Consequences of the definitions.
 ghost use Rattle.yf_diff.specs.Applied.{ScriptsApply};
 
-/// What is written of a script, with its lines of context, gives the new text where it is applied to the old one: no
-/// change is left out, and the numbers tell where each hunk is.
+/// The written hunks of a script, applied to the old text, give the new text: no change is left out, and the numbers
+/// locate each hunk.
 pub fn scripts_apply()
     ensures { ScriptsApply }
 {}

@@ -1,7 +1,7 @@
 //! Unified diffs of two texts, with three lines of context.
 //!
-//! What is written is the notation of an edit script that leads from the lines of the one text to those of the other.
-//! So it gives the new text where it is applied to the old one, whatever script was chosen.
+//! The output is the notation of an edit script from the lines of the old text to those of the new one. So, applied to
+//! the old text, it gives the new text, whichever script was chosen.
 #![tactic(auto)]
 
 pub mod diff;

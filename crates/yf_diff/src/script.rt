@@ -10,7 +10,7 @@ use crate::single_lines::Indices;
 use crate::step::Step;
 use std::alloc::{AllocError, Global};
 
-/// Whether both texts have the same line there.
+/// Returns whether both texts have equal lines there.
 fn is_common(old: &[HashedLine<'_>], i: usize, new: &[HashedLine<'_>], j: usize) -> bool
     ensures { IsTrue result → IsCommon old.now i new.now j }
 {
@@ -23,8 +23,8 @@ fn is_common(old: &[HashedLine<'_>], i: usize, new: &[HashedLine<'_>], j: usize)
     old[i].hash() == new[j].hash() && old[i].text() == new[j].text()
 }
 
-/// What becomes of the lines at which both texts are, one of them before its end: whether they are the same, and whether
-/// the old one goes before a new one comes.
+/// Decides about the next lines of both texts, one of which hasn't ended. `is_same` says whether they are equal, and
+/// `goes` whether to drop the old line before adding the new one.
 fn fate(
     is_same: bool,
     goes: bool,
@@ -54,7 +54,7 @@ fn fate(
     Fate::Added
 }
 
-/// Adds steps by which the lines of the new text from one index up to another come.
+/// Adds steps that add the lines of the new text from `from` to `to`.
 fn push_added<'a>(
     steps: &mut Vec<Step<'a>>,
     new: &[HashedLine<'a>],
@@ -75,8 +75,8 @@ fn push_added<'a>(
     Ok(())
 }
 
-/// A script that leads from the lines of one text to those of another. Between two lines that stay, lines go before others
-/// come.
+/// Returns a script from the lines of one text to those of another. Between two kept lines, dropped lines come before
+/// added ones.
 pub fn script<'a>(
     alloc: Global,
     old: &[HashedLine<'a>],

@@ -1,16 +1,16 @@
-//! The search for lines that two texts have in common. Nothing is promised of it.
+//! The search for lines that two texts have in common. No contract depends on it.
 
 use crate::guide::Guide;
 use crate::hashed_line::HashedLine;
 use crate::single_lines::{Indices, single_lines};
 use std::alloc::{AllocError, Global};
 
-/// How the search is.
+/// The state of the search.
 #[derive(Drop)]
 pub struct Search {
-    /// The lines to be kept that are still ahead, the next one last.
+    /// The lines to be kept that are still ahead; the next one is last.
     ahead: Vec<Indices>,
-    /// Where both texts end.
+    /// The ends of both texts.
     ends: Indices,
     guide: Guide,
 }
@@ -31,7 +31,7 @@ impl Search {
         })
     }
 
-    /// The next line to be kept from a place on, or else where both texts end.
+    /// Returns the next line to be kept at or after `place`, or else the ends of both texts.
     fn next(&mut self, place: Indices) -> Indices {
         for _ in 0..self.ahead.len() {
             if let Some(line) = self.ahead.last() {
@@ -44,7 +44,7 @@ impl Search {
         self.ends
     }
 
-    /// Whether the line of the old text at a place goes next, and not one of the new text comes.
+    /// Returns whether to drop the line of the old text at `place` before adding one of the new text.
     pub fn drops(
         &mut self,
         alloc: Global,

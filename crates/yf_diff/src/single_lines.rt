@@ -1,17 +1,16 @@
-//! Lines that occur once in each of two texts, by which the search for common lines keeps its way. Nothing is promised of
-//! them.
+//! Lines that occur once in each of two texts, which guide the search for common lines. No contract depends on them.
 
 use crate::hashed_line::HashedLine;
 use std::alloc::{AllocError, Global};
 
-/// A place in both texts: the indices of the lines that begin there.
+/// Indices of a line in each of two texts.
 #[derive(Clone, Copy)]
 pub struct Indices {
     pub old: usize,
     pub new: usize,
 }
 
-/// A line by its hash, and where it is in which text.
+/// The hash of a line, its index, and whether it is in the old text.
 #[derive(Clone, Copy)]
 struct LineMark {
     hash: u64,
@@ -43,7 +42,7 @@ fn push_marks(
     Ok(())
 }
 
-/// Whether there is no mark of that number with that hash.
+/// Returns whether the mark with the number is missing or has another hash.
 fn lacks(marks: &[LineMark], number: usize, hash: u64) -> bool {
     match marks.get(number) {
         Some(mark) => mark.hash != hash,
@@ -51,7 +50,8 @@ fn lacks(marks: &[LineMark], number: usize, hash: u64) -> bool {
     }
 }
 
-/// The lines that occur once in each text, of marks by rising hash, those of the old text before others.
+/// Returns the lines that occur once in each text. The marks are in order of their hashes; of equal hashes, those of
+/// the old text come first.
 fn pairs(alloc: Global, marks: &[LineMark]) -> Result<Vec<Indices>, AllocError> {
     let mut pairs = Vec::new(alloc);
     for number in 1..marks.len() {
@@ -69,7 +69,7 @@ fn pairs(alloc: Global, marks: &[LineMark]) -> Result<Vec<Indices>, AllocError> 
     Ok(pairs)
 }
 
-/// A longest run of the pairs that goes up in the new text too, the last one first.
+/// Returns a longest run of the pairs that rises in the new text too, the last pair first.
 fn rising(alloc: Global, pairs: &[Indices]) -> Result<Vec<Indices>, AllocError> {
     let mut ends: Vec<RunEnd> = Vec::new(alloc);
     let mut before: Vec<usize> = Vec::new(alloc);
@@ -88,7 +88,8 @@ fn rising(alloc: Global, pairs: &[Indices]) -> Result<Vec<Indices>, AllocError> 
     run_back(alloc, pairs, &before, number_before(&ends, ends.len()))
 }
 
-/// The number of the pair that ends the run before that of a rank. No pair has the number that is answered where there is no such run.
+/// Returns the number of the pair that ends the run of the rank below, or a number that no pair has if no such run
+/// exists.
 fn number_before(ends: &[RunEnd], rank: usize) -> usize {
     if rank == 0 {
         return usize::MAX;
@@ -99,7 +100,7 @@ fn number_before(ends: &[RunEnd], rank: usize) -> usize {
     }
 }
 
-/// The pairs from one number on, each followed by the one before it in its run.
+/// Returns the pairs of a run, from the last one back to the first.
 fn run_back(
     alloc: Global,
     pairs: &[Indices],
@@ -121,7 +122,7 @@ fn run_back(
     Ok(run)
 }
 
-/// The lines that occur once in each text, as many as go up in both; the last one first.
+/// Returns a longest list of lines that occur once in each text and rise in both, the last one first.
 pub fn single_lines(
     alloc: Global,
     old: &[HashedLine<'_>],

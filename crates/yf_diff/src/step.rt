@@ -7,7 +7,7 @@ ghost use Rattle.yf_diff.specs.Unified.{line_of, sign_of};
 use crate::fate::Fate;
 use std::marker::Model;
 
-/// A step of an edit script: a line, which has its line feed with it, and what becomes of it.
+/// A step of an edit script: a line with its line feed, and what the edit does with it.
 #[derive(Drop)]
 pub struct Step<'a> {
     fate: Fate,
@@ -40,7 +40,7 @@ impl<'a> Step<'a> {
         }
     }
 
-    /// How many lines of the old text the step has: one or none.
+    /// Returns the number of lines of the old text in the step: one or none.
     pub fn old_count(&self) -> usize
         ensures count { result ≡ length (old_part self.now) }
         ensures bound { result ≤ 1 }
@@ -52,7 +52,7 @@ impl<'a> Step<'a> {
         }
     }
 
-    /// How many lines of the new text the step has: one or none.
+    /// Returns the number of lines of the new text in the step: one or none.
     pub fn new_count(&self) -> usize
         ensures count { result ≡ length (new_part self.now) }
         ensures bound { result ≤ 1 }
@@ -64,7 +64,7 @@ impl<'a> Step<'a> {
         }
     }
 
-    /// The sign that is before the line in a unified diff.
+    /// Returns the sign before the line in a unified diff.
     pub fn sign(&self) -> u8
         ensures { result ≡ sign_of self.now }
     {

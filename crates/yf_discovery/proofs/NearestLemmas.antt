@@ -1,4 +1,4 @@
--- How far the search for a settings file has come.
+-- The progress of the search for a settings file.
 use Rattle.std.proofs.Common.{◌≡◌, ◌⊎◌, ℕ, suc, ◌+◌, ◌<◌, ◌≤◌, List, ◌++◌, inl, inr, refl, sym, subst, ◌∙◌, add-one, arith}
 use Rattle.std.proofs.lemmas.Bool.{cases_lt}
 use Rattle.std.specs.Prelude.{codes}
@@ -8,7 +8,7 @@ use Rattle.yf_discovery.specs.declared.nearest.Discovery.TheVariants as discover
 use Rattle.yf_discovery.specs.Nearest.{Looks, Passes, EndsIn, PassesFirst, IsNearest, folder}
 use Rattle.yf_discovery.specs.Nearest.IsNearest.{ends, passes_all}
 
--- what a name shows, by the text of the name
+-- the kind of thing with a name, by the text of the name
 pub shown_at : (Shows : Looks) (said own name : List ℕ) (t : There) → said ≡ own → own ≡ name → Shows said t
     → Shows name t
 shown_at Shows said own name t is same shown = subst (λ n. Shows n t) (is ∙ same) shown

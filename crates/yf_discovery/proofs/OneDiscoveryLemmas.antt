@@ -1,4 +1,4 @@
--- The folders decide what is found.
+-- The folders decide the result.
 use Rattle.std.proofs.Common.{◌≡◌, ◌⊎◌, ℕ, suc, ◌<◌, ◌≤◌, List, Option, Some, None, inl, inr, refl, sym, subst, ap, ◌∙◌, arith}
 use Rattle.std.proofs.lemmas.Bool.{cases_order}
 use Rattle.std.proofs.lemmas.Option.{same_Some}
@@ -8,7 +8,7 @@ use Rattle.yf_discovery.specs.declared.nearest.Discovery.{Discovery}
 use Rattle.yf_discovery.specs.declared.nearest.Discovery.TheVariants as discovery
 use Rattle.yf_discovery.specs.Nearest.{Looks, Passes, EndsIn, has_settings, is_folder, is_unknown, is_top, may_be_top, PassesFirst, IsNearest, ends, passes_all, folder, settings_in, repository_in}
 
--- what the search finds in a folder, by what its two names show, if it ends there
+-- the result of the search in a folder, by its two names, if the search ends there
 abbrev ending : There → There → List ℕ → Option Discovery
 ending File r at = Some (discovery.Settings (settings_in at))
 ending Folder r at = Some (discovery.Fault (settings_in at))

@@ -1,12 +1,12 @@
--- Which settings file is the nearest one at or above the current folder.
--- (Shows: what a look at a name may show; above: the number of folders above the current one)
+-- The nearest settings file at or above the current folder.
+-- (Shows: the possible results of a look at a name; above: the number of folders above the current one)
 use Rattle.std.specs.Prelude.{◌≡◌, ◌⊎◌, ℕ, zero, suc, ◌<◌, ◌≤◌, List, [], ◌++◌, codes}
 use Rattle.yf_discovery.specs.declared.folders.There.{There}
 use Rattle.yf_discovery.specs.declared.folders.There.TheVariants as there
 use Rattle.yf_discovery.specs.declared.nearest.Discovery.{Discovery}
 use Rattle.yf_discovery.specs.declared.nearest.Discovery.TheVariants as discovery
 
--- what a look at a name may show
+-- the possible results of a look at a name
 abbrev pub Looks : Type 1
 Looks = List ℕ → There → Type 0
 
@@ -15,7 +15,7 @@ abbrev pub folder : ℕ → List ℕ
 folder zero = []
 folder (suc k) = folder k ++ codes "../"
 
--- the settings file of a folder, and what marks the top of a work tree
+-- the settings file of a folder, and the mark of the top of a work tree
 abbrev pub settings_in : List ℕ → List ℕ
 settings_in at = at ++ codes ".yamlfmt.toml"
 
@@ -31,7 +31,7 @@ pub record Passes (Shows : Looks) (at : List ℕ) : Type 0 where
 pub data EndsIn (Shows : Looks) (at : List ℕ) (d : Discovery) : Type 0 where
   -- the folder has a settings file
   has_settings : Shows (settings_in at) there.File → d ≡ discovery.Settings (settings_in at) → EndsIn Shows at d
-  -- what has the name of a settings file is a folder
+  -- a folder has the name of a settings file
   is_folder : Shows (settings_in at) there.Folder → d ≡ discovery.Fault (settings_in at) → EndsIn Shows at d
   -- there may be a settings file
   is_unknown : Shows (settings_in at) there.Unknown → d ≡ discovery.Fault (settings_in at) → EndsIn Shows at d

@@ -4,12 +4,12 @@ ghost use Rattle.yf_discovery.specs.declared.folders.There.{There};
 
 use std::alloc::{AllocError, Global};
 
-/// What is at a name.
+/// The kind of thing with a name.
 #[derive(Clone, Copy, Drop)]
 pub enum There {
     /// Nothing.
     Nothing,
-    /// A file, or anything else that is no folder.
+    /// A file, or anything else that is not a folder.
     File,
     /// A folder.
     Folder,
@@ -19,13 +19,13 @@ pub enum There {
 
 /// The current folder and those above it.
 pub trait Folders {
-    /// What a look at a name may show. The name is relative to the current folder.
+    /// The possible results of a look at a name. The name is relative to the current folder.
     ghost shows: { Self → List ℕ → There → Type 0 };
 
-    /// What the path of the current folder may be, if it is known.
+    /// The possible paths of the current folder, if it is known.
     ghost current: { Self → Option (List ℕ) → Type 0 };
 
-    /// Returns what is at a name. A symbolic link counts as what it leads to.
+    /// Returns the kind of thing with a name. A symbolic link counts as its target.
     fn look(&self, name: &str) -> There
         ensures { shows self.now name.now result };
 

@@ -1,4 +1,4 @@
-//! Which settings file a run takes if the command line names none: the nearest one at or above the current folder. The
+//! The settings file of a run if the command line names none: the nearest one at or above the current folder. The
 //! caller looks at the file system.
 #![tactic(auto)]
 

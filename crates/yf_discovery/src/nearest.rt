@@ -15,14 +15,14 @@ pub const REPOSITORY_NAME: &str = ".git";
 /// The way from a folder to the one above it.
 const ABOVE: &str = "../";
 
-/// What the search for a settings file finds.
+/// The result of the search for a settings file.
 #[derive(Drop)]
 pub enum Discovery {
     /// The settings file of this name. The name is relative to the current folder, as `../.yamlfmt.toml`.
     Settings(OwnedText),
     /// No settings file.
     Nothing,
-    /// What is at this name decides, and it is no file or can't be looked at.
+    /// The thing with this name decides, and it is not a file or can't be looked at.
     Fault(OwnedText),
 }
 
@@ -55,7 +55,7 @@ pub fn nearest_settings<F: Folders>(
     }
 }
 
-// Looks into a folder, whose name is empty or ends with a slash. Returns what the search finds if it ends there.
+// Looks into a folder, whose name is empty or ends with a slash. Returns the result if the search ends there.
 fn look_in<F: Folders>(
     alloc: Global,
     folders: &F,

@@ -40,13 +40,13 @@ members_end (class_goes_on never _ _) (class_ends closing _) = absurd (never clo
 members_end {t} {start} {k = k} (class_goes_on _ a rest) (class_goes_on {rs = ss} _ b other) =
     members_end rest (subst (λ z. MembersAt t start z ss k) (sym (member_end a b)) other)
 
--- what is read from there on, if anything is
+-- the rest of the class from an offset on, if it can be read
 pub record ReadOn (t : List ℕ) (start i : ℕ) : Type 0 where
   pub ranges : List ByteRange
   pub end : ℕ
   pub read : MembersAt t start i ranges end
 
--- how far the members are read
+-- the members read so far
 pub record MembersSoFar (t : List ℕ) (start : ℕ) (ranges : List ByteRange) (i : ℕ) : Type 0 where
   pub moved : start ≤ i
   pub forth : (rs : List ByteRange) (j : ℕ) → MembersAt t start i rs j → MembersAt t start start (ranges ++ rs) j

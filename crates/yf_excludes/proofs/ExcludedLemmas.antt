@@ -58,7 +58,7 @@ pub none_from : {path : List Lent} {f : Bool} (k : ℕ) (p : Pattern) (ps : List
 none_from {path} {f} k p ps below at never none = subst (λ z. NoneMatches path f z)
     (sym (drop_next ps k p below at)) (and_not never none)
 
--- the loop from the last pattern on, of which n were looked at
+-- the loop from the last pattern on, after n patterns
 pub none_past : (path : List Lent) (f : Bool) (ps : List Pattern) → NoneMatches path f (drop (length ps - 0) ps)
 none_past path f ps = let e : drop (length ps - 0) ps ≡ [] = drop_all (length ps - 0) ps (omega arith) in subst
     (λ z. NoneMatches path f z) (sym e) no_pattern

@@ -45,7 +45,7 @@ folder_one : (path : List ℕ) (folder other : List (List ℕ)) → LeadsToFile 
 folder_one path folder other l r =
     (same_from_push folder other l.own r.own (same_Some _ _ (leads_one l.leads r.leads))).0
 
--- a path that leads to nothing, or to no name, is that of no file in a folder
+-- a path that leads to nothing, or to no name, is not that of a file in a folder
 pub no_folder : (path : List ℕ) (o : Option (List (List ℕ))) → Leads [] path o → o ≡ None → IsNoFolder path
 no_folder path o leads none folder l = none_some (sym none ∙ leads_one leads l.leads)
 
@@ -113,7 +113,7 @@ module _ (folder file : List Lent) where
       get_or_append_left (texts folder) path [] k (omega (arith, count, within)) in
       differ (sym left ∙ sym front ∙ ap (λ x. get_or x k []) (sym same) ∙ right)
 
--- what is excluded, and what isn't
+-- excluded files, and others
 module _ (patterns : List Pattern) (current settings file : List ℕ) where
   excludes_not : ¬ (ExcludesFile patterns current settings file)
       → IsTrue false ↔ ExcludesFile patterns current settings file

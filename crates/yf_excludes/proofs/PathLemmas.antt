@@ -4,11 +4,11 @@ use Rattle.yf_excludes.specs.Paths.{Lent}
 use Rattle.yf_excludes.specs.Segments.{is_slash}
 use Rattle.yf_excludes.specs.Names.{Leads, last_part, more_parts, out, after_part, texts}
 
--- what the rest leads to, the path leads to
+-- from these names, the rest leads to the names of the path
 abbrev pub LeadsAs : List Lent → List ℕ → List ℕ → Type 0
 LeadsAs names rest path = (o : Option (List (List ℕ))) → Leads (texts names) rest o → Leads [] path o
 
--- what `take_part` says
+-- the result of `take_part`
 abbrev pub Takes : Bool → List Lent → List ℕ → List Lent → Type 0
 Takes inside names part new = MatchBool inside (after_part (texts names) part ≡ Some (texts new))
     (after_part (texts names) part ≡ None)

@@ -1,4 +1,4 @@
--- Lists of patterns, as far as they are read.
+-- Lists of patterns that are read one after another.
 use Rattle.std.proofs.Common.{◌≡◌, ℕ, zero, suc, ◌+◌, ◌<◌, List, [], ◌∷◌, ◌++◌, length, drop, get_or, sym, subst, arith, append_assoc}
 use Rattle.std.proofs.lemmas.List.{append-nil, drop_all, get_or_default}
 use Rattle.yf_excludes.specs.declared.pattern.Pattern.{Pattern}
@@ -42,7 +42,7 @@ patterns_bad {ts} {ps} {n} t s below is never =
     subst (λ z. FirstBad ts z) e (s.bad 0 (subst (λ z. FirstBad z 0) (sym (drop_next ts n t below is))
     (bad_here never)))
 
--- the same, of the element at an index with any default
+-- that list, by the element at an index with any default
 pub patterns_more_at : {ts : List Lent} {ps after : List Pattern} {n : ℕ} (d : Lent) {p : Pattern}
     → PatternsSoFar ts ps n → n < length ts
     → PatternOf (get_or ts n d).now p → after ≡ ps ++ p ∷ [] → PatternsSoFar ts after (n + 1)

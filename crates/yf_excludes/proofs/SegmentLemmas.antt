@@ -24,12 +24,12 @@ atom_end (class_atom _ at _ _) (simple_atom _ other _ _ _) = absurd (other at)
 atom_end (escaped_atom _ at _ _) (class_atom _ is _ _) = absurd (omega arith)
 atom_end (class_atom _ is _ _) (escaped_atom _ at _ _) = absurd (omega arith)
 
--- what is read from there on, if anything is
+-- the rest of the segment from an offset on, if it can be read
 pub record AtomsOn (t : List ℕ) (i : ℕ) : Type 0 where
   pub atoms : List Atom
   pub read : AtomsFrom t i atoms
 
--- how far the atoms are read
+-- the atoms read so far
 pub record AtomsSoFar (t : List ℕ) (atoms : List Atom) (i : ℕ) : Type 0 where
   pub within : i ≤ length t
   pub forth : (more : List Atom) → AtomsFrom t i more → AtomsFrom t 0 (atoms ++ more)

@@ -1,4 +1,4 @@
--- What pieces take from some item on, and what the pieces before a run say of it.
+-- Pieces from some item on, and the result of the pieces before a run.
 use Rattle.std.proofs.Common.{◌≡◌, ℕ, zero, suc, ◌+◌, ◌<◌, ◌≤◌, Bool, true, false, List, [], ◌∷◌, length, drop, get_or, refl, sym, subst, ap, ◌∙◌, arith, add-one}
 use Rattle.std.proofs.Math.Seq.{drop-cons}
 use Rattle.std.proofs.lemmas.List.{drop_all, length-drop}
@@ -7,13 +7,13 @@ use Rattle.yf_excludes.specs.Spans.{Spans, no_piece, piece_takes_item, run_ends,
 apart : {b : Bool} → b ≡ true → b ≡ false → ⊥
 apart t f = cc
 
--- the element at an index, and what follows it
+-- the element at an index, and the elements after it
 pub drop_next : {A : Type 0} (ps : List A) (n : ℕ) (a : A) → n < length ps → a ≡ get_or ps n a
     → drop n ps ≡ a ∷ drop (n + 1) ps
 drop_next ps n a below is =
     rw add-one (drop-cons ps n a below ∙ ap (λ z. z ∷ drop (suc n) ps) (sym is))
 
--- n items after the first n pieces, which are no runs
+-- n items after the first n pieces, which are not runs
 pub after_fixed : {A B : Type 0} {is_run : A → Bool} {Takes : A → B → Type 0} {n : ℕ} {ps : List A} {xs : List B}
     → NoRuns is_run n ps → Spans is_run Takes ps xs → Spans is_run Takes (drop n ps) (drop n xs)
 after_fixed no_more s = s
@@ -26,7 +26,7 @@ pub more_fixed : {A : Type 0} {is_run : A → Bool} {n : ℕ} {ps qs : List A} {
 more_fixed {is_run = is_run} no_more e f = subst (λ z. NoRuns is_run 1 z) (sym e) (one_more f no_more)
 more_fixed (one_more g r) e f = one_more g (more_fixed r e f)
 
--- a run and what follows it
+-- a run and the pieces after it
 pub after_run : {A B : Type 0} {is_run : A → Bool} {Takes : A → B → Type 0} {a : A} {ps : List A} {xs : List B}
     → is_run a ≡ true → Spans is_run Takes (a ∷ ps) xs → Within is_run Takes ps xs
 after_run t (piece_takes_item f _ _) = absurd (apart t f)
@@ -46,7 +46,7 @@ one_back (suc zero) b [] w = w
 one_back (suc (suc n)) b [] w = w
 one_back (suc n) b (c ∷ xs) w = one_back n c xs w
 
--- from some item on: then what follows the run does so too
+-- from some item on, the pieces after the run take the rest too
 pub past_run : {A B : Type 0} {is_run : A → Bool} {Takes : A → B → Type 0} {n : ℕ} {a : A} {ps : List A} {xs : List B}
     → NoRuns is_run n ps → drop n ps ≡ a ∷ drop (n + 1) ps → is_run a ≡ true → Within is_run Takes ps xs
     → Within is_run Takes (drop (n + 1) ps) (drop n xs)
@@ -54,7 +54,7 @@ past_run {is_run = is_run} {Takes = Takes} {n = n} {xs = xs} fixed next t (from_
     after_run t (subst (λ z. Spans is_run Takes z (drop n xs)) next (after_fixed fixed s))
 past_run {n = n} fixed next t (from_further {b} {xs} w) = one_back n b xs (past_run fixed next t w)
 
--- the pieces take the items exactly if those after the run take the items from some item on
+-- the pieces take the items if and only if those after the run take the items from some item on
 pub run_spans : {A B : Type 0} {is_run : A → Bool} {Takes : A → B → Type 0} {n : ℕ} {ps : List A} {xs : List B}
     → ReachesRun is_run Takes ps xs n → Within is_run Takes (drop (n + 1) ps) (drop n xs) → Spans is_run Takes ps xs
 run_spans {is_run = is_run} {Takes = Takes} {n = n} {xs = xs} r w =
@@ -107,7 +107,7 @@ pub reaches_run : {A B : Type 0} {is_run : A → Bool} {Takes : A → B → Type
 reaches_run {n = n} {a = a} {ps = ps} r below is t =
     record { reached = r; below = below; run = a; next = drop_next ps n a below is; runs = t }
 
--- never list of items is shorter than the pieces that are no runs, or longer than the pieces
+-- a piece that is not a run takes an item, and no item is left without a piece
 left_none : {A B : Type 0} {is_run : A → Bool} {Takes : A → B → Type 0} {a : A} {ps : List A}
     → is_run a ≡ false → Spans is_run Takes (a ∷ ps) [] → ⊥
 left_none f (run_ends t _) = apart t f
@@ -162,7 +162,7 @@ too_many {is_run = is_run} {Takes = Takes} {n = n} {ps = ps} {xs = xs} r last ot
     let short : n ≤ length xs = r.items in
     other (omega (arith, length-drop n xs))
 
--- the same, of lists that are what follows
+-- the pieces after a run, as other lists equal to the rest
 pub run_forth : {A B : Type 0} {is_run : A → Bool} {Takes : A → B → Type 0} {n : ℕ} {ps qs : List A} {xs ys : List B}
     → ReachesRun is_run Takes ps xs n → qs ≡ drop (n + 1) ps → ys ≡ drop n xs → Within is_run Takes ps xs
     → Within is_run Takes qs ys

@@ -1,4 +1,4 @@
--- Which bytes an atom takes.
+-- The bytes that an atom takes.
 use Rattle.std.specs.Prelude.{◌≡◌, ℕ, ◌≤◌, Bool, true, false, Any, MatchBool}
 use Rattle.yf_excludes.specs.declared.atom.ByteRange.{ByteRange}
 use Rattle.yf_excludes.specs.declared.atom.Class.{Class}
@@ -18,7 +18,7 @@ atom_is_run (Byte _) = false
 atom_is_run AnyByte = false
 atom_is_run (OneOf _) = false
 
--- the bytes that an atom takes, if it is no run
+-- the bytes that an atom takes; a run takes none
 abbrev pub AtomTakes : Atom → ℕ → Type 0
 AtomTakes AnyRun c = ⊥
 AtomTakes (Byte b) c = b ≡ c

@@ -1,4 +1,4 @@
--- How a class is read, from the offset after its `[`. What is read is a part of the text from one offset to another.
+-- Reading a class, from the offset after its `[`, as relations between two offsets of the text.
 use Rattle.std.specs.Prelude.{◌≡◌, ◌≢◌, ℕ, ◌+◌, ◌<◌, Bool, ◌==◌, ◌||◌, if◌then◌else◌, List, [], ◌∷◌, length, slice_index}
 use Rattle.yf_excludes.specs.Signs.{EXCLAMATION, DASH, COLON, LEFT_BRACKET, BACKSLASH, RIGHT_BRACKET, CARET}
 use Rattle.yf_excludes.specs.declared.atom.ByteRange.{ByteRange}
@@ -14,7 +14,7 @@ pub data ClassByte (t : List ℕ) (i b j : ℕ) : Type 0 where
   escaped_byte : i + 1 < length t → slice_index t i ≡ BACKSLASH → slice_index t (i + 1) ≡ b → j ≡ i + 2
       → ClassByte t i b j
 
--- a `-` between the ends of a range: one that the class doesn't end after
+-- a `-` between the ends of a range, which a byte other than `]` follows
 abbrev pub IsRangeSign : List ℕ → ℕ → Type 0
 IsRangeSign t i = (i + 1 < length t) × (slice_index t i ≡ DASH) × (slice_index t (i + 1) ≢ RIGHT_BRACKET)
 
@@ -33,7 +33,7 @@ pub data MembersAt (t : List ℕ) (start : ℕ) : ℕ → List ByteRange → ℕ
   class_goes_on : {i h j : ℕ} {r : ByteRange} {rs : List ByteRange}
       → ¬ (Closes t start i) → MemberAt t i r h → MembersAt t start h rs j → MembersAt t start i (r ∷ rs) j
 
--- no `]` ends the class, or something in it is no member
+-- no `]` ends the class, or some part of it is not a member
 abbrev pub NoMembers : List ℕ → ℕ → Type 0
 NoMembers t start = (rs : List ByteRange) (j : ℕ) → ¬ (MembersAt t start start rs j)
 

@@ -1,4 +1,4 @@
--- Which paths a list of patterns excludes.
+-- The paths that a list of patterns excludes.
 use Rattle.std.specs.Prelude.{◌≡◌, ℕ, ◌+◌, ◌<◌, ◌≤◌, Bool, false, List, [], ◌∷◌, length, take, nat_lt}
 use Rattle.yf_excludes.specs.declared.pattern.Pattern.{Pattern}
 use Rattle.yf_excludes.specs.Paths.{Lent, Matches}

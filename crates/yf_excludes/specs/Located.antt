@@ -1,5 +1,5 @@
--- Which files a settings file excludes, by the names of both. A name is relative to the current folder, or begins with
--- a slash.
+-- The files that a settings file excludes, by the names of both. A name is relative to the current folder, or begins
+-- with a slash.
 use Rattle.std.specs.Prelude.{◌≡◌, ℕ, List, [], ◌∷◌, ◌++◌, Some, if◌then◌else◌}
 use Rattle.yf_excludes.specs.declared.pattern.Pattern.{Pattern}
 use Rattle.yf_excludes.specs.Signs.{SLASH}
@@ -17,7 +17,7 @@ pub record LeadsToFile (path : List ℕ) (folder : List (List ℕ)) : Type 0 whe
   pub own : List ℕ
   pub leads : Leads [] path (Some (folder ++ own ∷ []))
 
--- the path is that of no file in a folder
+-- the path is not that of a file in a folder
 abbrev pub IsNoFolder : List ℕ → Type 0
 IsNoFolder path = (folder : List (List ℕ)) → ¬ (LeadsToFile path folder)
 

@@ -16,7 +16,7 @@ is_dots (a ∷ []) = false
 is_dots (a ∷ b ∷ []) = (a == DOT) && (b == DOT)
 is_dots (a ∷ b ∷ c ∷ cs) = false
 
--- the names without the last one, of which there has to be one
+-- the names without the last one; none if there is no name
 abbrev pub above : List (List ℕ) → Option (List (List ℕ))
 above [] = None
 above (n ∷ ns) = Some (take (length ns) (n ∷ ns))
@@ -25,8 +25,7 @@ above (n ∷ ns) = Some (take (length ns) (n ∷ ns))
 abbrev pub after_part : List (List ℕ) → List ℕ → Option (List (List ℕ))
 after_part names p = if is_nothing p then Some names else (if is_dots p then above names else Some (names ++ p ∷ []))
 
--- what the parts of a text, between slashes, lead to from these names on: the names of a path, or out of the first
--- folder
+-- the names of the parts of a text, between slashes, after these names, or none if `..` leads out of the first folder
 pub data Leads : List (List ℕ) → List ℕ → Option (List (List ℕ)) → Type 0 where
   last_part : {names : List (List ℕ)} {t : List ℕ} {o : Option (List (List ℕ))}
       → position is_slash t ≡ None → o ≡ after_part names t → Leads names t o

@@ -1,4 +1,4 @@
--- However a text is read as a pattern, it matches the same paths and does the same to them.
+-- All readings of a text as a pattern match the same paths, with the same effect.
 use Rattle.std.specs.Prelude.{◌≡◌, ℕ, Bool, List}
 use Rattle.yf_excludes.specs.declared.pattern.Pattern.{Pattern}
 use Rattle.yf_excludes.specs.Paths.{Lent, Matches}

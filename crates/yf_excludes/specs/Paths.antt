@@ -1,4 +1,4 @@
--- Which paths a pattern matches. A path is the list of its names.
+-- The paths that a pattern matches. A path is the list of its names.
 use Rattle.std.specs.Prelude.{ℕ, Bool, true, false, List, IsTrue}
 use Rattle.std.specs.Borrow.{Bor}
 use Rattle.yf_excludes.specs.declared.pattern.Segment.{Segment}

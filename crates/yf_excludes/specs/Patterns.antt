@@ -10,7 +10,7 @@ pub data ArePatterns : List Lent → List Pattern → Type 0 where
   one_text : {t : Lent} {p : Pattern} {ts : List Lent} {ps : List Pattern} → PatternOf t.now p → ArePatterns ts ps
       → ArePatterns (t ∷ ts) (p ∷ ps)
 
--- the first text that is no pattern, counted from 0
+-- the first text that is not a pattern, counted from 0
 pub data FirstBad : List Lent → ℕ → Type 0 where
   bad_here : {t : Lent} {ts : List Lent} → ((p : Pattern) → ¬ (PatternOf t.now p)) → FirstBad (t ∷ ts) zero
   bad_later : {t : Lent} {p : Pattern} {ts : List Lent} {n : ℕ} → PatternOf t.now p → FirstBad ts n

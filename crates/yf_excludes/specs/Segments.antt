@@ -78,7 +78,7 @@ pub record PatternOf (t : List ℕ) (p : Pattern) : Type 0 where
   pub segments : p.segments.items
       ≡ (if is_some (position is_slash (without_last SLASH (without_first EXCLAMATION t))) then own else AnyDepth ∷ own)
 
--- what is added to a list of segments
+-- the segments that are added to a list of segments
 pub record Adds (t : List ℕ) (old new : List Segment) : Type 0 where
   pub own : List Segment
   pub read : SegmentsOf t own

@@ -18,12 +18,12 @@ pub data Within {A B : Type 0} (is_run : A → Bool) (Takes : A → B → Type 0
   from_here : {xs : List B} → Spans is_run Takes ps xs → Within is_run Takes ps xs
   from_further : {b : B} {xs : List B} → Within is_run Takes ps xs → Within is_run Takes ps (b ∷ xs)
 
--- the first n pieces are no runs
+-- the first n pieces are not runs
 pub data NoRuns {A : Type 0} (is_run : A → Bool) : ℕ → List A → Type 0 where
   no_more : {ps : List A} → NoRuns is_run zero ps
   one_more : {n : ℕ} {a : A} {ps : List A} → is_run a ≡ false → NoRuns is_run n ps → NoRuns is_run (suc n) (a ∷ ps)
 
--- the first n pieces are no runs and take the first n items
+-- the first n pieces are not runs and take the first n items
 pub record Reaches {A B : Type 0} (is_run : A → Bool) (Takes : A → B → Type 0) (ps : List A) (xs : List B) (n : ℕ)
     : Type 0 where
   pub pieces : n ≤ length ps
@@ -40,7 +40,7 @@ pub record ReachesRun {A B : Type 0} (is_run : A → Bool) (Takes : A → B → 
   pub next : drop n ps ≡ run ∷ drop (n + 1) ps
   pub runs : is_run run ≡ true
 
--- what the pieces before the first run do
+-- the result of the pieces before the first run
 abbrev pub FrontIs : {A B : Type 0} → (A → Bool) → (A → B → Type 0) → List A → List B → Front → Type 0
 FrontIs is_run Takes ps xs (Run n) = ReachesRun is_run Takes ps xs n
 FrontIs is_run Takes ps xs Whole = Spans is_run Takes ps xs

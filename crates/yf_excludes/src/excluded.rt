@@ -1,11 +1,11 @@
-//! Which paths a list of patterns excludes.
+//! The paths that a list of patterns excludes.
 ghost use Rattle.std.specs.Prelude.{◌↔◌, IsTrue};
 ghost use Rattle.yf_excludes.specs.Excluded.{Excludes, IsExcluded};
 
 use crate::parts::up_to;
 use crate::pattern::Pattern;
 
-/// Returns whether the patterns exclude a file. The last pattern that matches its path decides. What is below an
+/// Returns whether the patterns exclude a file. The last pattern that matches its path decides. Everything below an
 /// excluded folder is excluded too: as in Git, no pattern includes it again.
 ///
 /// The path is given by its names, from the settings file's folder to the file.

@@ -1,4 +1,4 @@
-//! Which files a list of patterns excludes, by the rules of gitignore(5): patterns, their meaning, and paths.
+//! The files that a list of patterns excludes, by the rules of gitignore(5): patterns, their meaning, and paths.
 #![tactic(auto)]
 
 pub mod atom;

@@ -1,4 +1,4 @@
-//! Which files a settings file excludes, by the names of both.
+//! The files that a settings file excludes, by the names of both.
 ghost use Rattle.std.specs.Prelude.{◌≡◌, ◌↔◌, ◌∷◌, ◌++◌, [], ℕ, IfOk, IsTrue, List, MatchOption, Some};
 ghost use Rattle.yf_excludes.specs.Located.{ExcludesFile, IsNoFolder, LeadsToFile, from_root};
 ghost use Rattle.yf_excludes.specs.Names.{texts};

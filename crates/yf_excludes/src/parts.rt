@@ -18,7 +18,7 @@ pub fn after_index<T>(list: &[T], index: usize) -> &[T]
     &list[index + 1..]
 }
 
-/// Returns the first elements, that many.
+/// Returns the first `count` elements.
 pub fn up_to<T>(list: &[T], count: usize) -> &[T]
     requires { count ≤ length list.now }
     ensures { result.now ≡ take count list.now }

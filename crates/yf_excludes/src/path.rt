@@ -50,9 +50,8 @@ pub fn normalised<'a>(alloc: Global, path: &'a [u8]) -> Result<Option<Vec<&'a [u
     names_led(alloc, path)
 }
 
-/// Returns the names to which the parts of a path lead, one after the other. `.` and a slash after another one count
-/// for nothing, also at the beginning, and `..` takes back the name before it. Returns `None` if `..` takes back a name
-/// and there is none.
+/// Returns the names to which the parts of a path lead, one after the other. `.` and empty parts have no effect, also
+/// at the beginning, and `..` removes the name before it. Returns `None` if `..` has no name before it.
 pub fn names_led<'a>(alloc: Global, path: &'a [u8]) -> Result<Option<Vec<&'a [u8]>>, AllocError>
     ensures { IfOk result (λ o. Leads [] path.now (option_map (λ v. texts v.items) o)) }
 {

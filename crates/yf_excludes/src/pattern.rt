@@ -42,7 +42,7 @@ impl<'a> Piece<&'a [u8]> for Segment {
 /// A pattern.
 #[derive(Drop)]
 pub struct Pattern {
-    /// Whether it begins with `!`: what it matches is included.
+    /// Whether it begins with `!`, so that matching paths are included.
     pub negated: bool,
     /// Whether it ends with `/`: it matches folders only.
     pub folders_only: bool,

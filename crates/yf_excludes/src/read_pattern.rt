@@ -88,7 +88,7 @@ pub fn read_pattern(alloc: Global, text: &[u8]) -> Result<Option<Pattern>, Alloc
     }
 }
 
-/// Returns the patterns of a list of texts, or the number of the first text that is no pattern, from 0.
+/// Returns the patterns of a list of texts, or the number of the first text that is not a pattern, from 0.
 pub fn read_patterns(
     alloc: Global,
     texts: &[&[u8]],

@@ -8,7 +8,7 @@ use crate::pattern::Segment;
 use crate::read_class::read_class;
 use std::alloc::{AllocError, Global};
 
-// Returns the atom of a byte that begins no class and no escape.
+// Returns the atom of a byte that begins neither a class nor an escape.
 fn simple_atom(byte: u8) -> Atom
     ensures { result ≡ atom_of byte }
 {

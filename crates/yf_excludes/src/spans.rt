@@ -16,7 +16,7 @@ pub trait Piece<T> {
     fn is_run(&self) -> bool
         ensures { result ≡ is_run self.now };
 
-    /// Returns whether the piece, if it is no run, takes the item.
+    /// Returns whether the piece takes the item; a run takes none.
     fn takes(&self, item: &T) -> bool
         ensures { IsTrue result ↔ takes self.now item.now };
 }
@@ -32,11 +32,11 @@ pub fn spans<T, P: Piece<T>>(pieces: &[P], items: &[T]) -> bool
     }
 }
 
-// What the pieces before the first run do.
+// The result of the pieces before the first run.
 enum Front {
-    // The first pieces, that many, are no runs and take as many items. The next piece is a run.
+    // The first pieces, as many as given, are not runs and take as many items. The next piece is a run.
     Run(usize),
-    // There is no run, and the pieces take the items.
+    // No piece is a run, and the pieces take the items.
     Whole,
     // The pieces don't take the items, whatever the runs among them take.
     Neither,

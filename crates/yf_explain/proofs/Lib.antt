@@ -1,4 +1,4 @@
--- What is written on a page.
+-- Pages
 pub mod PageLemmas
 -- A line of the source
 pub mod SourceLemmas

@@ -1,4 +1,4 @@
--- What is on a page after one more character, and after a part of a text.
+-- A page after one more character, and after a part of a text.
 use Rattle.std.proofs.Common.{◌≡◌, ◌<◌, ◌≤◌, ◌+◌, ◌-◌, ◌++◌, ◌∷◌, ◌∙◌, ℕ, Bool, true, false, List, [], ap, sym, subst, refl, rules, arith, add-one, zero-add, drop, drop-cons, get_or, length}
 use Rattle.std.proofs.lemmas.Str.{chars-nil, chars-append, chars-encodes}
 use Rattle.std.proofs.lemmas.List.{append_assoc, append-nil}
@@ -29,7 +29,7 @@ alone c s = subst (λ (x : List ℕ). chars x ≡ c ∷ []) (append-nil (encode_
 one_more : (bs : List ℕ) (c : ℕ) → IsUtf8 bs → IsScalar c → chars (bs ++ encode_utf8 c) ≡ chars bs ++ c ∷ []
 one_more bs c u s = chars-append bs (encode_utf8 c) u ∙ ap (λ x. chars bs ++ x) (alone c s)
 
--- a character was added to a text, where that did not fail
+-- a character was added to a text without an error
 module _ (bs : List ℕ) (c : ℕ) (u : IsUtf8 bs) (s : IsScalar c) where
   pub still_written : (added : Bool) (ds : List ℕ) → ds ≡ (if added then bs ++ encode_utf8 c else bs) → AreWritten (chars bs) → is_written c ≡ true → AreWritten (chars ds)
   still_written true ds e w h = rw e (rw (one_more bs c u s) (rw (list_all-append is_written (chars bs) (c ∷ [])) (rw (w, h) refl)))
@@ -45,7 +45,7 @@ pub then_more : {A E : Type 0} (r : Result A E) (old new all : List ℕ) (a b c 
 then_more (Ok x) old new all a b c d first e f second = second ∙ (ap (λ v. v ++ b ∷ []) first ∙ (append_assoc old (a ∷ []) (b ∷ []) ∙ ap (λ v. old ++ v) (cc (e, f))))
 then_more (Err x) old new all a b c d first e f second = tt
 
--- what is shown for characters and one more, and the columns
+-- the shown characters and their columns after one more
 all_and_one : (cs : List ℕ) (c d : ℕ) → c ≡ d → all_shown (cs ++ c ∷ []) ≡ all_shown cs ++ shown d
 all_and_one cs c d e = flat_map-append shown cs (c ∷ []) ∙ ap (λ x. all_shown cs ++ x) (append-nil (shown c) ∙ ap shown e)
 
@@ -55,7 +55,7 @@ columns_and_one cs c d e =
     let one : columns (c ∷ []) ≡ columns_of d = zero-add (columns_of c) ∙ ap columns_of e in
     joined ∙ ap (λ n. columns cs + n) one
 
--- a part of a text is longer by one character
+-- a part of a text with one more character
 pub part_more : {t old new all : List ℕ} {from to most end taken c next width : ℕ} → AddsPart t from to most old new end taken → CharAt t end c next
     → all ≡ new ++ shown c → width ≡ columns_of c → next ≤ to → taken + width ≤ most → AddsPart t from to most old all next (taken + width)
 part_more {t} {old} {new} {all} {from} {to} {most} {end} {taken} {c} {next} {width} part r e w within room = record {
@@ -68,7 +68,7 @@ part_more {t} {old} {new} {all} {from} {to} {most} {end} {taken} {c} {next} {wid
   boundary = r.boundary;
 }
 
--- the signs that are left, before and after one of them
+-- the remaining signs, before and after one of them
 pub next_sign : (signs : List ℕ) (k d : ℕ) → k < length signs → list_all is_written (drop k signs) ≡ true
     → (is_written (get_or signs k d) ≡ true) × (list_all is_written (drop (k + 1) signs) ≡ true)
 next_sign signs k d within all =

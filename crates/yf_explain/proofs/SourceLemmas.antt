@@ -1,4 +1,4 @@
--- A line of the source and its caret, put together.
+-- A line of the source and its caret.
 use Rattle.std.proofs.Common.{◌≡◌, ◌<◌, ◌≤◌, ◌+◌, ◌++◌, ◌∷◌, ◌∙◌, ℕ, List, [], add-one, ap, refl, sym, arith}
 use Rattle.std.proofs.lemmas.List.{append_assoc, append-nil}
 use Rattle.yf_lines.specs.Lines.{NoBreakIn}

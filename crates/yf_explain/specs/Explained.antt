@@ -1,4 +1,4 @@
--- What is told of a fault beside its line: a page of lines. (old, new: the page before and after)
+-- Pages that explain a fault. old and new are the page before and after a call.
 use Rattle.std.specs.Prelude.{◌≡◌, ℕ, List, [], ◌∷◌, ◌++◌, take, codes}
 use Rattle.yf_chars.specs.Chain.{Many}
 use Rattle.yf_lines.specs.FaultPlaces.{IsPlaceOf}
@@ -14,20 +14,20 @@ pub record Extends (old new : List ℕ) : Type 0 where
   pub more : List ℕ
   pub added : new ≡ old ++ more
 
--- a line of words was added, or of a front of them where they are long
+-- a line with the words was added, or with the first of them if they are long
 pub record AddsWords (words old new : List ℕ) : Type 0 where
   pub end : ℕ
   pub characters : List ℕ
   pub run : Many words is_char 0 end characters
   pub added : new ≡ old ++ (codes "  " ++ (all_shown characters ++ 10 ∷ []))
 
--- the line of the text on which the place is was added, with a caret under the place
+-- the line of the text with the position was added, with a caret under the position
 pub record ShowsPlace (t : List ℕ) (place : Position) (old new : List ℕ) : Type 0 where
   pub at : ℕ
   pub places : IsPlaceOf t at place
   pub source : AddsSource t at old new
 
--- words, the line of the place with its caret, and more lines
+-- words, the line of the position with its caret, and more lines
 pub record Tells (t : List ℕ) (place : Position) (words page : List ℕ) : Type 0 where
   pub told : List ℕ
   pub shown : List ℕ
@@ -42,14 +42,14 @@ pub record TellsOffset (t : List ℕ) (offset : ℕ) (page : List ℕ) : Type 0 
   pub source : ShowsPlace t place told page
   pub there : IsPlaceOf t offset place
 
--- the same of the offset where the longest front of bytes ends that is a text
+-- words, and the end of the longest front of the bytes that is UTF-8, with its line and caret
 abbrev pub TellsByte : List ℕ → ℕ → List ℕ → Type 0
 TellsByte bytes offset page = TellsOffset (take offset bytes) offset page
 
 abbrev pub TellsAt : List ℕ → Position → List ℕ → Type 0
 TellsAt t place page = (words : List ℕ) × Tells t place words page
 
--- what is told of a fault of the bytes; nothing of one that is not theirs
+-- the page that explains a fault of the bytes; it is empty for other faults
 abbrev pub Explains : List ℕ → Fault → List ℕ → Type 0
 Explains t (NotUtf8 offset) page = TellsByte t offset page
 Explains t (Syntax place what) page = Tells t place what.now page

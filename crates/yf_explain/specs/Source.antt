@@ -6,8 +6,9 @@ use Rattle.yf_chars.specs.Chain.{Many}
 use Rattle.yf_lines.specs.Lines.{NoBreakIn, is_char}
 use Rattle.yf_explain.specs.Shown.{all_shown, columns}
 
--- the characters of a part of a text were added, from an offset on, as they are shown
--- (to: where the part ends at the latest; most: how many columns it takes at most; old, new: the page before and after; end, taken: where it ends, and its columns)
+-- the characters of a part of a text were added as they are shown, from an offset on
+-- from: the offset; to: the end of the part at the latest; most: the most columns; old, new: the page before and after;
+-- end, taken: the end of the part that was added, and its columns
 pub record AddsPart (t : List ℕ) (from to most : ℕ) (old new : List ℕ) (end taken : ℕ) : Type 0 where
   pub characters : List ℕ
   pub run : Many t is_char from end characters
@@ -17,11 +18,11 @@ pub record AddsPart (t : List ℕ) (from to most : ℕ) (old new : List ℕ) (en
   pub within : end ≤ to
   pub boundary : IsCharBoundary t end
 
--- what is before each line of the source
+-- the text before each line of the source
 abbrev pub gutter : List ℕ
 gutter = codes "  | "
 
--- what is in the place of what is cut off
+-- the text that replaces a part that is cut off
 abbrev pub dots : Bool → List ℕ
 dots true = codes "..."
 dots false = []
@@ -30,15 +31,16 @@ unfoldable pub spaces : ℕ → List ℕ
 spaces zero = []
 spaces (suc n) = spaces n ++ 32 ∷ []
 
--- the line of the caret, after so many columns
+-- the line with the caret after n columns
 abbrev pub caret : ℕ → List ℕ
 caret n = gutter ++ (spaces n ++ (94 ∷ 10 ∷ []))
 
--- the line of the source: the characters before the offset, and those from there on, which are on one line of the text; it may be cut on both sides
+-- the line of the source, which may be cut on both sides: the characters before the offset, and those from the offset
+-- on
 abbrev pub source : Bool → List ℕ → List ℕ → Bool → List ℕ
 source cut before after shortened = gutter ++ (dots cut ++ (all_shown before ++ (all_shown after ++ (dots shortened ++ 10 ∷ []))))
 
--- such a line was added, and as many columns as `indent` are on it before what is shown of the offset, after the gutter
+-- such a line was added, and `indent` columns of it, after the gutter, are before the offset
 pub record AddsLine (t : List ℕ) (at : ℕ) (old new : List ℕ) (indent : ℕ) : Type 0 where
   pub start : ℕ
   pub stop : ℕ
@@ -53,7 +55,7 @@ pub record AddsLine (t : List ℕ) (at : ℕ) (old new : List ℕ) (indent : ℕ
   pub columns_before : indent ≡ length (dots cut) + columns before
   pub room : columns before + columns after ≤ 68
 
--- and the line of the caret after it
+-- such a line and the line of the caret were added
 pub record AddsSource (t : List ℕ) (at : ℕ) (old new : List ℕ) : Type 0 where
   pub between : List ℕ
   pub indent : ℕ

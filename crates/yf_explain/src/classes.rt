@@ -1,8 +1,8 @@
-//! Which characters are shown as they are, and in how many columns.
+//! Characters that are shown as they are, and their widths in columns.
 ghost use Rattle.std.specs.Prelude.{◌≡◌, ◌≤◌};
 ghost use Rattle.yf_explain.specs.Shown as Shown;
 
-/// A character of one column that is shown as it is.
+/// Returns whether the character takes one column and is shown as it is.
 pub(crate) fn is_narrow(c: char) -> bool
     ensures { result ≡ Shown.is_narrow c }
 {
@@ -10,21 +10,21 @@ pub(crate) fn is_narrow(c: char) -> bool
         | '\u{48A}'..='\u{52F}' | '\u{2010}'..='\u{2027}' | '\u{2030}'..='\u{205E}')
 }
 
-/// A character of two columns that is shown as it is.
+/// Returns whether the character takes two columns and is shown as it is.
 pub(crate) fn is_wide(c: char) -> bool
     ensures { result ≡ Shown.is_wide c }
 {
     matches!(c, '\u{3041}'..='\u{3096}' | '\u{30A1}'..='\u{30FA}' | '\u{4E00}'..='\u{9FFF}' | '\u{AC00}'..='\u{D7A3}')
 }
 
-/// Whether the character is shown as it is.
+/// Returns whether the character is shown as it is.
 pub(crate) fn is_visible(c: char) -> bool
     ensures { result ≡ Shown.is_visible c }
 {
     is_narrow(c) || is_wide(c)
 }
 
-/// How many columns the character takes as it is shown.
+/// Returns the number of columns of the character as it is shown.
 #[tactic(auto, unfolding(crate::specs::Shown::columns_of))]
 pub(crate) fn columns_of(c: char) -> usize
     ensures value { result ≡ Shown.columns_of c }

@@ -1,4 +1,4 @@
-//! What is told of a fault of bytes that were read.
+//! Pages that explain a fault of the bytes that were read.
 ghost use Rattle.std.specs.Prelude.{IfOk, []};
 ghost use Rattle.std.specs.Str.{IsCharBoundary};
 ghost use Rattle.yf_explain.specs.Explained.{AddsWords, Explains, Extends, Tells, TellsAt, TellsByte, TellsOffset};
@@ -15,20 +15,20 @@ use yf_lines::fault::Fault;
 use yf_lines::place::Position;
 use yf_lines::source_text::Src;
 
-/// How many columns words take at most, and those that name a file.
+/// The most columns of words. Words that name a file may take `LONG_WORDS` columns.
 const WORDS: usize = 74;
 
 const LONG_WORDS: usize = 8192;
 
-/// How many columns a number takes at most.
+/// The most columns of a number.
 const NUMBER: usize = 20;
 
-/// The lines that tell more of a fault of bytes: why they are refused, the line of the text with a caret under the place, and where the
-/// quote or bracket was opened that is open there. There are none of a fault that is not one of the bytes.
+/// Explains a fault of the bytes: why they are refused, the line of the text with a caret under the position, and the
+/// position at which the open quote or bracket begins. The page is empty if the fault is not about the bytes.
 ///
 /// # Errors
 ///
-/// `AllocError` where a growth of memory was refused, and where the bytes have no such place.
+/// `AllocError` if memory is refused, or if the bytes have no such position.
 pub fn explain(alloc: Global, bytes: &[u8], fault: &Fault) -> Result<Page, AllocError>
     ensures { IfOk result (λ page. Explains bytes.now fault.now page) }
 {
@@ -72,11 +72,11 @@ pub fn explain(alloc: Global, bytes: &[u8], fault: &Fault) -> Result<Page, Alloc
     }
 }
 
-/// A page of one line of words, whatever they hold.
+/// Returns a page of one line of words, whatever characters they contain.
 ///
 /// # Errors
 ///
-/// `AllocError` where a growth of memory was refused.
+/// `AllocError` if memory is refused.
 pub fn page_of_words(alloc: Global, words: &str) -> Result<Page, AllocError>
     ensures { IfOk result (λ page. AddsWords words.now [] page) }
 {
@@ -85,22 +85,22 @@ pub fn page_of_words(alloc: Global, words: &str) -> Result<Page, AllocError>
     Ok(page)
 }
 
-/// Adds a line of words to a page, whatever they hold.
+/// Adds a line of words to a page, whatever characters they contain.
 ///
 /// # Errors
 ///
-/// `AllocError` where a growth of memory was refused.
+/// `AllocError` if memory is refused.
 pub fn push_line(page: &mut Page, words: &str) -> Result<(), AllocError>
     ensures { IfOk result (λ _. AddsWords words.now page.old page.new) }
 {
     push_words(page, words, LONG_WORDS)
 }
 
-/// A page of words on an offset of a text, with its line and a caret.
+/// Returns a page with the words, and the line of the text with a caret under the offset.
 ///
 /// # Errors
 ///
-/// `AllocError` where a growth of memory was refused, and where no character begins at the offset.
+/// `AllocError` if memory is refused, or if no character begins at the offset.
 pub fn page_at(alloc: Global, text: &str, offset: usize, words: &str) -> Result<Page, AllocError>
     ensures { IfOk result (λ page. TellsOffset text.now offset page) }
 {
@@ -115,7 +115,7 @@ pub fn page_at(alloc: Global, text: &str, offset: usize, words: &str) -> Result<
     Ok(page)
 }
 
-// Adds a place and words on it.
+// Adds a position and words about it.
 fn push_placed(page: &mut Page, place: Position, words: &str) -> Result<(), AllocError>
     ensures { IfOk result (λ _. Extends page.old page.new) }
 {
@@ -128,7 +128,7 @@ fn push_placed(page: &mut Page, place: Position, words: &str) -> Result<(), Allo
     page.push_break()
 }
 
-// What is told of a place of a text.
+// Explains a position of a text.
 fn explain_place(
     alloc: Global,
     bytes: &[u8],
@@ -145,7 +145,7 @@ fn explain_place(
     explain_source(alloc, &src, place, words)
 }
 
-// What is told of an alias without an anchor.
+// Explains an alias without an anchor.
 fn explain_alias(alloc: Global, bytes: &[u8], place: Position) -> Result<Page, AllocError>
     ensures { IfOk result (λ page. TellsAt bytes.now place page) }
 {
@@ -158,7 +158,7 @@ fn explain_alias(alloc: Global, bytes: &[u8], place: Position) -> Result<Page, A
     explain_source(alloc, &src, place, words)
 }
 
-// Why an alias is refused. Its name may look like a text.
+// Returns why an alias is refused. Its name may look like a text.
 fn alias_words(text: &str, at: usize) -> &'static str {
     if is_text_like(text, at) {
         return "no anchor has this name: quote a text that begins with `*`";
@@ -166,7 +166,7 @@ fn alias_words(text: &str, at: usize) -> &'static str {
     "no anchor with this name comes before it in this document"
 }
 
-// What is told of a place of a text whose lines are known.
+// Explains a position of a text with its lines.
 fn explain_source(
     alloc: Global,
     src: &Src,
@@ -182,7 +182,7 @@ fn explain_source(
     Ok(page)
 }
 
-// Adds where the quote or bracket was opened that is open at an offset.
+// Adds the position at which the quote or bracket that is open at an offset begins.
 fn push_opened(
     alloc: Global,
     page: &mut Page,
@@ -204,7 +204,7 @@ fn push_opened(
     }
 }
 
-// Adds the place of an opening, and its line with a caret where that is another one than the line that was told.
+// Adds the position of an opening quote or bracket, and its line with a caret if that isn't the line shown before.
 fn push_opening(page: &mut Page, src: &Src, opening: usize, told: usize) -> Result<(), AllocError>
     requires { IsCharBoundary src.now.text opening }
     ensures { IfOk result (λ _. Extends page.old page.new) }
@@ -223,7 +223,7 @@ fn push_opening(page: &mut Page, src: &Src, opening: usize, told: usize) -> Resu
     push_source(page, src.text(), span.from, span.to, opening)
 }
 
-// Adds the line and the column of a place.
+// Adds the line and the column of a position.
 fn push_numbers(page: &mut Page, place: Position) -> Result<(), AllocError>
     ensures { IfOk result (λ _. Extends page.old page.new) }
 {
@@ -241,7 +241,7 @@ fn push_number(page: &mut Page, number: usize) -> Result<(), AllocError>
     Ok(())
 }
 
-// What is told of bytes that are no text: the place of the byte, and what is before it on its line.
+// Explains bytes that aren't UTF-8: the position of the first wrong byte, and the text before it on its line.
 fn explain_byte(alloc: Global, bytes: &[u8], offset: usize) -> Result<Page, AllocError>
     ensures { IfOk result (λ page. TellsByte bytes.now offset page) }
 {
@@ -260,7 +260,7 @@ fn explain_byte(alloc: Global, bytes: &[u8], offset: usize) -> Result<Page, Allo
     Ok(page)
 }
 
-// Adds the words on a byte that is no part of a text.
+// Adds words about a byte that isn't part of a UTF-8 text.
 fn push_byte(page: &mut Page, byte: u8, place: Position) -> Result<(), AllocError>
     ensures { IfOk result (λ _. Extends page.old page.new) }
 {

@@ -1,4 +1,5 @@
-//! What is told of a fault beside its line: the words, the line of the source with a caret, and where what is open was opened.
+//! Explains faults: words, the line of the source with a caret, and the position at which an open quote or bracket
+//! begins.
 #![tactic(auto)]
 
 mod classes;

@@ -1,9 +1,9 @@
-//! Where parts of a text end, as far as a quick look can tell. Offsets count bytes.
+//! Estimates of the ends of parts of a text, without a full reading. Offsets count bytes.
 ghost use Rattle.std.specs.Prelude.{◌<◌, ◌≤◌};
 
 use yf_lines::basic::is_marker_at;
 
-/// Whether white space or a line's break is there, or the text ends.
+/// Returns whether white space, a line break or the end of the text is at the offset.
 pub(crate) fn is_blank(text: &str, at: usize) -> bool {
     match text.as_bytes().get(at) {
         Some(byte) => matches!(byte, b' ' | b'\t' | b'\n' | b'\r'),
@@ -11,7 +11,8 @@ pub(crate) fn is_blank(text: &str, at: usize) -> bool {
     }
 }
 
-/// Whether the alias at an offset looks like a text: whether its name holds another sign than letters, digits, `-` and `_`.
+/// Returns whether the alias at an offset looks like a text: its name holds a character other than letters, digits, `-`
+/// and `_`.
 pub(crate) fn is_text_like(text: &str, alias: usize) -> bool {
     let bytes = text.as_bytes();
     let mut at = alias.saturating_add(1);
@@ -26,7 +27,7 @@ pub(crate) fn is_text_like(text: &str, alias: usize) -> bool {
     false
 }
 
-/// Where the line ends on which an offset is.
+/// Returns the end of the line that holds the offset.
 pub(crate) fn line_end(text: &str, from: usize) -> usize
     ensures { from ≤ result }
 {
@@ -41,7 +42,7 @@ pub(crate) fn line_end(text: &str, from: usize) -> usize
     at
 }
 
-/// Where white space begins, or the line ends.
+/// Returns the offset of the next white space or of the end of the line.
 pub(crate) fn word_end(text: &str, from: usize) -> usize
     ensures { from ≤ result }
 {
@@ -55,7 +56,8 @@ pub(crate) fn word_end(text: &str, from: usize) -> usize
     at
 }
 
-/// The offset after the closing quote of the text whose opening one is at the offset; past `to` where it is not closed before that.
+/// Returns the offset after the closing quote of the text that is opened at the offset, or an offset past `to` if it
+/// isn't closed before `to`.
 pub(crate) fn quote_end(text: &str, from: usize, to: usize) -> usize
     requires { from < to }
     ensures { from < result }
@@ -78,7 +80,8 @@ pub(crate) fn quote_end(text: &str, from: usize, to: usize) -> usize
     to
 }
 
-/// Where a block scalar ends whose header holds the offset: before the first line that has text and fewer columns before it than that.
+/// Returns the end of the block scalar whose header is at the offset: the start of the first line with text that is
+/// indented by less than `indent` columns.
 pub(crate) fn block_scalar_end(text: &str, from: usize, indent: usize) -> usize
     ensures { from ≤ result }
 {
@@ -96,7 +99,7 @@ pub(crate) fn block_scalar_end(text: &str, from: usize, indent: usize) -> usize
     end
 }
 
-// Where spaces end.
+// Returns the offset after the spaces.
 fn spaces_end(text: &str, from: usize) -> usize
     ensures { from ≤ result }
 {
@@ -111,7 +114,8 @@ fn spaces_end(text: &str, from: usize) -> usize
     at
 }
 
-/// Where the document begins in which an offset is: after the last line before it that is a document marker, or with the text.
+/// Returns the start of the document that holds the offset: after the last line before it that is a document marker, or
+/// the start of the text.
 pub(crate) fn document_start(text: &str, at: usize) -> usize {
     let mut start = at;
     while start > 0 {
@@ -126,7 +130,7 @@ pub(crate) fn document_start(text: &str, at: usize) -> usize {
     0
 }
 
-// Whether a line begins there with a document marker.
+// Returns whether a line begins there with a document marker.
 fn is_marker(text: &str, start: usize) -> bool {
     if start > 0 {
         match text.as_bytes().get(start - 1) {

@@ -1,22 +1,22 @@
-//! The quote or bracket that is open at a place of a text that is refused, as far as a quick look can tell. Offsets count bytes.
+//! Finds the quote or bracket that is open at an offset of a refused text. It is an estimate. Offsets count bytes.
 ghost use Rattle.std.specs.Prelude.{◌<◌, ◌≤◌, IfOk, IfSome};
 
 use crate::look::{block_scalar_end, document_start, is_blank, line_end, quote_end, word_end};
 use std::alloc::{AllocError, Global};
 
-/// What was met up to a place: the brackets that are open, and whether a node may begin.
+/// The state at an offset: the open brackets, and whether a node may begin.
 #[derive(Drop)]
 struct Met {
     open: Vec<usize>,
     // Whether a node may begin there.
     fresh: bool,
-    // How many columns the text of a block scalar is to be indented by at least.
+    // The least indentation of a block scalar's text, in columns.
     indent: usize,
-    // Where the line begins.
+    // The start of the line.
     line: usize,
 }
 
-/// The offset of the quote or of the innermost bracket before a place that is not closed there.
+/// Returns the offset of the quote or of the innermost bracket that is open at an offset.
 pub(crate) fn opened_before(
     alloc: Global,
     text: &str,
@@ -56,7 +56,7 @@ pub(crate) fn opened_before(
 }
 
 impl Met {
-    // Whether a quote begins there.
+    // Returns whether a quote begins there.
     fn is_quote(&self, text: &str, here: usize) -> bool {
         if !self.fresh {
             return false;
@@ -64,7 +64,7 @@ impl Met {
         matches!(text.as_bytes().get(here), Some(b'"' | b'\''))
     }
 
-    // Passes a sign, or a comment or a block scalar, and answers the offset after it.
+    // Passes a character, a comment or a block scalar, and returns the offset after it.
     fn pass(&mut self, text: &str, here: usize, at: usize) -> Result<usize, AllocError>
         requires { here < at }
         ensures { IfOk result (λ next. here < next) }
@@ -108,7 +108,7 @@ impl Met {
         }
     }
 
-    // A bracket begins, where a node may, or within other ones.
+    // Opens a bracket if a node may begin there, or if another bracket is open.
     fn begin(&mut self, here: usize) -> Result<(), AllocError> {
         if self.fresh || !self.open.is_empty() {
             self.open.push(here)?;
@@ -117,20 +117,20 @@ impl Met {
         Ok(())
     }
 
-    // A bracket ends.
+    // Closes a bracket.
     fn end(&mut self) {
         let _ = self.open.pop();
         self.fresh = false;
     }
 
-    // An entry ends within brackets.
+    // Ends an entry within brackets.
     fn part(&mut self) {
         if !self.open.is_empty() {
             self.fresh = true;
         }
     }
 
-    // A `-`, `?` or `:`, where it is one by what follows it; within brackets each `:` is one.
+    // Notes a `-`, `?` or `:` if it is an indicator: if white space follows it, or if it is a `:` within brackets.
     fn indicate(&mut self, text: &str, here: usize, sign: u8)
         requires { here < usize.MAX }
     {
@@ -143,7 +143,7 @@ impl Met {
         }
     }
 
-    // The same before white space: the indicator of an entry, or of a value after its key.
+    // Notes an indicator before white space: one that begins an entry, or a value after its key.
     fn indicate_blank(&mut self, here: usize, sign: u8) {
         if self.fresh {
             self.indent = here.saturating_sub(self.line).saturating_add(1);
@@ -152,7 +152,7 @@ impl Met {
         }
     }
 
-    // A sign of text without quotes.
+    // Notes a character of text without quotes.
     fn note_text(&mut self, here: usize) {
         if self.fresh && self.open.is_empty() {
             self.indent = here.saturating_sub(self.line).saturating_add(1);

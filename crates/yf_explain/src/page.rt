@@ -1,4 +1,4 @@
-//! A text that a terminal shows as it is.
+//! Texts that a terminal shows as they are.
 ghost use Rattle.std.specs.Prelude.{◌≡◌, ◌+◌, ◌++◌, ◌∷◌, ◌<◌, ◌≤◌, [], true, IfOk, length};
 ghost use Rattle.std.specs.Str.{IsCharBoundary, chars};
 ghost use Rattle.yf_explain.specs.Shown as Shown;
@@ -9,7 +9,7 @@ use std::alloc::{AllocError, Global};
 use std::marker::Model;
 use yf_chars::text::peek;
 
-/// Lines of characters that are shown as they are. In a contract it is the list of these characters.
+/// Lines of characters that are shown as they are. A contract sees the list of these characters.
 #[derive(Drop)]
 pub struct Page {
     string: String,
@@ -28,7 +28,7 @@ impl Model for Page {
     ghost invariant = { λ page. AreWritten (chars (string_bytes page.string)) };
 }
 
-/// A part of a text that was added: the offset after it, and how many columns it takes.
+/// A part of a text that was added: the offset after it, and its width in columns.
 #[derive(Clone, Copy)]
 pub(crate) struct Part {
     pub(crate) end: usize,
@@ -36,7 +36,7 @@ pub(crate) struct Part {
 }
 
 impl Page {
-    /// A page without a line.
+    /// Returns an empty page.
     pub fn new(alloc: Global) -> Page
         ensures { result ≡ [] }
     {
@@ -45,7 +45,7 @@ impl Page {
         }
     }
 
-    /// The text of the page.
+    /// Returns the text of the page.
     pub fn as_str(&self) -> &str
         ensures text { chars result.now ≡ self.now }
         ensures written { Shown.AreWritten self.now }
@@ -71,7 +71,7 @@ impl Page {
         self.push_number(c)
     }
 
-    /// Adds the characters of a part of a text, as far as they take no more columns than that.
+    /// Adds the characters of a part of a text that fit in the given number of columns.
     pub(crate) fn push_part(
         &mut self,
         text: &str,
@@ -103,7 +103,7 @@ impl Page {
         Ok(Part { end, columns })
     }
 
-    /// Adds signs that are shown as they are.
+    /// Adds characters that are shown as they are.
     pub(crate) fn push_signs(&mut self, signs: &str) -> Result<(), AllocError>
         requires { Shown.AreWritten signs.now }
         ensures { IfOk result (λ _. self.new ≡ self.old ++ signs.now) }
@@ -162,7 +162,7 @@ impl Page {
     }
 }
 
-// A hexadecimal digit in upper case.
+// Returns a hexadecimal digit in upper case.
 fn digit(value: u32) -> char
     requires { value < 16 }
     ensures digit { result ≡ Shown.digit value }

@@ -1,4 +1,4 @@
-//! A place of a text as an offset, and what is told of it. Offsets count bytes.
+//! Offsets of positions, and their lines on a page. Offsets count bytes.
 ghost use Rattle.std.specs.Prelude.{◌≡◌, ◌≤◌, IfOk};
 ghost use Rattle.std.specs.Str.{IsCharBoundary};
 ghost use Rattle.yf_lines.specs.Lines.{NoBreakIn};
@@ -19,7 +19,7 @@ pub(crate) struct Span {
     pub(crate) to: usize,
 }
 
-/// Adds a line of words, as much of them as take no more columns than that.
+/// Adds a line with the words, cut to the given number of columns.
 pub(crate) fn push_words(page: &mut Page, words: &str, most: usize) -> Result<(), AllocError>
     ensures { IfOk result (λ _. AddsWords words.now page.old page.new) }
 {
@@ -28,7 +28,8 @@ pub(crate) fn push_words(page: &mut Page, words: &str, most: usize) -> Result<()
     page.push_break()
 }
 
-/// Adds the line of a text on which a place is, and a caret under that, and answers its offset. It fails too where the text has no such place.
+/// Adds the line of a position with a caret under it, and returns the offset of the position. It also fails if the text
+/// has no such position.
 pub(crate) fn push_place(page: &mut Page, src: &Src, place: Position) -> Result<usize, AllocError>
     ensures { IfOk result (λ at. ShowsPlace src.now.text place page.old page.new) }
 {
@@ -46,15 +47,15 @@ pub(crate) fn push_place(page: &mut Page, src: &Src, place: Position) -> Result<
     Ok(at)
 }
 
-/// Returns the offset of a place in a text. If the text has no such place, it is the offset of another place on the line, or the end
-/// of the text.
+/// Returns the offset of a position in a text. If the text has no such position, it is the offset of another position
+/// on the line, or the end of the text.
 pub(crate) fn place_offset(src: &Src, place: Position) -> usize
     ensures { IsCharBoundary src.now.text result }
 {
     column_offset(src.text(), line_span(src, place.line), place.column)
 }
 
-/// The line of that number, from 1; past the last one, the end of the text.
+/// Returns the line with the number, from 1, or the end of the text if it has fewer lines.
 pub(crate) fn line_span(src: &Src, number: usize) -> Span
     ensures start { IsCharBoundary src.now.text result.from }
     ensures line { NoBreakIn src.now.text result.from result.to }
@@ -76,7 +77,7 @@ pub(crate) fn line_span(src: &Src, number: usize) -> Span
     }
 }
 
-// The offset of a column, from 1, on a line of the text; the end of the line, where it has no such column.
+// Returns the offset of a column, from 1, on a line of the text, or the end of the line if it has fewer columns.
 fn column_offset(text: &str, span: Span, column: usize) -> usize
     requires start { IsCharBoundary text.now span.from }
     requires order { span.from ≤ span.to }

@@ -1,4 +1,4 @@
-//! A line of a text, cut around a place, with a caret under it. Offsets count bytes.
+//! A line of a text, cut around an offset, with a caret under it. Offsets count bytes.
 ghost use Rattle.std.specs.Prelude.{◌≡◌, ◌≤◌, ◌++◌, IfOk, length};
 ghost use Rattle.std.specs.Str.{IsCharBoundary};
 ghost use Rattle.yf_lines.specs.Lines.{NoBreakIn};
@@ -9,7 +9,7 @@ use crate::page::Page;
 use std::alloc::AllocError;
 use yf_chars::text::peek;
 
-/// How many columns the line takes at most before the place, and after its beginning.
+/// The most columns of the line before the offset, and from it on.
 const BEFORE: usize = 34;
 
 const ALL: usize = 68;
@@ -34,7 +34,7 @@ pub(crate) fn push_source(
     push_caret(page, columns)
 }
 
-// Adds the part of a line from a start on, and answers how many columns are before the offset.
+// Adds the part of a line from `start`, and returns the number of columns before the offset.
 fn push_line(
     page: &mut Page,
     text: &str,
@@ -62,7 +62,7 @@ fn push_line(
     Ok(indent + before.columns)
 }
 
-// Adds the line with the caret after so many columns.
+// Adds the line with the caret after the given number of columns.
 fn push_caret(page: &mut Page, columns: usize) -> Result<(), AllocError>
     ensures { IfOk result (λ _. page.new ≡ page.old ++ caret columns) }
 {
@@ -81,7 +81,7 @@ fn push_spaces(page: &mut Page, count: usize) -> Result<(), AllocError>
     Ok(())
 }
 
-// Adds three dots where a line is cut, and answers how many there are.
+// Adds three dots if the line is cut, and returns the number of dots.
 fn push_dots(page: &mut Page, cut: bool) -> Result<usize, AllocError>
     ensures added { IfOk result (λ _. page.new ≡ page.old ++ dots cut) }
     ensures count { IfOk result (λ count. count ≡ length (dots cut)) }
@@ -94,7 +94,7 @@ fn push_dots(page: &mut Page, cut: bool) -> Result<usize, AllocError>
     Ok(0)
 }
 
-// Where the part of a line begins that is shown before an offset.
+// Returns the start of the part of a line that is shown before an offset.
 fn window_start(text: &str, from: usize, at: usize) -> usize
     requires start { IsCharBoundary text.now from }
     requires boundary { IsCharBoundary text.now at }
@@ -119,7 +119,7 @@ fn window_start(text: &str, from: usize, at: usize) -> usize
     start
 }
 
-// The start of the character in which an offset is, or the offset from which on it is sought.
+// Returns the start of the character that holds the offset, but at least `from`.
 fn char_start(text: &str, from: usize, at: usize) -> usize
     requires start { IsCharBoundary text.now from }
     requires order { from ≤ at }

@@ -1,4 +1,4 @@
--- The column of a position is reached by a walk over its line.
+-- A walk over its line reaches the column of a position.
 use Rattle.std.proofs.Common.{◌≡◌, ◌≢◌, ◌&&◌, ◌==◌, Bool, true, false, ℕ, ◌+◌, ◌-◌, ◌<◌, ◌≤◌, List, length, Some, refl, sym, ap, ◌∙◌, subst, ⊎_elim, arith}
 use Rattle.std.proofs.lemmas.Bool.{cases_lt, ne_eqb}
 use Rattle.std.proofs.lemmas.Option.{same_Some, slice_get_within}
@@ -21,7 +21,7 @@ use Rattle.yf_rule_sets.proofs.Findings.BackLemmas.{is_real}
 no_end : (t : List ℕ) (i : ℕ) → is_char (code t i) ≡ true → i ≡ length t → ⊥
 no_end t i p e = let n = code-past t i (omega (arith, e)) in let m = is_real (code t i) p in absurd (omega (arith, n, m))
 
--- of two runs of characters from one offset none is longer than the one up to the end of the text
+-- of the runs of characters from one offset, the one up to the end of the text is the longest
 no_longer : {t : List ℕ} {i j k : ℕ} {x y : List ℕ} → Many t is_char i j x → Many t is_char i k y → j ≡ length t → length y ≤ length x
 no_longer a done e = omega arith
 no_longer {t} done (step (one {i = i} p) rest) e = absurd (no_end t i p e)

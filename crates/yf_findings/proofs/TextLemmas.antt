@@ -1,4 +1,4 @@
--- The problems of a text, from the problems of what was found.
+-- The problems of a text, from the problems of its findings.
 use Rattle.std.proofs.Common.{◌≡◌, List, ℕ, subst, sym}
 use Rattle.yf_findings.specs.Problems.{EachProblem, FindingProblem}
 use Rattle.yf_findings.specs.Texts.{TextProblems}

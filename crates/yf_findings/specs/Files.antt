@@ -10,7 +10,7 @@ use Rattle.yf_report.specs.declared.problem.Problem.{Problem}
 use Rattle.yf_report.specs.declared.reports.Format.{Format}
 use Rattle.yf_rules.specs.AllRules.{rule_names}
 
--- what a report says of a problem in a file, and the text of its line
+-- a problem in a file as a report lists it, and the text of its line
 abbrev pub entry_with : Option (List ℕ) → OwnedProblem → Entry
 entry_with file p = record {
   finding = record {
@@ -25,12 +25,12 @@ entry_with file p = record {
   line = p.line_text;
 }
 
--- the same for all problems of a file, in their order
+-- the entries of all problems of a file, in order
 abbrev pub entries_of : FileProblems → List Entry
 entries_of f = map (entry_with f.file) f.problems.items
 
--- The bytes are a report, in this format, of the problems of all files, in their order, and of nothing else. Its rules are
--- all rules of style.
+-- The bytes are a report, in this format, of exactly the problems of all files, in order. Its rules are all rules of
+-- style.
 pub record ReportOf (format : Format) (files : List FileProblems) (bytes : List ℕ) : Type 0 where
   pub rules : List Described
   pub problems : List Problem

@@ -27,7 +27,7 @@ pub data LineText (src : Table) (number : ℕ) (s : List ℕ) : Type 0 where
       → FrontEnd src.text l.start l.end stop → s ≡ slice_range src.text l.start stop → LineText src number s
   of_none : ((k : ℕ) → number ≡ k + 1 → length src.lines ≤ k) → s ≡ [] → LineText src number s
 
--- what a problem says of a finding at which this is wrong, besides the range: it is a warning
+-- the parts of a problem that a finding and its detail give, besides the range: it is a warning
 pub record SaysProblem (src : Table) (f : Finding) (d : Detail) (p : OwnedProblem) : Type 0 where
   pub rule : p.rule.now ≡ f.id.now
   pub severity : p.severity ≡ Warning

@@ -1,4 +1,4 @@
--- Where the fault of a finding begins and ends, and what is wrong there.
+-- The start and the end of the fault of a finding, and its detail.
 use Rattle.std.specs.Prelude.{◌≡◌, ◌&&◌, ℕ, ◌+◌, ◌==◌, Bool, true, false, if◌then◌else◌, List, length, slice_get, Some}
 use Rattle.std.specs.Str.{IsCharBoundary}
 use Rattle.yf_forms.specs.declared.style.Style.{Style}
@@ -34,8 +34,8 @@ abbrev pub is_mark_rule : StyleRule → Bool
 is_mark_rule ByteOrderMark = true
 is_mark_rule _ = false
 
--- Where a fault begins at a position. Byte order marks that begin a line have the column of the character after them:
--- the rule that is about marks means the first mark, any other rule the character after them. After the last line it is
+-- The start of a fault at a position. Byte order marks that begin a line have the column of the character after them:
+-- for the rule about marks it is the first mark, for any other rule the character after them. After the last line it is
 -- the end of the text.
 pub data StartOf (src : Table) (rule : StyleRule) (place : Position) (offset : ℕ) : Type 0 where
   at_marks : {l : Line} (k : ℕ) → slice_get src.lines k ≡ Some l → place.line ≡ k + 1
@@ -52,7 +52,7 @@ pub record RangeOf (t : List ℕ) (place : Position) (end : ℕ) (r : Range) : T
   pub column : r.column ≡ place.column
   pub last : IsCharBoundary t end → PlaceOf t end r.end_line r.end_column
 
--- what is wrong at a finding, and in which range
+-- the detail of a finding, and its range
 pub record IsLocated (src : Table) (style : Style) (f : Finding) (d : Detail) (r : Range) : Type 0 where
   pub start : StartOf src (rule_of f.number) f.place d.span.start
   pub detail : DetailAt (DetailOf (rule_of f.number) src.text style) src.text d.span.start d

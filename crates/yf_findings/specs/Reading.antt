@@ -1,4 +1,4 @@
--- The problems of what a reader has.
+-- The problems of the text from a reader.
 use Rattle.std.specs.Prelude.{◌≤◌, ℕ, List, length, Option}
 use Rattle.std.specs.Str.{IsUtf8}
 use Rattle.yf_findings.specs.Texts.{TextProblems}

@@ -43,8 +43,8 @@ refusal_words (Config key) = codes "a setting is wrong"
 abbrev pub EndsFront : List ℕ → Position → Type 0
 EndsFront front p = IsUtf8 front → PlaceOf front (length front) p.line p.column
 
--- the position of a refusal of these bytes: the one that the fault has; the one at which the longest front ends that is
--- a text; else the first one
+-- the position of a refusal of these bytes: the position of the fault; or the end of the longest front that is UTF-8;
+-- or else the first position
 abbrev pub RefusedAt : List ℕ → Fault → Position → Type 0
 RefusedAt bytes (NotUtf8 offset) p = EndsFront (take offset bytes) p
 RefusedAt bytes (Syntax place what) p = p ≡ place
@@ -60,7 +60,7 @@ RefusedAt bytes _ p = p ≡ record { line = 1; column = 1 }
 abbrev pub empty_at : Position → Range
 empty_at p = record { line = p.line; column = p.column; end_line = p.line; end_column = p.column }
 
--- the problem of a refusal: an error at its position, which `fmt` doesn't mend
+-- the problem of a refusal: an error at its position, which `fmt` doesn't fix
 pub record RefusalProblem (bytes : List ℕ) (fault : Fault) (p : OwnedProblem) : Type 0 where
   pub place : Position
   pub at : RefusedAt bytes fault place

@@ -7,7 +7,8 @@ use Rattle.yf_rules.specs.AllRules.{FoundWithout}
 use Rattle.yf_rules.specs.Findings.{FoundIn}
 use Rattle.yf_rules.specs.declared.finding.Finding.{Finding}
 
--- a problem for each finding of a check of the text by all rules but those of these names, in the order of the findings
+-- a problem for each finding of a check of the text by all rules except those with these names, in the order of the
+-- findings
 pub record TextProblems (without : List (List ℕ)) (style : Style) (t : List ℕ) (ps : List OwnedProblem) : Type 0 where
   pub findings : List Finding
   pub found : FoundIn (FoundWithout without style) style t findings

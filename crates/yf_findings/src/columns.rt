@@ -6,15 +6,15 @@ ghost use Rattle.yf_lines.specs.Lines.{is_char};
 
 use yf_chars::text::peek;
 
-/// Where a walk ends.
+/// The end of a walk.
 #[derive(Clone, Copy)]
 pub(crate) struct Walked {
     pub(crate) at: usize,
     pub(crate) column: usize,
 }
 
-/// Returns the offset of a column, from an offset on whose column is known. If the text ends before that column, it
-/// returns the end of the text with its column.
+/// Returns the offset of a column, by a walk from an offset with a known column. If the text ends before that column,
+/// it returns the end of the text with its column.
 pub(crate) fn walk(text: &str, from: usize, column: usize, wanted: usize) -> Walked
     requires from { IsCharBoundary text.now from }
     requires order { column ≤ wanted }

@@ -26,7 +26,8 @@ pub(crate) fn end_place(src: &Src, cursor: Cursor, end: usize) -> Position
     src.place(end)
 }
 
-// The position of an offset in the line of a cursor, which has that number, and not before the cursor.
+// Returns the position of an offset in the line of a cursor, which has that number. The offset is not before the
+// cursor.
 fn place_in_line(src: &Src, cursor: Cursor, number: usize, end: usize) -> Position
     requires cursor { IsCursor src.now.text src.now.lines cursor }
     requires boundary { IsCharBoundary src.now.text end }

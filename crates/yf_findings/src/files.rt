@@ -35,7 +35,7 @@ pub fn report_of(
     report(alloc, format, &RULES, problems.as_slice())
 }
 
-// The problems of several inputs as a report takes them.
+// Returns the problems of several inputs in the form for reports.
 fn listed<'a>(alloc: Global, files: &'a [FileProblems]) -> Result<Vec<Problem<'a>>, AllocError>
     ensures { IfOk result (λ ps. map entry_of ps.items ≡ flat_map entries_of files.now) }
 {
@@ -46,7 +46,7 @@ fn listed<'a>(alloc: Global, files: &'a [FileProblems]) -> Result<Vec<Problem<'a
     Ok(all)
 }
 
-// The name of a file, if it has one.
+// Returns the name of a file, if it has one.
 fn name_in(file: &Option<OwnedText>) -> Option<&str>
     ensures { option_map (λ s. s.now) result ≡ file.now }
 {
@@ -71,7 +71,7 @@ fn add<'a>(
     Ok(())
 }
 
-// A problem of a file as a report takes it.
+// Returns a problem of a file in the form for reports.
 fn with_file<'a>(file: Option<&'a str>, problem: &'a OwnedProblem) -> Problem<'a>
     ensures { entry_of result ≡ entry_with (option_map (λ s. s.now) file.entry) problem.now }
 {

@@ -41,7 +41,7 @@ pub fn problems_of(
     Ok(problems)
 }
 
-// The problem of a finding. The cursor goes on to the finding.
+// Returns the problem of a finding, and moves the cursor to the finding.
 fn next_problem(
     alloc: Global,
     src: &Src,

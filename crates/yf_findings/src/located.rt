@@ -1,4 +1,4 @@
-//! What is wrong at a finding, and in which range.
+//! The detail of a finding, and its range.
 ghost use Rattle.std.specs.Prelude.{◌≡◌, ◌≤◌, length};
 ghost use Rattle.std.specs.Str.{IsCharBoundary};
 ghost use Rattle.yf_findings.specs.Ranges.{IsLocated, RangeOf, rule_of};
@@ -17,7 +17,7 @@ use yf_rule_sets::facts::cursor::Cursor;
 use yf_rule_sets::rules::StyleRule;
 use yf_rules::finding::Finding;
 
-/// What is wrong at a finding, its range, and how far the pass over the text has come with it.
+/// The detail of a finding, its range, and the cursor of the pass after it.
 #[derive(Clone, Copy)]
 pub(crate) struct Located {
     pub(crate) detail: Detail,
@@ -25,7 +25,7 @@ pub(crate) struct Located {
     pub(crate) cursor: Cursor,
 }
 
-/// Returns what is wrong at a finding, and its range.
+/// Returns the detail of a finding, and its range.
 pub(crate) fn locate(src: &Src, style: &Style, cursor: Cursor, finding: &Finding) -> Located
     requires cursor { IsCursor src.now.text src.now.lines cursor }
     requires place { InText src.now.text finding.now.place }
@@ -42,7 +42,7 @@ pub(crate) fn locate(src: &Src, style: &Style, cursor: Cursor, finding: &Finding
     }
 }
 
-// The range from a position to the position of an offset.
+// Returns the range from a position to the position of an offset.
 fn range_of(src: &Src, cursor: Cursor, place: Position, end: usize) -> Range
     requires cursor { IsCursor src.now.text src.now.lines cursor }
     ensures { RangeOf src.now.text place end result }
@@ -64,7 +64,7 @@ fn range_of(src: &Src, cursor: Cursor, place: Position, end: usize) -> Range
     }
 }
 
-// The rule of a number.
+// Returns the rule with a number.
 fn rule_of(number: usize) -> StyleRule
     ensures { result ≡ rule_of number }
 {

@@ -13,7 +13,7 @@ use yf_ranges::words::write_message;
 use yf_report::problem::{Range, Severity};
 use yf_rules::finding::Finding;
 
-/// How many bytes of a line a problem keeps at most.
+/// The most bytes of a line that a problem keeps.
 pub const FRONT: usize = 256;
 
 /// A finding or a refusal, with texts of its own. The file is not known here.
@@ -23,9 +23,9 @@ pub struct OwnedProblem {
     /// A rule's id or a refusal's kind.
     pub rule: &'static str,
     pub severity: Severity,
-    /// What was found, and for some rules what is expected.
+    /// What is wrong, and for some rules what is expected.
     pub message: OwnedText,
-    /// Whether `fmt` mends it.
+    /// Whether `fmt` fixes it.
     pub fixable: bool,
     /// The line of the text on which the range begins, without its break, or the longest front of it that has at most
     /// `FRONT` bytes.
@@ -54,7 +54,7 @@ pub(crate) fn owned(
     })
 }
 
-// The words of a message.
+// Returns the words of a message.
 fn words_of(alloc: Global, message: &Message) -> Result<OwnedText, AllocError>
     ensures { IfOk result (λ words. words ≡ message_words message.now) }
 {
@@ -63,7 +63,7 @@ fn words_of(alloc: Global, message: &Message) -> Result<OwnedText, AllocError>
     Ok(OwnedText::new(words))
 }
 
-// The text of the line that has this number, or a front of it.
+// Returns the text of the line with this number, or a front of it.
 fn line_text(alloc: Global, src: &Src, number: usize) -> Result<OwnedText, AllocError>
     ensures { IfOk result (λ s. LineText src.now number s) }
 {
@@ -76,14 +76,14 @@ fn line_text(alloc: Global, src: &Src, number: usize) -> Result<OwnedText, Alloc
     line_front(alloc, src, number)
 }
 
-// The empty text.
+// Returns the empty text.
 fn nothing(alloc: Global) -> OwnedText
     ensures { result ≡ [] }
 {
     OwnedText::new(String::new(alloc))
 }
 
-// The text of the line that has this number, or a front of it.
+// Returns the text of the line with this number, or a front of it.
 fn line_front(alloc: Global, src: &Src, number: usize) -> Result<OwnedText, AllocError>
     requires first { 1 ≤ number }
     requires last { number ≤ length src.now.lines }
@@ -95,7 +95,7 @@ fn line_front(alloc: Global, src: &Src, number: usize) -> Result<OwnedText, Allo
     Ok(OwnedText::new(String::from_str(alloc, &text[line.start..stop])?))
 }
 
-// Where the longest front of a part of the text ends that has at most `FRONT` bytes.
+// Returns the end of the longest front of a part of the text that has at most `FRONT` bytes.
 fn front_end(text: &str, start: usize, end: usize) -> usize
     requires start { IsCharBoundary text.now start }
     requires end { IsCharBoundary text.now end }

@@ -1,4 +1,4 @@
-//! The problems of what a reader has.
+//! The problems of the text from a reader.
 ghost use Rattle.std.specs.Prelude.{◌≡◌, IfErr, IfOk, MatchResult, OnOk};
 ghost use Rattle.yf_findings.specs.Reading.{ReadProblems};
 ghost use Rattle.yf_rules.specs.Runs.ByteStream.{stream_of};
@@ -14,8 +14,8 @@ use yf_lines::watched::Source;
 use yf_rules::input::{read_all, text_of};
 use yf_rules::run::INPUT_LIMIT;
 
-/// Reads all bytes, and returns a problem for each finding of a check of the text by all rules, except those whose
-/// names are in `without`. The bytes are kept for the caller.
+/// Reads all bytes, and returns a problem for each finding of a check of the text by all rules except those with names
+/// in `without`. The bytes are kept for the caller.
 ///
 /// # Errors
 ///

@@ -31,7 +31,7 @@ pub fn refusal(alloc: Global, bytes: &[u8], fault: &Fault) -> Result<OwnedProble
     })
 }
 
-// Nothing, at a position.
+// Returns an empty range at a position.
 fn empty_at(place: Position) -> Range
     ensures { result ≡ empty_at place }
 {
@@ -43,7 +43,7 @@ fn empty_at(place: Position) -> Range
     }
 }
 
-// The position of a refusal.
+// Returns the position of a refusal.
 fn refused_at(alloc: Global, bytes: &[u8], fault: &Fault) -> Result<Position, AllocError>
     ensures { IfOk result (λ place. RefusedAt bytes.now fault.now place) }
 {
@@ -62,7 +62,7 @@ fn refused_at(alloc: Global, bytes: &[u8], fault: &Fault) -> Result<Position, Al
     }
 }
 
-// The position at which the front of bytes ends, up to an offset.
+// Returns the position at which the front of the bytes up to an offset ends.
 fn front_end(alloc: Global, bytes: &[u8], offset: usize) -> Result<Position, AllocError>
     ensures { IfOk result (EndsFront (take offset bytes.now)) }
 {
@@ -72,7 +72,7 @@ fn front_end(alloc: Global, bytes: &[u8], offset: usize) -> Result<Position, All
     text_end(alloc, bytes)
 }
 
-// The position at which bytes end that are a text.
+// Returns the position at which the bytes end, or the first position if they are not UTF-8.
 fn text_end(alloc: Global, bytes: &[u8]) -> Result<Position, AllocError>
     ensures { IfOk result (EndsFront bytes.now) }
 {
@@ -85,7 +85,7 @@ fn text_end(alloc: Global, bytes: &[u8]) -> Result<Position, AllocError>
     }
 }
 
-// The kind of a refusal.
+// Returns the kind of a refusal.
 fn kind_of(fault: &Fault) -> &'static str
     ensures { result.now ≡ kind_of fault.now }
 {
@@ -105,7 +105,7 @@ fn kind_of(fault: &Fault) -> &'static str
     }
 }
 
-// Why it is refused.
+// Returns why the text is refused.
 fn refusal_words(fault: &Fault) -> &'static str
     ensures { result.now ≡ refusal_words fault.now }
 {

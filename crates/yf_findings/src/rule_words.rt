@@ -1,4 +1,4 @@
-//! What a report says of each rule.
+//! The rules as a report describes them.
 
 use yf_report::sarif::Rule;
 

@@ -1,4 +1,4 @@
-//! Where the fault of a finding begins, by the finding's position, in one pass over the text.
+//! The start of the fault of a finding, by the finding's position, in one pass over the text.
 ghost use Rattle.std.specs.Prelude.{◌≡◌, ◌+◌, ◌<◌, ◌≤◌, length, Some, slice_get};
 ghost use Rattle.std.specs.Str.{IsCharBoundary};
 ghost use Rattle.yf_findings.specs.Ranges.{StartOf, is_mark_rule};
@@ -12,15 +12,15 @@ use yf_lines::table::skip_marks;
 use yf_rule_sets::facts::cursor::Cursor;
 use yf_rule_sets::rules::StyleRule;
 
-/// Where a fault begins, and how far the pass has come with it.
+/// The start of a fault, and the cursor of the pass after it.
 #[derive(Clone, Copy)]
 pub(crate) struct Start {
     pub(crate) offset: usize,
     pub(crate) cursor: Cursor,
 }
 
-/// Returns where the fault of a finding of a rule begins, from a cursor on. It takes one pass over the text if the
-/// positions ascend.
+/// Returns the start of the fault of a finding of a rule, by a pass from a cursor on. For ascending positions it takes
+/// one pass over the text.
 pub(crate) fn start_of(src: &Src, rule: StyleRule, cursor: Cursor, place: Position) -> Start
     requires cursor { IsCursor src.now.text src.now.lines cursor }
     requires place { InText src.now.text place }
@@ -39,7 +39,7 @@ pub(crate) fn start_of(src: &Src, rule: StyleRule, cursor: Cursor, place: Positi
     }
 }
 
-// Where the fault begins in the line of a cursor, which is at the position.
+// Returns the start of the fault in the line of a cursor, which is at the position.
 fn start_in_line(src: &Src, rule: StyleRule, cursor: Cursor, place: Position) -> Start
     requires cursor { IsCursor src.now.text src.now.lines cursor }
     requires line { cursor.line < length src.now.lines }
@@ -64,7 +64,7 @@ fn start_in_line(src: &Src, rule: StyleRule, cursor: Cursor, place: Position) ->
     }
 }
 
-// Whether a rule is about byte order marks.
+// Returns whether a rule is about byte order marks.
 fn is_mark_rule(rule: StyleRule) -> bool
     ensures { result ≡ is_mark_rule rule }
 {
@@ -74,7 +74,7 @@ fn is_mark_rule(rule: StyleRule) -> bool
     }
 }
 
-// The cursor at a position in the line of that index.
+// Returns the cursor at a position in the line with that index.
 fn cursor_at(src: &Src, cursor: Cursor, line: usize, place: Position) -> Cursor
     requires cursor { IsCursor src.now.text src.now.lines cursor }
     requires line { line < length src.now.lines }
@@ -94,7 +94,8 @@ fn cursor_at(src: &Src, cursor: Cursor, line: usize, place: Position) -> Cursor
     }
 }
 
-// The cursor, if it is in the line of that index and not after the column, else the one at the start of the line.
+// Returns the cursor if it is in the line with that index and not after the column, and otherwise the start of the
+// line.
 fn nearest(src: &Src, cursor: Cursor, line: usize, column: usize) -> Cursor
     requires cursor { IsCursor src.now.text src.now.lines cursor }
     requires line { line < length src.now.lines }
@@ -111,7 +112,7 @@ fn nearest(src: &Src, cursor: Cursor, line: usize, column: usize) -> Cursor
     line_start(src, line)
 }
 
-/// The cursor after the marks with which the line of that index begins.
+/// Returns the cursor after the marks that begin the line with that index.
 pub(crate) fn line_start(src: &Src, line: usize) -> Cursor
     ensures cursor { IsCursor src.now.text src.now.lines result }
     ensures line { result.line ≡ line }

@@ -16,7 +16,7 @@ use yf_lines::text::OwnedText;
 use yf_rules::check_all::check_all;
 use yf_stream::stream::read_stream;
 
-/// Returns a problem for each finding of a check of the text by all rules, except those whose names are in `without`.
+/// Returns a problem for each finding of a check of the text by all rules except those with names in `without`.
 ///
 /// # Errors
 ///

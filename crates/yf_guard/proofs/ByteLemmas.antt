@@ -5,7 +5,7 @@ use Rattle.std.specs.List.{list_any}
 use Rattle.std.proofs.lemmas.Bool.{cases_lt}
 use Rattle.std.proofs.lemmas.List.{drop_all, take_all, take-take, take_min}
 
--- a range up to the end of the text at the latest
+-- a range that ends at the latest with the text
 same_range : (t : List ℕ) (start end stop : ℕ) → stop ≡ min end (length t) → start < stop → slice_range t start stop ≡ slice_range t start end
 same_range t start end stop e h =
     let ys = drop start t in

@@ -1,8 +1,8 @@
 -- the least offset of two lists
 pub mod LeastLemmas
--- what an open mapping tells of its pairs, against the definition on trees
+-- the facts that an open mapping keeps, against the definition on trees
 pub mod PairLemmas
--- what the pass finds in trees
+-- the faults that the pass finds in trees
 pub mod TreeRuns
 -- one step of the pass
 pub mod StepLemmas

@@ -1,4 +1,4 @@
--- What an open mapping tells of its pairs, against the definition on trees.
+-- The facts that an open mapping keeps, against the definition on trees.
 use Rattle.std.proofs.Common.{◌≡◌, ℕ, Bool, true, false, List, [], ◌∷◌, refl, sym, ap, ◌∙◌}
 use Rattle.std.specs.Prelude.{◌&&◌, if◌then◌else◌}
 use Rattle.yf_events.specs.Tree.{Node, scalar, alias, sequence, mapping, Items, no_items, item, Pairs, no_pairs, pair}
@@ -11,7 +11,7 @@ use Rattle.yf_guard.specs.declared.open_collection.OpenCollection.{OpenCollectio
 use Rattle.yf_guard.specs.declared.open_collection.Seen.{Seen}
 use Rattle.yf_guard.specs.declared.open_collection.Seen.TheVariants.{Nothing, First, Pair, More}
 
--- what a node is to the collection around it
+-- the kind of a node for the collection around it
 abbrev pub kind : Node → NodeKind
 kind (scalar at props style text lines) = scalar_kind props style text
 kind (alias at name) = Other

@@ -17,7 +17,7 @@ use Rattle.yf_guard.specs.declared.open_collection.OpenCollection.{OpenCollectio
 use Rattle.yf_guard.proofs.LeastLemmas.{least_append}
 use Rattle.yf_guard.proofs.TreeRuns.{run_stream}
 
--- the event at an index of which its value is known, and where it is
+-- the event at an index with a known value, and its span
 pub event_is : (r : Lists) (i : ℕ) (e : EventInText) (v : EventValue) → slice_get (events_of r) i ≡ Some v → slice_get r.events i ≡ Some e → e.event ≡ v
 event_is r i e v h g =
     same_Some _ _ (sym (slice_get-map (λ (x : EventInText). x.event) r.events i ∙ ap (option_map (λ (x : EventInText). x.event)) g) ∙ h)

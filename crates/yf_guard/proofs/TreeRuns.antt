@@ -1,4 +1,4 @@
--- What the pass finds in trees.
+-- The faults that the pass finds in trees.
 use Rattle.std.proofs.Common.{◌≡◌, ℕ, Bool, true, false, List, [], ◌∷◌, ◌++◌, refl, sym, ap, ◌∙◌, append_assoc}
 use Rattle.std.specs.Prelude.{flat_map}
 use Rattle.std.proofs.lemmas.List.{append-nil}
@@ -13,7 +13,7 @@ use Rattle.yf_guard.specs.declared.open_collection.NodeKind.TheVariants.{Mapping
 use Rattle.yf_guard.specs.declared.open_collection.OpenCollection.{OpenCollection}
 use Rattle.yf_guard.proofs.PairLemmas.{after_items, after_pairs, kind, mapping_flow, mapping_offset, mapping_template, mapping_values}
 
--- what is found in a node, in which a scalar may be the root
+-- the faults found in a node, which may be a root scalar
 abbrev found_in : List ℕ → List OpenCollection → Node → List Guarded
 found_in t st (scalar at props style text lines) = found_if (is_root st) (no_data t props style at.span)
 found_in t st (alias at name) = []

@@ -1,4 +1,4 @@
--- What the pass keeps of each open collection.
+-- The state that the pass keeps for each open collection.
 use Rattle.std.specs.Prelude.{ℕ, Bool, true, false, not, ◌&&◌, if◌then◌else◌, List, [], ◌∷◌}
 use Rattle.yf_guard.specs.declared.open_collection.NodeKind.{NodeKind}
 use Rattle.yf_guard.specs.declared.open_collection.NodeKind.TheVariants.{Empty, Mapping, Other}

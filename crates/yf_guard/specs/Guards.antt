@@ -1,4 +1,4 @@
--- Which texts are no data: what a text and the trees of its reading say.
+-- Texts that are not data, by the text and the trees of its reading.
 use Rattle.std.specs.Prelude.{ℕ, Bool, true, false, not, is_none, ◌&&◌, ◌||◌, ◌==◌, nat_lt, if◌then◌else◌, List, [], ◌∷◌, ◌++◌, codes, flat_map, length, slice_range, Option, Some, None}
 use Rattle.std.specs.List.{list_any}
 use Rattle.memchr.specs.Find.{OccursAt}
@@ -28,7 +28,7 @@ is_plain Folded = false
 abbrev pub has_break : List ℕ → ℕ → ℕ → Bool
 has_break t start end = list_any (λ b. (b == 10) || (b == 13)) (slice_range t start end)
 
--- where a plain scalar over several lines begins, after its properties, of a scalar with this part of the text
+-- the start of a plain scalar over several lines, after its properties
 abbrev pub start_if : Bool → ℕ → Option ℕ
 start_if true start = Some start
 start_if false start = None
@@ -44,7 +44,7 @@ no_data_at (Some offset) = NoData offset ∷ []
 abbrev pub no_data : List ℕ → PropsValue → ScalarStyle → Option Span → List Guarded
 no_data t props style span = no_data_at (lines_start t props style span)
 
--- (c) a template: `{{ x }}`, and `? x:` with `:` below it, which is the same in block style
+-- (c) a template: `{{ x }}`, or in block style `? x:` with `:` below it
 
 abbrev pub has_no_props : PropsValue → Bool
 has_no_props props = is_none props.anchor && is_none props.tag
@@ -59,25 +59,25 @@ is_empty (alias at name) = false
 is_empty (sequence at flow props items) = false
 is_empty (mapping at flow props pairs) = false
 
--- each value is one
+-- each value is an empty node without properties
 abbrev pub has_no_values : Pairs → Bool
 has_no_values no_pairs = true
 has_no_values (pair k v ps) = is_empty v && has_no_values ps
 
--- in a mapping in flow style the key is one in flow style too; in one in block style it is one in block style, without values
+-- the key of a flow mapping is a flow mapping, or the key of a block mapping is a block mapping without values
 abbrev pub doubles : Bool → Node → Bool
 doubles flow (scalar at props style text lines) = false
 doubles flow (alias at name) = false
 doubles flow (sequence at inner props items) = false
 doubles flow (mapping at inner props pairs) = if flow then inner else (not inner && has_no_values pairs)
 
--- the mapping has one pair, such a key without a value
+-- the mapping has one pair: such a key without a value
 abbrev pub is_template : Bool → Pairs → Bool
 is_template flow no_pairs = false
 is_template flow (pair k v no_pairs) = doubles flow k && is_empty v
 is_template flow (pair k v (pair l w ps)) = false
 
--- where a node with its properties begins; an empty node has no place
+-- the start of a node with its properties; an empty node has none
 abbrev pub start_of : Option Span → ℕ
 start_of None = 0
 start_of (Some span) = span.start
@@ -102,7 +102,7 @@ abbrev mutual
   templates_of_pairs no_pairs = []
   templates_of_pairs (pair k v ps) = templates k ++ (templates v ++ templates_of_pairs ps)
 
--- what is no data in a document with this root
+-- the faults in a document with this root
 abbrev pub found_in_root : List ℕ → Node → List Guarded
 found_in_root t (scalar at props style text lines) = no_data t props style at.span
 found_in_root t (alias at name) = []
@@ -112,7 +112,7 @@ found_in_root t (mapping at flow props pairs) = templates (mapping at flow props
 abbrev pub found_in_document : List ℕ → DocumentTree → List Guarded
 found_in_document t d = found_in_root t d.root
 
--- the one with the least offset, the first of several
+-- the fault with the least offset, the first of several
 
 abbrev pub offset_of : Guarded → ℕ
 offset_of Vault = 0
@@ -127,6 +127,6 @@ abbrev pub least_from : Option Guarded → List Guarded → Option Guarded
 least_from found [] = found
 least_from found (x ∷ xs) = least_from (lower found x) xs
 
--- of a text that is no Ansible Vault file, with these documents
+-- the fault of a text that is not an Ansible Vault file, with these documents
 abbrev pub first_guarded : List ℕ → List DocumentTree → Option Guarded
 first_guarded t trees = least_from None (flat_map (found_in_document t) trees)

@@ -1,5 +1,5 @@
--- which texts are no data
+-- texts that are not data
 pub mod Guards
--- what the pass over the events keeps of each open collection, and what it does, event by event, for private clauses
+-- the state of the pass over the events for each open collection, and its steps, for private clauses
 pub mod Collections
 pub mod Pass

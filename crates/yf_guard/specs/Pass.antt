@@ -1,4 +1,4 @@
--- What the pass does, event by event.
+-- The steps of the pass, event by event.
 use Rattle.std.specs.Prelude.{ℕ, Bool, true, false, if◌then◌else◌, List, [], ◌∷◌, ◌++◌, Option}
 use Rattle.yf_events.specs.Event.{EventValue, EventInText, stream_starts, stream_ends, document_starts, document_ends, sequence_starts, sequence_ends, mapping_starts, mapping_ends, scalar_node, alias_node}
 use Rattle.yf_events.specs.declared.event.ScalarStyle.{ScalarStyle}
@@ -27,13 +27,13 @@ next mapping_ends span st = closed true st
 next (scalar_node props style text) span st = after (scalar_kind props style text) st
 next (alias_node name) span st = after Other st
 
--- what is found at one event
+-- the faults found at one event
 
 abbrev pub found_if : Bool → List Guarded → List Guarded
 found_if true found = found
 found_if false found = []
 
--- a node is a root where no collection is open
+-- a node is a root if no collection is open
 abbrev pub is_root : List OpenCollection → Bool
 is_root [] = true
 is_root (c ∷ st) = false
@@ -58,7 +58,7 @@ found_by t mapping_ends span st = templates_closed true st
 found_by t (scalar_node props style text) span st = found_if (is_root st) (no_data t props style span)
 found_by t (alias_node name) span st = []
 
--- what is found from an event on
+-- the faults found from an event on
 abbrev pub run : List ℕ → List OpenCollection → List EventInText → List Guarded
 run t st [] = []
 run t st (e ∷ es) = found_by t e.event e.span st ++ run t (next e.event e.span st) es

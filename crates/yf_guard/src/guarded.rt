@@ -1,4 +1,4 @@
-//! Which texts are no data, and why.
+//! Texts that are not data, and why.
 ghost use Rattle.std.specs.Prelude.{◌≡◌, List, IfOk, MatchBool};
 ghost use Rattle.yf_events.specs.Tree.{DocumentTree, TreesOf};
 ghost use Rattle.yf_guard.specs.Guards.{IsVault, first_guarded};
@@ -8,7 +8,7 @@ use memchr::arch::all::is_prefix;
 use std::alloc::{AllocError, Global};
 use yf_events::reading::Reading;
 
-/// Why a text is no data.
+/// Why a text is not data.
 #[derive(Clone, Copy)]
 pub enum Guarded {
     /// The text is an Ansible Vault file.
@@ -19,16 +19,16 @@ pub enum Guarded {
     Template { offset: usize },
 }
 
-/// Returns whether the text is an Ansible Vault file: whether its first bytes are `$ANSIBLE_VAULT;`. Ansible wants them
-/// before all else, so a text with a byte order mark before them is none.
+/// Returns whether the text is an Ansible Vault file, that is, whether it begins with the bytes `$ANSIBLE_VAULT;`. Like
+/// Ansible, it refuses a byte order mark before them.
 pub fn is_vault(text: &str) -> bool
     ensures { MatchBool result (IsVault text.now) (IsVault text.now → ⊥) }
 {
     is_prefix(text.as_bytes(), b"$ANSIBLE_VAULT;")
 }
 
-/// Returns why the text is no data, or `None` if it is data. The reading is that of the text. If several documents or
-/// mappings are at fault, the result is the one with the least offset.
+/// Returns why the text is not data, or `None` if it is data. `reading` is the reading of the text. If several
+/// documents or mappings are at fault, the result is the one with the least offset.
 ///
 /// The time is linear in the number of events and the length of the text.
 pub fn guard(alloc: Global, text: &str, reading: &Reading) -> Result<Option<Guarded>, AllocError>

@@ -1,7 +1,7 @@
-//! Texts that are no YAML data: Ansible Vault files, texts that only look like one long scalar, and templates.
+//! Texts that are not YAML data: Ansible Vault files, texts that only look like one long scalar, and templates.
 //!
-//! The reading decides, not the bytes: `name: build {{version}}` is data, since its value is a scalar, and
-//! `vlan: {{ site_vlan }}` is a template, since its value is a mapping in a mapping. `guard` says which text is which.
+//! The reading decides, not the bytes: `name: build {{version}}` is data, since its value is a scalar, and `vlan: {{
+//! site_vlan }}` is a template, since its value is a mapping with a mapping as its key. `guard` decides it for a text.
 //! The crate knows no settings and no house style.
 #![tactic(auto)]
 

@@ -1,8 +1,8 @@
-//! A collection whose end has not come yet, and what is known of it: enough to tell whether it is a template.
+//! An open collection, with the facts that decide whether it is a template.
 ghost use Rattle.std.specs.Prelude.{◌≡◌};
 ghost use Rattle.yf_guard.specs.Collections as Collections;
 
-/// What the collection around a node needs to know of it.
+/// The facts about a node that the collection around it needs.
 #[derive(Clone, Copy)]
 pub enum NodeKind {
     /// An empty node without properties.
@@ -15,7 +15,7 @@ pub enum NodeKind {
     Other,
 }
 
-/// Which nodes of a collection have been read.
+/// The nodes of a collection that have been read.
 #[derive(Clone, Copy)]
 pub enum Seen {
     Nothing,
@@ -26,7 +26,7 @@ pub enum Seen {
     More,
 }
 
-/// A collection whose end has not come yet.
+/// A collection that has not ended yet.
 #[derive(Clone, Copy)]
 pub struct OpenCollection {
     /// The byte offset at which it begins.
@@ -39,7 +39,7 @@ pub struct OpenCollection {
     pub seen: Seen,
 }
 
-/// A collection of which nothing has been read.
+/// Returns a collection without nodes so far.
 pub fn opened(flow: bool, offset: usize) -> OpenCollection
     ensures { result ≡ Collections.opened flow offset }
 {
@@ -61,7 +61,7 @@ fn is_empty(kind: NodeKind) -> bool
     }
 }
 
-/// Returns whether such a node makes the mapping whose first key it is a template, if the value is empty.
+/// Returns whether such a node, as the first key of a mapping, makes the mapping a template if the value is empty.
 fn doubles(flow: bool, kind: NodeKind) -> bool
     ensures { result ≡ Collections.doubles_kind flow kind }
 {
@@ -114,7 +114,7 @@ fn no_values_after(collection: OpenCollection, kind: NodeKind) -> bool
     collection.has_no_values
 }
 
-/// The collection after one more node directly in it.
+/// Returns the collection after one more node directly in it.
 pub fn with_node(kind: NodeKind, collection: OpenCollection) -> OpenCollection
     ensures { result ≡ Collections.with_node kind collection }
 {
@@ -127,7 +127,7 @@ pub fn with_node(kind: NodeKind, collection: OpenCollection) -> OpenCollection
     }
 }
 
-/// What the collection is to the one around it, at its end.
+/// Returns the kind of the collection, as a node of the collection around it.
 pub fn end_kind(is_map: bool, collection: OpenCollection) -> NodeKind
     ensures { result ≡ Collections.end_kind is_map collection }
 {

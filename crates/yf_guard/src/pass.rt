@@ -1,4 +1,4 @@
-//! The one pass over the events that finds what is no data.
+//! The pass over the events that finds texts that are not data.
 ghost use Rattle.std.specs.Prelude.{◌≡◌, List, reverse, IfOk};
 ghost use Rattle.yf_events.specs.Event.{event_value};
 ghost use Rattle.yf_events.specs.Tree.{DocumentTree, TreesOf};
@@ -26,7 +26,7 @@ fn offset_of(found: Guarded) -> usize
     }
 }
 
-/// The one with the least offset so far, after one more.
+/// Returns the fault with the least offset after one more.
 fn lower(found: Option<Guarded>, more: Guarded) -> Option<Guarded>
     ensures { result ≡ Guards.lower found more }
 {
@@ -59,7 +59,7 @@ fn scalar_kind(props: &Props, style: ScalarStyle, text: &str) -> NodeKind
     NodeKind::Other
 }
 
-/// Goes past a node directly in the innermost open collection.
+/// Passes a node directly in the innermost open collection.
 fn pass_node(stack: &mut Vec<OpenCollection>, kind: NodeKind) -> Result<(), AllocError>
     ensures { IfOk result (λ _. reverse stack.new.items ≡ after kind (reverse stack.old.items)) }
 {
@@ -72,7 +72,7 @@ fn pass_node(stack: &mut Vec<OpenCollection>, kind: NodeKind) -> Result<(), Allo
     }
 }
 
-/// Goes past a scalar: what is found after it.
+/// Passes a scalar, and returns the fault found so far.
 fn pass_scalar(
     text: &str,
     props: &Props,
@@ -92,7 +92,7 @@ fn pass_scalar(
     found
 }
 
-/// Goes past the end of the innermost open collection: what is found after it.
+/// Passes the end of the innermost open collection, and returns the fault found so far.
 fn pass_end(
     stack: &mut Vec<OpenCollection>,
     is_map: bool,
@@ -131,7 +131,7 @@ fn with_template(
     found
 }
 
-/// Goes past one event with this part of the text: what is found after it.
+/// Passes one event with its span, and returns the fault found so far.
 fn pass(
     text: &str,
     event: Event,
@@ -173,7 +173,7 @@ fn pass(
     }
 }
 
-/// The document or mapping with the least offset that is no data.
+/// Returns the document or mapping with the least offset that is not data.
 pub fn first_in(alloc: Global, text: &str, reading: &Reading) -> Result<Option<Guarded>, AllocError>
     ensures { IfOk result (λ found. (trees : List DocumentTree) → TreesOf reading.now trees → found ≡ first_guarded text.now trees) }
 {

@@ -63,7 +63,8 @@ fn has_break(text: &str, from: usize, end: usize) -> bool
     has_break_byte(&bytes[from..stop])
 }
 
-/// The byte offset at which a plain scalar over several lines begins, after its properties; `None` if it is none.
+/// Returns the byte offset at which a plain scalar over several lines begins, after its properties, or `None` for
+/// another scalar.
 pub fn lines_start(
     text: &str,
     props: &Props,

@@ -68,7 +68,7 @@ content_is bytes headers start count size limit fields last room at n fits l = r
   };
 }
 
--- what is at an offset that the header section ends at
+-- the content at the end of the header section
 pub content_found : (bytes body rest : List ℕ) (start size limit : ℕ) (r : Result (Option Content) FrameError)
     → start ≤ length bytes → drop start bytes ≡ body ++ rest → size ≡ length body → length body ≤ limit
     → ContentAt (length bytes) start size limit r → GivesFrame bytes body rest r
@@ -87,7 +87,7 @@ content_found bytes body rest start size limit (Ok None) l parts n fits at =
     absurd (omega (arith, at.0, length-drop start bytes, length-append body rest))
 content_found bytes body rest start size limit (Err e) l parts n fits at = absurd (omega (arith, at))
 
--- no message is there, whatever follows
+-- no message is there, whatever bytes follow
 pub never_section : (bytes : List ℕ) (limit : ℕ) → SectionOverflows 16 bytes → (more body rest : List ℕ)
     → IsFrame (bytes ++ more) limit body rest → ⊥
 never_section bytes limit over more body rest f = let many : 16 < length f.fields =
@@ -102,7 +102,7 @@ never_length bytes limit fields last after reads bad more body rest f =
     (ReadsSection-append bytes fields last after more reads) f.reads in
     bad (length body) f.short (ap (λ z. length_field (map name_and_value z)) same.0 ∙ f.size)
 
--- what `read_frame` returns after the section of the header
+-- the result of `read_frame` after the header section
 pub complete_from : (bytes : List ℕ) (headers : List HeaderSpan) (start count size limit : ℕ)
     (r : Result (Option Content) FrameError) → length headers ≡ 16 → IsSectionOf bytes 0 headers (start, count)
     → Length.Value size ≡ length_field (map (header_bytes bytes) (take count headers))

@@ -1,4 +1,4 @@
--- what `read_frame` finds
+-- the result of `read_frame`
 pub mod FrameLemmas
--- what `push_frame` writes
+-- the output of `push_frame`
 pub mod WrittenLemmas

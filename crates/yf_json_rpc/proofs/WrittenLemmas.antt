@@ -1,4 +1,4 @@
--- What is written reads back.
+-- Written messages read back.
 use Rattle.std.proofs.Common.{◌≡◌, ℕ, ◌+◌, ◌^◌, ◌<◌, ◌≤◌, true, not, List, [], ◌∷◌, ◌++◌, length, map, reverse, codes, decimal, All, flat_map, refl, ap, ◌∙◌, subst, arith}
 use Rattle.std.specs.Char.{digit_value, is_ascii_digit}
 use Rattle.std.specs.List.{list_all}

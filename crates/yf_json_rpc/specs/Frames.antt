@@ -1,4 +1,5 @@
--- A message: the lines of its header fields, an empty line, and as many bytes of content as `Content-Length` says.
+-- A message: the lines of its header fields, an empty line, and the content, with the number of bytes that
+-- `Content-Length` gives.
 use Rattle.std.specs.Prelude.{◌≡◌, ℕ, ◌+◌, ◌<◌, ◌≤◌, List, ◌++◌, length, drop, map, slice_range, codes, decimal, Option, None, Some, Result, Ok, Err}
 use Rattle.httparse.specs.Grammar.{Field, LineEnd, ReadsSection}
 use Rattle.httparse.specs.Spans.{name_and_value}
@@ -8,13 +9,12 @@ use Rattle.http1.specs.declared.fields.ContentLength.TheVariants as Length
 use Rattle.yf_json_rpc.specs.declared.frame.Content.{Content}
 use Rattle.yf_json_rpc.specs.declared.frame.FrameError.{FrameError}
 
--- what the fields called `Content-Length`, in any case, say together
+-- the value of the fields called `Content-Length`, in any case
 abbrev pub length_field : List Header → ContentLength
 length_field headers = content_length (values_named (codes "content-length") headers)
 
 -- The bytes are a message with this content, and then the rest. The fields are as in HTTP (RFC 9112, section 5), at
--- most
--- sixteen of them.
+-- most sixteen of them.
 pub record IsFrame (bytes : List ℕ) (limit : ℕ) (body rest : List ℕ) : Type 0 where
   pub fields : List Field
   pub last : LineEnd
@@ -36,7 +36,7 @@ GivesFrame bytes body rest (Ok (Some content)) = (slice_range bytes content.star
 GivesFrame bytes body rest (Ok None) = ⊥
 GivesFrame bytes body rest (Err e) = ⊥
 
--- the content of a known size that begins at an offset, if it fits the limit and is there
+-- the content of a known size that begins at an offset, if it fits the limit and is complete
 abbrev pub ContentAt : ℕ → ℕ → ℕ → ℕ → Result (Option Content) FrameError → Type 0
 ContentAt all start size limit (Ok (Some content)) =
     (content.start ≡ start) × (content.end ≡ start + size) × (content.end ≤ all) × (size ≤ limit)

@@ -10,7 +10,7 @@ use Rattle.yf_json_rpc.specs.declared.message.Message.{Message}
 use Rattle.yf_json_rpc.specs.declared.message.Message.TheVariants as Variants
 use Rattle.yf_json_rpc.specs.Frames.{frame}
 
--- what a message is
+-- the kind of a message
 pub data Kind : Type 0 where
   request : Data → List ℕ → Kind
   notification : List ℕ → Kind
@@ -38,7 +38,7 @@ kind (Some id) (Some (Some method)) = if is_id id then request id method else in
 abbrev pub kind_of : Data → Kind
 kind_of d = kind (get (codes "id") d) (option_map as_str (get (codes "method") d))
 
--- the same of what was read
+-- the kind of a message that was read
 abbrev pub kind_read : Message → Kind
 kind_read (Variants.Request id method) = request (view id.now) method.now
 kind_read (Variants.Notification method) = notification method.now
@@ -62,8 +62,7 @@ abbrev pub call : List ℕ → Data → Data
 call method params = object (member (codes "jsonrpc") (string (codes "2.0"))
     (member (codes "method") (string method) (member (codes "params") params no_members)))
 
--- One message is added, whose content is JSON that reads back as the value, if arrays and objects do not nest deeper
--- than
+-- One message is added. Its content is JSON that reads back as the value, if arrays and objects do not nest deeper than
 -- the reader allows.
 pub record AddsMessage (before after : List ℕ) (value : Data) : Type 0 where
   pub text : List ℕ

@@ -5,7 +5,7 @@ ghost use Rattle.yf_json_rpc.specs.ErrorCodes.{number_of};
 /// Why a request failed (JSON-RPC 2.0, section 5.1, and `ErrorCodes` and `LSPErrorCodes` of LSP 3.17).
 #[derive(Clone, Copy)]
 pub enum ErrorCode {
-    /// The message is no JSON.
+    /// The message is not JSON.
     ParseError,
     /// The message is JSON, but no request.
     InvalidRequest,
@@ -17,12 +17,12 @@ pub enum ErrorCode {
     InternalError,
     /// The request came before `initialize`.
     ServerNotInitialized,
-    /// The request is valid, and could not be done.
+    /// The request is valid, but failed.
     RequestFailed,
 }
 
 impl ErrorCode {
-    /// The number that the protocol gives this error.
+    /// Returns the number that the protocol gives this error.
     pub fn number(self) -> i64
         ensures { result ≡ number_of self }
     {

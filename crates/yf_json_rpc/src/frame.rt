@@ -12,7 +12,7 @@ use std::alloc::AllocError;
 /// The most header fields that a message may have; the protocol defines two.
 pub const MOST_FIELDS: usize = 16;
 
-/// Where the content of a message is, in bytes from the start of what was read.
+/// The span of the content of a message, in bytes from the start of the input.
 #[derive(Clone, Copy)]
 pub struct Content {
     pub start: usize,
@@ -39,14 +39,14 @@ fn content_length(bytes: &[u8], headers: &[HeaderSpan]) -> ContentLength
     KnownFields::from_spans(bytes, headers).content_length
 }
 
-/// Returns where the content of the first message is; `None` if the bytes are only a part of a message.
+/// Returns the span of the content of the first message, or `None` if the bytes are only a part of a message.
 ///
-/// The fields may be in any order, and fields other than `Content-Length` are ignored. What follows the message does
-/// not matter.
+/// The fields may be in any order, and fields other than `Content-Length` are ignored. Bytes after the message don't
+/// matter.
 ///
 /// # Errors
 ///
-/// A `FrameError` if no bytes can follow that make this a message.
+/// A `FrameError` if no following bytes can make this a message.
 pub fn read_frame(bytes: &[u8], limit: usize) -> Result<Option<Content>, FrameError>
     ensures complete { IfOk result (λ found. IfSome found (IsFrameAt bytes.now limit)) }
     ensures found { (body rest : List ℕ) → IsFrame bytes.now limit body rest → GivesFrame bytes.now body rest result }
@@ -66,7 +66,7 @@ pub fn read_frame(bytes: &[u8], limit: usize) -> Result<Option<Content>, FrameEr
     }
 }
 
-/// Returns where the content is that begins at an offset.
+/// Returns the span of the content that begins at an offset.
 fn content_at(
     bytes: &[u8],
     start: usize,
@@ -93,7 +93,7 @@ fn content_at(
 ///
 /// # Errors
 ///
-/// `AllocError` if memory was refused; a part of the message may have been added then.
+/// `AllocError` if memory is refused; a part of the message may then have been added.
 pub fn push_frame(out: &mut Vec<u8>, body: &str) -> Result<(), AllocError>
     ensures { IfOk result (λ _. out.new.items ≡ out.old.items ++ frame body.now) }
 {

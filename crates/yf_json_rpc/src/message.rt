@@ -8,7 +8,7 @@ use crate::frame::push_frame;
 use serde_json::{Value, json};
 use std::alloc::{AllocError, Global};
 
-/// What a message is.
+/// The kind of a message.
 #[derive(Clone, Copy)]
 pub enum Message<'v> {
     /// A call that wants a response with its id, which is a number or a string.
@@ -32,7 +32,7 @@ fn is_id(value: &Value) -> bool
     }
 }
 
-/// Returns what a message is, by its members `id` and `method`.
+/// Returns the kind of a message, by its members `id` and `method`.
 pub fn message_of(value: &Value) -> Message<'_>
     ensures { kind_read result ≡ kind_of (view value.now) }
 {
@@ -60,18 +60,18 @@ pub fn message_of(value: &Value) -> Message<'_>
 ///
 /// # Errors
 ///
-/// `AllocError` if memory was refused.
+/// `AllocError` if memory is refused.
 pub fn reply(alloc: Global, id: &Value, value: &Value) -> Result<Value, AllocError>
     ensures { IfOk result (λ message. view message ≡ reply (view id.now) (view value.now)) }
 {
     json!(in alloc; {"jsonrpc": "2.0", "id": id, "result": value})
 }
 
-/// Returns the response that a request failed. The id is null if the request has none that can be read.
+/// Returns the error response to a request. The id is null if the id of the request can't be read.
 ///
 /// # Errors
 ///
-/// `AllocError` if memory was refused.
+/// `AllocError` if memory is refused.
 pub fn failure(alloc: Global, id: &Value, code: ErrorCode, text: &str) -> Result<Value, AllocError>
     ensures { IfOk result (λ message. view message ≡ failure (view id.now) code text.now) }
 {
@@ -83,18 +83,18 @@ pub fn failure(alloc: Global, id: &Value, code: ErrorCode, text: &str) -> Result
 ///
 /// # Errors
 ///
-/// `AllocError` if memory was refused.
+/// `AllocError` if memory is refused.
 pub fn notification(alloc: Global, method: &str, params: &Value) -> Result<Value, AllocError>
     ensures { IfOk result (λ message. view message ≡ call method.now (view params.now)) }
 {
     json!(in alloc; {"jsonrpc": "2.0", "method": method, "params": params})
 }
 
-/// Adds a message to what is written.
+/// Adds a message to the output.
 ///
 /// # Errors
 ///
-/// `AllocError` if memory was refused; a part of the message may have been added then.
+/// `AllocError` if memory is refused; a part of the message may then have been added.
 pub fn push_message(alloc: Global, out: &mut Vec<u8>, value: &Value) -> Result<(), AllocError>
     ensures { IfOk result (λ _. AddsMessage out.old.items out.new.items (view value.now)) }
 {

@@ -1,4 +1,4 @@
--- What std's reader of numbers says of a text of digits.
+-- The result of std's reader of numbers on a text of digits.
 use Rattle.std.proofs.Common.{◌≡◌, ◌<◌, ◌^◌, ℕ, true, false, List, [], ◌∷◌, Ok, Err, Result, refl, arith, length, rules}
 use Rattle.std.proofs.Common.{subst}
 use Rattle.std.proofs.Math.Bool.{and-false}
@@ -24,7 +24,7 @@ read {E = E} r text n h same digits =
     let fits : nat_lt (number_of text) (2 ^ 64) ≡ true = grind (arith, nat_tests, parts.0.1) in
     (rw (digits, some, fits) refl, parts.1)
 
--- Digits that are not read are no number: there are none, or they write a number that is too large.
+-- Digits that are not read are not a number: there are none, or they write a number that is too large.
 pub unread : {E : Type 0} (r : Result ℕ E) (e : E) (text : List ℕ) → ParsesUnsigned 64 10 text r → r ≡ Err e
     → list_all is_ascii_digit text ≡ true → is_number text ≡ false
 unread r e [] h same digits = refl

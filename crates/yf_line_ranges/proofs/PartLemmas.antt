@@ -1,4 +1,4 @@
--- What is left of the parts of a text is the next one and the parts after it.
+-- The remaining parts of a text are the next one and the parts after it.
 use Rattle.std.proofs.Common.{◌≡◌, ◌∙◌, ◌++◌, ◌+◌, ◌<◌, ℕ, Bool, true, false, List, [], ◌∷◌, sym, subst, ap, refl}
 use Rattle.std.proofs.Common.{length, drop, get_or, map, add-one, drop-cons}
 use Rattle.std.proofs.Math.ListN.{get_or-map}
@@ -36,7 +36,7 @@ module _ (test : List ℕ → Bool) (texts : List (Bor (List ℕ))) (k : ℕ) (d
       rw (next_text texts k d within, passes) refl in
       sym now ∙ left
 
--- What one more text gives is added.
+-- The result of one more text is added.
 pub one_more : {X : Type 0} (f : List ℕ → X) (texts : List (Bor (List ℕ))) (k : ℕ) (d : Bor (List ℕ))
     (given more whole : List X) (x : X) → k < length texts → more ≡ given ++ x ∷ [] → x ≡ f (get_or texts k d).now
     → given ++ map f (drop k (bytes_of texts)) ≡ whole → more ++ map f (drop (k + 1) (bytes_of texts)) ≡ whole

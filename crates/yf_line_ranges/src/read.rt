@@ -11,9 +11,9 @@ use std::alloc::{AllocError, Global};
 /// The number of the first line of a text.
 const FIRST_LINE: usize = 1;
 
-/// Adds the ranges that a text writes, in its order, and returns whether it writes ranges: one range or more with
-/// commas between. A range is the number of a line, or two numbers with `-` between, of which the first is not larger
-/// than the second. A number is made of digits, and is at least 1. Nothing else may be in the text, not even a space.
+/// Adds the ranges of a text, in order, and returns whether the text is a list of ranges: one or more, separated by
+/// commas. A range is the number of a line, or two numbers with `-` between; the first must not be larger than the
+/// second. A number consists of digits and is at least 1. The text must contain nothing else, not even a space.
 ///
 /// If it returns false, it may have added some of the ranges.
 ///
@@ -39,14 +39,14 @@ pub fn add_ranges(
     Ok(true)
 }
 
-// The texts between the commas of a text.
+// Returns the texts between the commas of a text.
 fn parts_of<'a>(alloc: Global, text: &'a str) -> Result<Vec<&'a str>, AllocError>
     ensures { IfOk result (λ parts. map (λ part. part.now) parts.items ≡ parts_of text.now) }
 {
     text.split(',').collect(alloc)
 }
 
-// The range that a text writes, or nothing if it writes none.
+// Returns the range that a text writes, or `None` for another text.
 fn range_of(part: &str) -> Option<LineRange>
     ensures { MatchOption result (is_range part.now ≡ false)
         (λ range. (is_range part.now ≡ true) × (range ≡ range_of part.now)) }
@@ -57,7 +57,7 @@ fn range_of(part: &str) -> Option<LineRange>
     }
 }
 
-// The lines from one number to another, or nothing if a text is no number, or if the first number is larger.
+// Returns the lines from one number to another, or `None` if a text is not a number, or if the first number is larger.
 fn lines_between(first: &str, last: &str) -> Option<LineRange>
     ensures { MatchOption result (are_ends first.now last.now ≡ false)
         (λ range. (are_ends first.now last.now ≡ true) × (range ≡ lines_between first.now last.now)) }
@@ -76,7 +76,7 @@ fn lines_between(first: &str, last: &str) -> Option<LineRange>
     Some(LineRange { first, last })
 }
 
-// The number of a line that a text writes, or nothing if it writes none.
+// Returns the number of a line that a text writes, or `None` for another text.
 fn line_number(text: &str) -> Option<usize>
     ensures { MatchOption result (is_line_number text.now ≡ false)
         (λ number. (is_line_number text.now ≡ true) × (number ≡ number_of text.now)) }

@@ -1,4 +1,4 @@
--- What the pass finds in trees: keys and items without a value.
+-- The keys and items without a value that the pass finds in trees.
 use Rattle.std.proofs.Common.{◌≡◌, ℕ, Bool, true, false, List, [], ◌∷◌, ◌++◌, refl, sym, ap, ◌∙◌, append_assoc}
 use Rattle.std.specs.Prelude.{flat_map, not, if◌then◌else◌}
 use Rattle.std.proofs.lemmas.List.{append-nil}

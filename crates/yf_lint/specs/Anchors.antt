@@ -17,12 +17,12 @@ anchor_of mapping_ends = None
 anchor_of (scalar_node props style text) = props.anchor
 anchor_of (alias_node name) = None
 
--- where the node with its properties begins
+-- the start of the node with its properties
 abbrev pub start_of : Option Span → ℕ
 start_of None = 0
 start_of (Some span) = span.start
 
--- which names are used later: a node that has a name as its anchor defines it anew, and a document's end ends its names
+-- the names that are used later; a node with a name as its anchor defines it anew, and a document's end ends its names
 abbrev pub unless_defined : Option (List ℕ) → (List ℕ → Bool) → List ℕ → Bool
 unless_defined None later name = later name
 unless_defined (Some anchor) later name = if bytes_eq anchor name then false else later name

@@ -1,4 +1,4 @@
--- What the pass that finds keys and items without a value does, event by event.
+-- The steps of the pass that finds keys and items without a value, event by event.
 use Rattle.std.specs.Prelude.{ℕ, Bool, true, false, not, if◌then◌else◌, List, [], ◌∷◌, ◌++◌, Option, Some, None}
 use Rattle.yf_events.specs.Event.{EventValue, EventInText, stream_starts, stream_ends, document_starts, document_ends, sequence_starts, sequence_ends, mapping_starts, mapping_ends, scalar_node, alias_node}
 use Rattle.yf_guard.specs.Guards.{is_empty_scalar}
@@ -58,7 +58,7 @@ found_by mapping_ends start st = []
 found_by (scalar_node props style text) start st = found_at (is_empty_scalar props style text) start st
 found_by (alias_node name) start st = found_at false start st
 
--- what is found from an event on
+-- the offsets found from an event on
 abbrev pub run : List OpenEntries → List EventInText → List ℕ
 run st [] = []
 run st (e ∷ es) = found_by e.event (start_of e.span e.entry) st ++ run (next e.event (start_of e.span e.entry) st) es

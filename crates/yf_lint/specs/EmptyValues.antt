@@ -5,7 +5,7 @@ use Rattle.yf_events.specs.declared.event.Entry.{Entry}
 use Rattle.yf_events.specs.declared.event.Span.{Span}
 use Rattle.yf_guard.specs.Guards.{is_empty}
 
--- where a node begins, and an empty one its entry: at the `:` of a key, else at the `-` or the `?`
+-- the start of a node, or of an empty node's entry: the `:` of a key, or else the `-` or the `?`
 abbrev pub colon_or : ℕ → Option ℕ → ℕ
 colon_or start None = start
 colon_or start (Some colon) = colon

@@ -9,6 +9,6 @@ use Rattle.std.specs.declared.cmp.Ordering.{Ordering}
 abbrev pub name_cmp : Bor (List ℕ) → Bor (List ℕ) → Ordering
 name_cmp a b = slice_cmp nat_cmp a.now b.now
 
--- the names of which the test holds
+-- the names that pass the test
 pub record IsNameSet (test : List ℕ → Bool) (names : BTreeSet (Bor (List ℕ))) : Type 0 where
   pub same : (q : Bor (List ℕ)) → contains name_cmp names q ≡ test q.now

@@ -37,7 +37,7 @@ fn take_name<'r>(names: &mut BTreeSet<&'r str>, name: &'r str) -> bool
     names.remove(&name)
 }
 
-/// Goes back past a node with that anchor, whose start is at fault if the name isn't used later.
+/// Passes a node with the anchor, going back. The start of the node is at fault if the name isn't used later.
 fn pass_anchor<'r>(
     anchor: Option<&'r str>,
     span: Option<Span>,
@@ -60,7 +60,7 @@ fn pass_anchor<'r>(
     }
 }
 
-/// Goes back past one event with this part of the text.
+/// Passes one event with its span, going back.
 fn pass_back<'r>(
     event: Event<'r>,
     span: Option<Span>,
@@ -91,8 +91,8 @@ fn pass_back<'r>(
     }
 }
 
-/// The byte offsets of the nodes whose anchors no alias uses, the last first: no alias with the name follows in the
-/// document before a node defines the name again.
+/// Returns the byte offsets of the nodes whose anchors no alias uses, the last first: no alias with the name follows in
+/// the document before a node defines the name again.
 ///
 /// The time is linear, up to a logarithm, in the number of events.
 pub fn unused_anchors(alloc: Global, reading: &Reading) -> Result<Vec<usize>, AllocError>
@@ -108,7 +108,7 @@ pub fn unused_anchors(alloc: Global, reading: &Reading) -> Result<Vec<usize>, Al
     Ok(offsets)
 }
 
-/// The start of a node whose anchor is among the names; the anchor is added to them.
+/// Adds the start of a node if its anchor is among the names, and the anchor to the names.
 fn pass_again<'r>(
     anchor: Option<&'r str>,
     span: Option<Span>,
@@ -130,7 +130,7 @@ fn pass_again<'r>(
     }
 }
 
-/// Goes past one event with this part of the text.
+/// Passes one event with its span.
 fn pass_on<'r>(
     event: Event<'r>,
     span: Option<Span>,
@@ -158,7 +158,7 @@ fn pass_on<'r>(
     }
 }
 
-/// The byte offsets of the nodes whose anchors an earlier node of their document has too.
+/// Returns the byte offsets of the nodes whose anchors an earlier node of their document has too.
 ///
 /// The time is linear, up to a logarithm, in the number of events.
 pub fn repeated_anchors(alloc: Global, reading: &Reading) -> Result<Vec<usize>, AllocError>

@@ -1,4 +1,4 @@
-//! Keys and items without a value: an empty node without properties, where the text has nothing at all (YAML 1.2.2,
+//! Keys and items without a value: an empty node without properties, for which the text has nothing (YAML 1.2.2,
 //! section 7.2).
 ghost use Rattle.std.specs.Prelude.{◌≡◌, ◌++◌, List, flat_map, reverse, IfOk};
 ghost use Rattle.yf_events.specs.Event.{event_value};
@@ -12,7 +12,7 @@ use yf_events::event::{Entry, Event, Span};
 use yf_events::reading::Reading;
 use yf_guard::scalars::is_empty_scalar;
 
-/// A collection whose end has not come yet.
+/// A collection that has not ended yet.
 #[derive(Clone, Copy)]
 pub struct OpenEntries {
     pub is_map: bool,
@@ -22,7 +22,7 @@ pub struct OpenEntries {
     pub key_start: usize,
 }
 
-/// The byte offset of a node, and of an empty one that of its entry: of its `:`, or of its `-` or `?`.
+/// Returns the byte offset of a node, or for an empty node that of its entry's `:`, `-` or `?`.
 fn node_start(span: Option<Span>, entry: Option<Entry>) -> usize
     ensures { result ≡ EmptyValues.start_of span entry }
 {
@@ -38,7 +38,7 @@ fn node_start(span: Option<Span>, entry: Option<Entry>) -> usize
     }
 }
 
-/// The offset at fault if an empty node comes next in the collection.
+/// Returns the offset at fault if an empty node comes next in the collection.
 fn fault_in(entries: OpenEntries, start: usize) -> Option<usize>
     ensures { result ≡ EmptyPass.fault_in entries start }
 {
@@ -51,7 +51,7 @@ fn fault_in(entries: OpenEntries, start: usize) -> Option<usize>
     Some(start)
 }
 
-/// The collection after one more node, which begins there.
+/// Returns the collection after one more node, which begins at `start`.
 fn turned(entries: OpenEntries, start: usize) -> OpenEntries
     ensures { result ≡ EmptyPass.turned start entries }
 {
@@ -97,7 +97,7 @@ fn push_fault(
     Ok(())
 }
 
-/// Goes past a node in the innermost open collection.
+/// Passes a node in the innermost open collection.
 fn pass_node(
     stack: &mut Vec<OpenEntries>,
     offsets: &mut Vec<usize>,
@@ -116,7 +116,7 @@ fn pass_node(
     }
 }
 
-/// Goes past the end of the innermost open collection.
+/// Passes the end of the innermost open collection.
 fn pass_end(stack: &mut Vec<OpenEntries>)
     ensures { reverse stack.new.items ≡ EmptyPass.without_first (reverse stack.old.items) }
 {
@@ -126,7 +126,7 @@ fn pass_end(stack: &mut Vec<OpenEntries>)
     }
 }
 
-/// Goes past one event, with where it is.
+/// Passes one event with its start.
 fn pass(
     event: Event,
     start: usize,
@@ -167,8 +167,8 @@ fn pass(
     }
 }
 
-/// The byte offsets of the keys that have no value, and of the `-` of items that are empty, in the order of the values.
-/// A value or an item with an anchor or a tag is not empty.
+/// Returns the byte offsets of the keys without a value, and of the `-` of empty items, in the order of the values. A
+/// value or an item with an anchor or a tag is not empty.
 ///
 /// The time is linear in the number of events.
 pub fn empty_values(alloc: Global, reading: &Reading) -> Result<Vec<usize>, AllocError>

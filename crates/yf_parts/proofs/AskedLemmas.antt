@@ -1,4 +1,4 @@
--- Which hunks touch the lines that are asked for.
+-- Hunks that touch requested lines.
 use Rattle.std.proofs.Common.{◌≡◌, ℕ, ◌+◌, ◌≤◌, true, false, ◌&&◌, ◌||◌, Bool, List, [], ◌∷◌, refl, sym, ap, ◌∙◌}
 use Rattle.std.proofs.Common.{arith, ⊎_elim}
 use Rattle.std.specs.Prelude.{map, nat_le}
@@ -27,7 +27,7 @@ met : (r : LineRange) (h : Hunk) (n : ℕ) → meets r h ≡ false → (nat_le r
     → touches h n ≡ false
 met r h n e f = grind (arith, nat_tests)
 
--- a hunk that is not touched touches no line that is asked for
+-- an untouched hunk touches no requested line
 pub untouched : (asked : List LineRange) (h : Hunk) → touched_by asked h ≡ false → IsUntouched asked h
 untouched [] h e n f = absurd cc
 untouched (r ∷ asked) h e n f =

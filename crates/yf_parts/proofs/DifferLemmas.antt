@@ -29,7 +29,7 @@ moved_by : (now start : Edge) (a b c d x y : List (List ℕ)) → now ≡ moved 
 moved_by now start a b c d x y is old new = ap (λ e. moved e c d) is ∙ moved_more start a b c d
     ∙ ap (λ z. moved start z (b ++ d)) old ∙ ap (λ z. moved start x z) new
 
--- lists of lines that are joined otherwise
+-- lists of lines that are joined in another way
 regrouped : {hunks : _} {at : Edge} {old new after_old after_new : List (List ℕ)} → old ≡ after_old → new ≡ after_new
     → Differ hunks at old new → Differ hunks at after_old after_new
 regrouped {hunks} {at} {old} {new} {after_old} {after_new} e f d =

@@ -1,4 +1,4 @@
--- What is proved of a part, from what its text and the text itself are formatted to.
+-- The contract of a part, from the formattings of the part and of the text.
 use Rattle.std.proofs.Common.{◌≡◌, ℕ, ◌≤◌, Bool, true, false, List, length, sym, ap, subst, ◌∙◌, arith}
 use Rattle.std.specs.Prelude.{map}
 use Rattle.std.proofs.lemmas.List.{length-map}
@@ -18,7 +18,7 @@ use Rattle.yf_parts.proofs.SpliceLemmas.{all_applied, none_applied}
 use Rattle.yf_parts.proofs.TryLemmas.{all_mapped, all_near, near_covers, none_near}
 use Rattle.yf_parts.proofs.AskedLemmas.{all_untouched, settled}
 
--- two texts with one formatting have the same content and the same comments
+-- two texts with one formatting have equal content and comments
 same_content : {t u v : List ℕ} {s : Style} → FormatKept t s u → FormatKept v s u → HasSameContent t v
 same_content k l = λ r q a b. sym (l.content q k.accepted.0 b k.accepted.1) ∙ k.content r k.accepted.0 a k.accepted.1
 
@@ -45,7 +45,7 @@ own_formatting formatted laws {t} {u} {s} h =
       fits = h.fits;
     }
 
--- what is known of the texts as they were passed on is known of the texts
+-- facts about the texts that were passed on hold of the texts
 pub differ_of : {hunks : List Hunk} {t u old new : List ℕ} → old ≡ t → new ≡ u
     → Differ hunks origin (lines_of old) (lines_of new) → Differ hunks origin (lines_of t) (lines_of u)
 differ_of {hunks} {t} {u} {old} {new} e f d = subst (λ z. Differ hunks origin (lines_of t) (lines_of z)) f
@@ -68,7 +68,7 @@ module _ {t u v : List ℕ} {s : Style} {asked : List LineRange} {hunks : List H
     (h : Headline t s u) (d : Differ hunks origin (lines_of t) (lines_of u))
     (chosen : applied ≡ near_all radius (map (touched_by asked) hunks) 0 (map (touched_by asked) hunks))
     (tried : Tried (TryFails t s u hunks (map (touched_by asked) hunks)) radius) where
-  -- a text with some hunks applied, whose formatting is that of the text
+  -- a text with some hunks applied that has the formatting of the text
   pub part_kept : v ≡ spliced t u hunks applied 0 → Headline v s u
       → (has_true (map (touched_by asked) hunks) ≡ false → v ≡ t) → PartKept t s asked hunks applied v
   part_kept made p none = record {

@@ -1,4 +1,4 @@
--- What the run over some lines has shown, and why it is refused.
+-- The output of the run over some lines, and the reason if it is refused.
 use Rattle.std.proofs.Common.{◌≡◌, ℕ, Bool, List, subst}
 use Rattle.std.proofs.lemmas.Result.{IfErr-weaker, IfOk-weaker}
 use Rattle.std.specs.Prelude.{IfErr, IfOk, Result}

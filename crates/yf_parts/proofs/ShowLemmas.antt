@@ -1,4 +1,4 @@
--- Nothing is shown of two texts that are the same.
+-- Nothing is shown of two equal texts.
 use Rattle.std.proofs.Common.{◌≡◌, ℕ, List, [], true, false, ap, refl, sym, subst}
 use Rattle.std.specs.Prelude.{Option, Some, None, MatchOption}
 use Rattle.yf_diff.specs.Diff.{AddsDiff}
@@ -20,7 +20,7 @@ no_place t v stream found none first = record {
   answer = refl;
 }
 
--- The line with the place where they differ was written, or a prefix of it.
+-- The line with the position at which they differ was written, or a prefix of it.
 module _ (t v : List ℕ) (before after : ByteStream) (found : Option Position) (place : Position) (is : found ≡ Some place)
     (first : MatchOption found (t ≡ v) (DiffersFirst t v)) where
   differs : DiffersFirst t v place
@@ -43,7 +43,7 @@ no_diff name t v diff stream found none = record {
   answer = sym (ap (λ (text : List ℕ). is_same text) none);
 }
 
--- the diff of two texts as they were passed on is that of the texts
+-- the diff of the texts that were passed on is that of the texts
 pub diff_found : (said name t v diff : List ℕ) {old new before : List ℕ} → said ≡ name → old ≡ t → new ≡ v → before ≡ []
     → AddsDiff said said old new before diff → (diff ≡ before → old ≡ new) → (old ≡ new → diff ≡ before)
     → DiffFound name t v diff

@@ -45,7 +45,7 @@ fits_from n m (differ {h} {hunks} {at} same gone came {old} {new} s d rest) e f 
       fits_from n m rest (omega arith) (omega arith),
     )
 
--- a part of a text and what is after it
+-- a part of a text and the bytes after it
 record Cut (t : List ℕ) (i j : ℕ) (a rest : List ℕ) : Type 0 where
   part : slice_range t i j ≡ a
   later : drop j t ≡ rest

@@ -53,7 +53,7 @@ ascend_from (r ∷ asked) first e =
     let here : nat_le 0 r.first ≡ true = grind (arith, nat_tests) in
     rw (here, parts.1) refl
 
--- what is left of ranges in order is in order
+-- the rest of ranges in order is in order
 pub ascend_dropped : (asked : List LineRange) (k : ℕ) → ascend_after 0 asked ≡ true
     → ascend_after 0 (drop k asked) ≡ true
 ascend_dropped asked zero e = e

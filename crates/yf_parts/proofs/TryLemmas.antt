@@ -10,7 +10,7 @@ use Rattle.std.proofs.Math.Bool.{or-true}
 use Rattle.yf_parts.specs.Asked.{Covers, has_true}
 use Rattle.yf_parts.specs.Tries.{counts_from, is_near, near_all}
 
--- how many flags are set
+-- the number of flags that are set
 abbrev trues : List Bool → ℕ
 trues [] = 0
 trues (true ∷ rest) = trues rest + 1
@@ -57,7 +57,7 @@ counts_length c (x ∷ rest) =
     counts_length (if x then c + 1 else c) rest in
     omega arith
 
--- more are set before the one index than before the other exactly if one between them is
+-- more flags are set before one index than before the other if and only if one between them is set
 pub counts_tell : (flags : List Bool) (a b d e : ℕ) → a ≤ b → b ≤ length flags
     → nat_lt (get_or (counts_from 0 flags) a d) (get_or (counts_from 0 flags) b e) ≡ has_true (slice_range flags a b)
 counts_tell flags a b d e l m =
@@ -71,7 +71,7 @@ counts_tell flags a b d e l m =
     ≡ nat_lt 0 (trues (slice_range flags a b)) = grind (arith, nat_tests) in
     rw (first, second, cut) (more ∙ sym (some_true (slice_range flags a b)))
 
--- an end after the last flag is as good as one at it
+-- an end after the last flag gives the number of an end at it
 pub slice_past : (flags : List Bool) (a b : ℕ) → length flags ≤ b → a ≤ length flags
     → slice_range flags a (length flags) ≡ slice_range flags a b
 slice_past flags a b l m = take_all (length flags - a) (drop a flags) (omega (arith, length-drop a flags))
@@ -148,7 +148,7 @@ covers_from radius front (x ∷ rest) flags i e l = (
       ∙ sym (append_assoc front (x ∷ []) rest)) (omega (arith, length-append front (x ∷ []))),
 )
 
--- those that were set are near
+-- flags that were set are near
 pub near_covers : (radius : ℕ) (flags : List Bool) → Covers flags (near_all radius flags 0 flags)
 near_covers radius flags = covers_from radius [] flags flags 0 refl refl
 
@@ -163,7 +163,7 @@ all_from radius flags i (x ∷ rest) on l m =
     let here : is_near radius flags i ≡ true = ap has_true whole ∙ on in
     rw (here, all_from radius flags (i + 1) rest on l (omega arith)) refl
 
--- all are near one that is set, if the radius is large
+-- all flags are near one that is set, if the radius is large
 pub all_near : (radius : ℕ) (flags : List Bool) → has_true flags ≡ true → length flags ≤ radius
     → near_all radius flags 0 flags ≡ map (λ _. true) flags
 all_near radius flags on l = all_from radius flags 0 flags on l (omega arith)

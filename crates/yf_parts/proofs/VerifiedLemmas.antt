@@ -1,4 +1,4 @@
--- Why a text is not one with a given formatting.
+-- Why a text hasn't a given formatting.
 use Rattle.std.proofs.Common.{◌≢◌, ℕ, List, sym}
 use Rattle.yf_forms.specs.declared.style.Style.{Style}
 use Rattle.yf_laws.specs.Formattings.{RefusedTextsHaveNoReading}

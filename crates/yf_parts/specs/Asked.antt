@@ -1,4 +1,4 @@
--- The lines that are asked for, and the hunks that touch them.
+-- The requested lines, and the hunks that touch them.
 use Rattle.std.specs.Prelude.{◌≡◌, ℕ, ◌+◌, ◌-◌, ◌==◌, Bool, true, false, ◌&&◌, ◌||◌, nat_le, nat_lt, List, [], ◌∷◌}
 use Rattle.std.specs.Prelude.{if◌then◌else◌}
 use Rattle.yf_line_ranges.specs.Ranges.{is_asked}
@@ -19,7 +19,7 @@ abbrev pub AllUntouched : List LineRange → List Hunk → Type 0
 AllUntouched asked [] = Unit {0}
 AllUntouched asked (h ∷ hunks) = IsUntouched asked h × AllUntouched asked hunks
 
--- Each hunk has a flag, and those whose flags are not set touch no line of the ranges.
+-- each hunk has a flag, and a hunk without its flag set touches no line of the ranges
 abbrev pub Settled : List LineRange → List Hunk → List Bool → Type 0
 Settled asked [] [] = Unit {0}
 Settled asked (h ∷ hunks) (flag ∷ flags) = (flag ≡ false → IsUntouched asked h) × Settled asked hunks flags
@@ -40,7 +40,7 @@ abbrev pub has_true : List Bool → Bool
 has_true [] = false
 has_true (flag ∷ flags) = flag || has_true flags
 
--- as many flags, and those that were set are set
+-- the lists have equal lengths, and flags that were set are still set
 abbrev pub Covers : List Bool → List Bool → Type 0
 Covers [] [] = Unit {0}
 Covers (a ∷ before) (b ∷ after) = (a ≡ true → b ≡ true) × Covers before after

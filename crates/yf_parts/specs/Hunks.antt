@@ -18,20 +18,20 @@ moved edge old new = record {
   formatted = edge.formatted + length (concat new);
 }
 
--- From an edge on the lines of the text and those of the formatting are the same but for the hunks, which are in order:
--- before each hunk lines are the same, and the lines of the formatting in the hunk replace those of the text.
+-- From an edge on, the lines of the text and those of its formatting are equal except for the hunks, which are in
+-- order: the lines before each hunk are equal, and in the hunk the formatting's lines replace the text's.
 pub data Differ : List Hunk → Edge → List (List ℕ) → List (List ℕ) → Type 0 where
   alike : {at : Edge} {rest : List (List ℕ)} → Differ [] at rest rest
   differ : {h : Hunk} {hunks : List Hunk} {at : Edge} (same gone came : List (List ℕ)) {old new : List (List ℕ)}
       → h.start ≡ moved at same same → h.end ≡ moved h.start gone came → Differ hunks h.end old new
       → Differ (h ∷ hunks) at (same ++ (gone ++ old)) (same ++ (came ++ new))
 
--- the lines in a hunk: those of the formatting if it is applied, else those of the text
+-- the lines in a hunk: those of the formatting if it is applied, and otherwise those of the text
 abbrev pub choice : List ℕ → List ℕ → Hunk → Bool → List ℕ
 choice t u h applied = if applied then slice_range u h.start.formatted h.end.formatted
     else slice_range t h.start.offset h.end.offset
 
--- the text t from an offset on, with the hunks applied whose flags are set; all other bytes are those of t
+-- the text t from an offset on, with the hunks applied that have their flags set; all other bytes are those of t
 abbrev pub spliced : List ℕ → List ℕ → List Hunk → List Bool → ℕ → List ℕ
 spliced t u [] flags i = drop i t
 spliced t u (h ∷ hunks) [] i = drop i t
@@ -57,12 +57,12 @@ Fits n m i (h ∷ hunks) = HunkFits n m i h × Fits n m h.end.offset hunks
 abbrev pub after : Edge → Edit → Edge
 after edge x = moved edge (old_part x) (new_part x)
 
--- where the hunk of an edit begins, if it is a change
+-- the start of the hunk that contains an edit, if the edit is a change
 abbrev pub opened : Option Edge → Edge → Edit → Option Edge
 opened (Some start) now x = if is_change x then Some start else None
 opened None now x = if is_change x then Some now else None
 
--- the hunk that ends here, if one is begun
+-- the hunk that ends here, if one has begun
 abbrev pub closed : Option Edge → Edge → List Hunk
 closed (Some start) now = record { start = start; end = now } ∷ []
 closed None now = []

@@ -1,4 +1,4 @@
--- What is proved of a part of a formatting.
+-- The contract of a part of a formatting.
 use Rattle.std.specs.Prelude.{◌≡◌, ℕ, Bool, List, map}
 use Rattle.yf_diff.specs.Texts.{lines_of}
 use Rattle.yf_forms.specs.declared.style.Style.{Style}
@@ -10,15 +10,15 @@ use Rattle.yf_parts.specs.Tries.{Tried, TryFails, near_all}
 use Rattle.yf_line_ranges.specs.declared.range.LineRange.{LineRange}
 use Rattle.yf_parts.specs.declared.hunks.Hunk.{Hunk}
 
--- v is the text t with some of the hunks applied by which t and its formatting differ, for the lines that are asked for
+-- v is the text t with some of the hunks applied by which t and its formatting differ, for the requested lines
 pub record PartKept (t : List ℕ) (s : Style) (lines : List LineRange) (hunks : List Hunk) (applied : List Bool)
     (v : List ℕ) : Type 0 where
   -- the only formatting of t, with all that is proved of it
   pub formatted : List ℕ
   pub of_text : Headline t s formatted
-  -- the lines of t and those of its formatting are the same but for the hunks
+  -- the lines of t and those of its formatting are equal except for the hunks
   pub differences : Differ hunks origin (lines_of t) (lines_of formatted)
-  -- v is t with exactly those hunks applied whose flags are set: all other bytes are those of t
+  -- v is t with exactly the hunks applied that have their flags set; all other bytes are those of t
   pub made : v ≡ spliced t formatted hunks applied 0
   -- v is accepted, and its only formatting is that of t
   pub of_part : Headline v s formatted
@@ -26,12 +26,12 @@ pub record PartKept (t : List ℕ) (s : Style) (lines : List LineRange) (hunks :
   pub content : HasSameContent t v
   -- v has the comments of t at the same places
   pub comments : HasSameComments t v
-  -- the hunks are applied that are at most so many hunks from one that touches a line that is asked for
+  -- a hunk is applied if and only if it is at most `radius` hunks from one that touches a requested line
   pub radius : ℕ
   pub chosen : applied ≡ near_all radius (map (touched_by lines) hunks) 0 (map (touched_by lines) hunks)
-  -- and with fewer, as the tries go, the result is no text, or not one whose formatting is that of t
+  -- each smaller radius of the tries gives no text, or a text with another formatting than t's
   pub tried : Tried (TryFails t s formatted hunks (map (touched_by lines) hunks)) radius
-  -- each line that is asked for is as in the formatting: no hunk that is not applied touches it
+  -- each requested line is as in the formatting: every hunk that touches one is applied
   pub asked : Settled lines hunks applied
-  -- if no hunk touches a line that is asked for, nothing changes
+  -- if no hunk touches a requested line, nothing changes
   pub unchanged : AllUntouched lines hunks → v ≡ t

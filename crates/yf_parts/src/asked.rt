@@ -1,4 +1,4 @@
-//! The lines that are asked for, and the hunks that touch them.
+//! The requested lines, and the hunks that touch them.
 ghost use Rattle.std.specs.Prelude.{◌≡◌, IfOk, map};
 ghost use Rattle.yf_parts.specs.Asked.{has_true, meets, touched_by};
 
@@ -33,7 +33,7 @@ fn is_touched(hunk: Hunk, asked: &[LineRange]) -> bool
     false
 }
 
-/// Returns for each hunk whether it touches a line of one of the ranges, in a pass over the ranges for each.
+/// Returns for each hunk whether it touches a line of one of the ranges. It passes over the ranges once for each hunk.
 pub fn touched_by_each(
     alloc: Global,
     hunks: &[Hunk],

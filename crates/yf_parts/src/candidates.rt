@@ -1,10 +1,10 @@
-//! Which hunks are applied at a try.
+//! The hunks that a try applies.
 ghost use Rattle.std.specs.Prelude.{◌≡◌, ◌<◌, IfOk, length};
 ghost use Rattle.yf_parts.specs.Tries.{counts_from, is_near, near_all};
 
 use std::alloc::{AllocError, Global};
 
-/// Returns for each prefix of the flags how many are set in it.
+/// Returns for each prefix of the flags the number of flags that are set in it.
 pub fn counts(alloc: Global, flags: &[bool]) -> Result<Vec<usize>, AllocError>
     ensures { IfOk result (λ counts. counts.items ≡ counts_from 0 flags.now) }
 {
@@ -20,7 +20,7 @@ pub fn counts(alloc: Global, flags: &[bool]) -> Result<Vec<usize>, AllocError>
     Ok(counts)
 }
 
-/// Returns whether a flag is set that is at most `radius` from an index.
+/// Returns whether a flag at most `radius` from an index is set.
 #[tactic(auto, using(crate::proofs::TryLemmas::counts_length))]
 fn is_near(flags: &[bool], counts: &[usize], index: usize, radius: usize) -> bool
     requires inside { index < length flags.now }
@@ -34,7 +34,7 @@ fn is_near(flags: &[bool], counts: &[usize], index: usize, radius: usize) -> boo
     counts[from] < counts[index + radius + 1]
 }
 
-/// Returns for each flag whether one is set that is at most `radius` from it.
+/// Returns for each flag whether a flag at most `radius` from it is set.
 pub fn chosen(
     alloc: Global,
     flags: &[bool],

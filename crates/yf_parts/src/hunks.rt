@@ -1,4 +1,4 @@
-//! Hunks: where a text and its formatting differ.
+//! Hunks: the differences between a text and its formatting.
 ghost use Rattle.std.specs.Prelude.{◌≡◌, ◌≤◌, ◌++◌, IfOk, None};
 ghost use Rattle.std.specs.List.{concat};
 ghost use Rattle.yf_diff.specs.Script.{news, olds};
@@ -10,10 +10,10 @@ use yf_diff::hashed_line::hashed_lines;
 use yf_diff::script::script;
 use yf_diff::step::Step;
 
-/// Where a hunk begins or ends, in the text and in its formatting.
+/// The start or the end of a hunk, in the text and in its formatting.
 #[derive(Clone, Copy)]
 pub struct Edge {
-    /// How many lines of the text are before it.
+    /// The number of lines of the text before it.
     pub lines: usize,
     /// Its offset in the text.
     pub offset: usize,
@@ -43,7 +43,7 @@ fn after(edge: Edge, step: &Step<'_>) -> Edge
     }
 }
 
-/// Returns where the hunk that a step belongs to begins, if the step is a change.
+/// Returns the start of the hunk that contains a step, if the step is a change.
 fn opened(begun: Option<Edge>, now: Edge, step: &Step<'_>) -> Option<Edge>
     ensures { result ≡ opened begun now step.now }
 {
@@ -56,7 +56,7 @@ fn opened(begun: Option<Edge>, now: Edge, step: &Step<'_>) -> Option<Edge>
     }
 }
 
-/// Adds the hunk that ends here, if one is begun.
+/// Adds the hunk that ends here, if one has begun.
 fn push_closed(hunks: &mut Vec<Hunk>, begun: Option<Edge>, now: Edge) -> Result<(), AllocError>
     ensures { IfOk result (λ _. hunks.new.items ≡ hunks.old.items ++ closed begun now) }
 {
@@ -113,12 +113,12 @@ fn hunks_of(
     Ok(hunks)
 }
 
-/// Returns the hunks by which a text and its formatting differ, in order. They are the runs of changes of an edit script
-/// between the two; the contract says only that the lines between them are equal.
+/// Returns the hunks by which a text and its formatting differ, in order. They are the runs of changes of an edit
+/// script between the two; the contract says only that the lines between them are equal.
 ///
 /// # Errors
 ///
-/// `AllocError` if memory was refused.
+/// `AllocError` if memory is refused.
 pub fn hunks_between(alloc: Global, text: &[u8], formatted: &[u8]) -> Result<Vec<Hunk>, AllocError>
     ensures { IfOk result (λ hunks. Differ hunks.items origin (lines_of text.now) (lines_of formatted.now)) }
 {

@@ -11,8 +11,8 @@
 //! hunk that adds `---` at the start of a text touches line 1. So if no hunk touches a line, the line is as in the
 //! formatting, and no line is missing directly before or after it.
 //!
-//! - A range whose last line is less than its first one asks for nothing. Lines after the end of the text ask for
-//!   nothing, except that the first of them is the line after a hunk that adds lines at the end.
+//! - A range whose last line is less than its first one is empty. Lines after the end of the text have no effect,
+//!   except that the first of them is the line after a hunk that adds lines at the end.
 //! - A last line without a line feed differs from its formatting, so a hunk touches it.
 //! - In a text whose lines end with CR LF each line differs from its formatting. So all its lines are one hunk.
 //! - A line of a scalar is like any other line. If its hunk gives other content, hunks around it are applied too.

@@ -30,7 +30,7 @@ pub struct FormattedPart {
     pub applied: Vec<bool>,
 }
 
-/// The hunks that are applied, and the text with these; no text if the whole formatting is needed.
+/// The hunks that are applied, and the text with them; no text if the whole formatting is needed.
 #[derive(Drop)]
 struct Attempt {
     text: Option<String>,
@@ -66,8 +66,8 @@ fn verified(
     }
 }
 
-/// Applies the hunks whose flags are set, and with each of them those that are at most 0, 1, 3, 7 and so on hunks from
-/// it, until the formatting of the text is `formatted`.
+/// Applies the hunks with set flags, and those at most 0, 1, 3, 7 and so on hunks from one of them, until the
+/// formatting of the text is `formatted`.
 fn attempted(
     alloc: Global,
     text: &str,
@@ -115,7 +115,7 @@ fn attempted(
     })
 }
 
-/// Returns the part of a formatting for the lines that are asked for.
+/// Returns the part of a formatting for the requested lines.
 fn part_of(
     alloc: Global,
     text: &str,
@@ -157,15 +157,15 @@ fn part_of(
     })
 }
 
-/// Returns a text in which the lines that are asked for are as in its formatting, and as few others as it finds.
-/// `PartKept` says all that is proved of it: it is the text with some hunks applied, and all other bytes are unchanged;
-/// it has the content and the comments of the text; its formatting is that of the text; no hunk that is not applied
-/// touches a line that is asked for; and if no hunk touches one, it is the text.
+/// Returns a text whose requested lines are as in its formatting, with few other changes. `PartKept` has all that is
+/// proved of it: it is the text with some hunks applied, and all other bytes are unchanged; it has the content and the
+/// comments of the text; its formatting is that of the text; every hunk that touches a requested line is applied; and
+/// if no hunk touches one, it is the text.
 ///
-/// With each hunk that touches a line that is asked for its neighbours are applied, 0, 1, 3, 7 and so on to both sides,
-/// until the formatting of the result is that of the text. Each smaller number of neighbours fails. It is not proved
-/// that no other choice of fewer hunks would do, nor that a hunk is small: one hunk over the whole text would meet
-/// `PartKept` too. For k hunks the text is formatted at most log2(k) + 2 times.
+/// It applies the hunks that touch a requested line and the 0, 1, 3, 7 and so on hunks on both sides of each, until the
+/// formatting of the result is that of the text. Each smaller number fails. It is not proved that no other choice of
+/// fewer hunks would do, nor that a hunk is small: one hunk over the whole text would meet `PartKept` too. For k hunks
+/// the text is formatted at most log2(k) + 2 times.
 ///
 /// # Errors
 ///

@@ -15,7 +15,7 @@ use yf_lines::watched::{Sink, Source};
 use yf_rules::input::{read_all, text_of};
 use yf_rules::run::INPUT_LIMIT;
 
-/// Lines that are asked for, and how the text with these lines formatted is shown.
+/// The requested lines, and how the text with these lines formatted is shown.
 #[derive(Drop)]
 pub struct PartTask {
     pub lines: Vec<LineRange>,
@@ -42,14 +42,15 @@ pub fn with_lines_formatted(
     }
 }
 
-/// Reads all bytes, formats the lines that are asked for, and shows the result. Returns true if it shows the result
-/// itself. For a place or a diff, returns whether the text equals the result. The bytes are kept for the caller.
+/// Reads all bytes, formats the requested lines, and shows the result. Returns true if it shows the result itself. For
+/// a position or a diff, returns whether the text equals the result. The bytes are kept for the caller.
 ///
 /// Lines end after a line feed, as in Git, so a lone carriage return ends no line.
 ///
 /// # Errors
 ///
-/// Fails like `run_fmt` of yf_rules, and writes nothing, except a prefix of what is shown after `Fault::WriteFailed`.
+/// Fails like `run_fmt` of yf_rules. Only `Fault::WriteFailed` comes after output, which is a prefix of the whole
+/// output.
 pub fn run_part<R: Source, W: Sink>(
     alloc: Global,
     task: &PartTask,

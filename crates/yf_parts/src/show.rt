@@ -17,20 +17,20 @@ use yf_rules::quoted::quoted;
 /// How a text with some lines formatted is shown.
 #[derive(Clone, Copy)]
 pub enum Show {
-    /// It is printed.
+    /// The text with the lines formatted.
     Text,
-    /// The place is printed where the text that was read first differs from it, if the text does.
+    /// The position at which the text first differs from that text, if it does.
     Place,
-    /// The unified diff of the text that was read and it is printed.
+    /// The unified diff from the text to that text.
     Diff,
 }
 
-/// Shows a text with some lines formatted: `part` is `text` with these lines formatted. Returns false if they differ and
-/// that is what is shown. A diff has both texts under the name, as Git writes it.
+/// Shows a text with some lines formatted: `part` is `text` with these lines formatted. Returns false only if it shows
+/// a position or a diff and the texts differ. A diff has both texts under the name, as Git writes it.
 ///
 /// # Errors
 ///
-/// `Fault::Memory`, and nothing is written. `Fault::WriteFailed`, and a prefix of what is shown is written.
+/// `Fault::Memory` before any output. `Fault::WriteFailed` after a prefix of the output.
 pub fn show_part<W: Sink>(
     alloc: Global,
     show: Show,
@@ -68,7 +68,7 @@ fn show_text<W: Sink>(text: &str, writer: &mut W) -> Result<bool, Fault>
     }
 }
 
-/// Writes where a text first differs from another one, if it does, and returns whether they are the same.
+/// Writes the position at which a text first differs from another one, if any, and returns whether they are equal.
 fn show_place<W: Sink>(
     alloc: Global,
     text: &str,
@@ -115,7 +115,7 @@ fn diff_of(alloc: Global, name: &str, text: &str, other: &str) -> Result<Vec<u8>
     Ok(diff)
 }
 
-/// Writes the unified diff of two texts, both under the name as Git writes it, and returns whether they are the same.
+/// Writes the unified diff of two texts, both under the name as Git writes it, and returns whether they are equal.
 fn show_diff<W: Sink>(
     alloc: Global,
     name: &str,

@@ -25,11 +25,11 @@ fn push_hunk(
     out.extend_from_slice(&text[hunk.start.offset..hunk.end.offset])
 }
 
-/// Returns the text with the hunks applied whose flags are set.
+/// Returns the text with the hunks applied that have their flags set.
 ///
 /// # Errors
 ///
-/// `AllocError` if memory was refused.
+/// `AllocError` if memory is refused.
 pub fn spliced(
     alloc: Global,
     text: &[u8],

@@ -1,4 +1,4 @@
-//! Which hunks touch the lines that are asked for.
+//! Hunks that touch requested lines.
 ghost use Rattle.std.specs.Prelude.{◌≡◌, ◌≤◌, IfOk, drop, length, map, take, true};
 ghost use Rattle.yf_line_ranges.specs.Ranges.{all_before, ascend_after};
 ghost use Rattle.yf_parts.specs.Asked.{touched_by};
@@ -93,12 +93,12 @@ fn touched_in_order(
     Ok(flags)
 }
 
-/// Returns for each hunk whether it touches a line of one of the ranges. It takes one pass over both if both are in
-/// order, and otherwise one over the ranges for each hunk.
+/// Returns for each hunk whether it touches a line of one of the ranges. It passes over both once if both are in order,
+/// and otherwise over the ranges once for each hunk.
 ///
 /// # Errors
 ///
-/// `AllocError` if memory was refused.
+/// `AllocError` if memory is refused.
 pub fn touched(alloc: Global, hunks: &[Hunk], asked: &[LineRange]) -> Result<Vec<bool>, AllocError>
     ensures { IfOk result (λ flags. flags.items ≡ map (touched_by asked.now) hunks.now) }
 {

@@ -1,4 +1,4 @@
--- A plain scalar that stays plain is one on one line in each context of its kind, by its characters alone.
+-- A plain scalar that stays plain is a plain scalar on one line, by its characters, in each context of its kind.
 use Rattle.std.proofs.Common.{◌≡◌, ◌≢◌, ℕ, ◌+◌, ◌-◌, ◌<◌, ℤ, true, false, ◌&&◌, not, List, [], ◌∷◌, ◌++◌, length, get_or, refl, sym, ap, ◌∙◌, subst, inl, inr, ◌⊎◌, ⊎_elim, arith, append_assoc, encode_utf8_all, eqb}
 use Rattle.std.proofs.Math.Bool.{and-false, and-true, or-false}
 use Rattle.std.proofs.Math.Seq.{get_or-append_seam}
@@ -35,7 +35,7 @@ use Rattle.yf_plain.proofs.PlainLemmas.{plain_is_ns, first_is_ns, ns_below, ns_n
 use Rattle.yf_plain.proofs.LineLemmas.{PlainStep, stay, move, items_stay, nexts_steps, folds_to, fold_before, content_no_break}
 use Rattle.yf_chars.proofs.CharFacts.{space_white, colon_ns, hash_ns}
 
--- the tests on a place are those on its characters
+-- the tests at an offset are the tests of its characters
 pub char_is : (t : List ℕ) (x : Ctx) (i : ℕ) → is_plain_char t x i ≡ goes_on_plain x (before t i) (code t i) (code t (i + 1))
 unfolding is_plain_char goes_on_plain
 char_is t x i = refl
@@ -58,7 +58,7 @@ unfolding goes_on_plain
 goes_other x b c d n m =
     rw (ne_eqb c 58 n, ne_eqb c 35 m, and-true (is_plain_safe c x), or-false (is_plain_safe c x), or-false (is_plain_safe c x)) refl
 
--- the same character elsewhere
+-- a character in another context and between other characters
 pub goes_moves : (x y : Ctx) (b b' c d d' : ℕ) → ((e : ℕ) → is_plain_safe e x ≡ true → is_plain_safe e y ≡ true)
     → (c ≡ 35 → is_ns_char b ≡ true → is_ns_char b' ≡ true) → (c ≡ 58 → is_plain_safe d x ≡ true → is_plain_safe d' y ≡ true)
     → goes_on_plain x b c d ≡ true → goes_on_plain y b' c d' ≡ true
@@ -90,7 +90,7 @@ goes_is_ns x b c d e =
     (λ (n : c ≢ 58). ⊎_elim (λ (q : c ≡ 35). ap is_ns_char q ∙ hash_ns) (λ (m : c ≢ 35). safe_is_ns c x (sym (goes_other x b c d n m) ∙ e)) (cases_eq c 35))
     (cases_eq c 58)
 
--- what is safe in a flow collection is safe everywhere
+-- a character that is safe in a flow collection is safe everywhere
 ns_is_safe : (e : ℕ) (y : Ctx) → is_block y ≡ false → is_inside y ≡ false → is_ns_char e ≡ true → is_plain_safe e y ≡ true
 unfolding is_plain_safe
 ns_is_safe e BlockOut b i n = absurd (true≢false b)
@@ -152,7 +152,7 @@ fold_kind {t} {n} f = go f where
   go (at_break f p) = fold f
   go (past_whites s f p) = fold f
 
--- what follows a character of content in the text follows it in the scalar, where that goes on
+-- the character after a character of content in the text follows it in the scalar too, unless the scalar ends
 goes_on : {t : List ℕ} {n : ℤ} {c : Ctx} {k j : ℕ} {y : List ℕ} → is_ns_char (code t k) ≡ true → Chain (PlainStep t n c) k j y → (y ≡ []) ⊎ (first_or_none y ≡ code t k)
 goes_on e done = inl refl
 goes_on {t} {n} {c} {k} e (step {y = y} s d) = inr (go e s y) where
@@ -164,7 +164,7 @@ goes_on {t} {n} {c} {k} e (step {y = y} s d) = inr (go e s y) where
   go e (stay s) y = item e s y
   go e (move {h = h} f g) y = absurd (fold_not_item done (content_no_break e) (ns_not_white (code t k) e) (folds_to f (plain_is_ns t c h g)))
 
--- white space, and what is after them
+-- white space and the characters after it
 white_then : (y : Ctx) (b c : ℕ) (z : List ℕ) → is_white c ≡ true → is_plain_after y c z ≡ true → is_plain_after y b (c ∷ z) ≡ true
 unfolding is_plain_after
 white_then y b c z e f = and_from _ _ (or_left (is_white c) (goes_on_plain y b c (first_or_none z)) e) f
@@ -184,7 +184,7 @@ whites_then {t} y z u (step (one {i = i} w) m) b e f =
     let r : CharAt t i (code t i) (next t i) = reads_real t i u (let low = white_below (code t i) w in omega arith) in
     white_then y b (code t i) _ w (whites_then y z u m (code t i) r.back f)
 
--- characters of a scalar, by themselves
+-- the characters of a scalar, without the text around them
 record Moves (x y : Ctx) : Type 0 where
   pub safe : (e : ℕ) → is_plain_safe e x ≡ true → is_plain_safe e y ≡ true
 
@@ -224,7 +224,7 @@ after_kept {t} {n} {c} y u m (step {y = z} (move {h = h} {x = w} f p) d) b e ns 
     (λ (q : (v : List ℕ) × (w ≡ 10 ∷ v)). absurd ((subst (λ v. NoFeed v) q.1 (no_feed_append w (code t h ∷ z) free').0).0 refl))
     (fold_kind f)
 
--- of steady bytes, what their characters are
+-- the characters of steady bytes
 feed_byte : (c : ℕ) (z : List ℕ) → has_line_feed (encodes (c ∷ z)) ≡ false → (c ≢ 10) × (has_line_feed (encodes z) ≡ false)
 unfolding has_line_feed
 feed_byte c z e =
@@ -317,7 +317,7 @@ line_kept {t} {n} {c} {x = x} y i u m e d s =
         (λ (f : first_or_none x ≡ code t (next t i)). ap (λ w. is_plain_safe w y) (f ∙ ap (code t) place) ∙ m.safe (code t (i + 1)) p)
         (goes_on ns d)
 
--- a text that was a plain scalar in some context, and that stays plain, is one on one line in each context of its kind
+-- a text that is a plain scalar in some context and stays plain is one on one line in each context of its kind
 pub plain_kept : {t : List ℕ} {n : ℤ} {c : Ctx} {i j : ℕ} {x : List ℕ} (y : Ctx) → IsUtf8 t → PlainText t n c i j x → StaysPlain c y
     → is_steady (encode_utf8_all x) ≡ true → IsPlain y (encode_utf8_all x)
 plain_kept {t} {n} {c} {i} y u p k e = go p e where

@@ -1,12 +1,12 @@
--- The lemmas, each group under the function or the theorem that it serves.
+-- The lemmas, grouped by the function or the theorem that needs them.
 
 -- `read_plain`
 pub mod PlainLemmas
 pub mod OrdinaryLemmas
 pub mod LineLemmas
 pub mod PlainOrder
--- what stays plain is read again (the laws of layouts of yf_laws)
+-- a text that stays plain is read again (the laws of layouts of yf_laws)
 pub mod KeptLemmas
 pub mod PlainBack
--- the definitions by small texts
+-- the definitions on small texts
 mod KeptShown

@@ -1,4 +1,4 @@
--- Laws of plain scalars over several lines: character by character there is one way to go on.
+-- Laws of plain scalars over several lines, which can be read in only one way, character by character.
 use Rattle.std.proofs.lemmas.Str.{encodes-append}
 use Rattle.std.proofs.Common.{◌≡◌, ◌≢◌, ℕ, ◌<◌, ◌≤◌, ℤ, pos, ◌<ℤ◌, true, false, List, [], ◌∷◌, ◌++◌, refl, sym, ap, ◌∙◌, subst, inl, inr, ◌⊎◌, ⊎_elim, arith, append_assoc, append-nil, encode_utf8_all}
 use Rattle.std.proofs.lemmas.Bool.{true≢false}
@@ -27,12 +27,12 @@ use Rattle.yf_plain.specs.Plain.PlainText.{as_key, as_lines}
 use Rattle.yf_plain.proofs.PlainLemmas.{item_functional, items_quiet, plain_is_ns, first_is_ns, quiet_ns, after_whites, ns_below, ns_not_white, ns_cr, white_not_ns}
 use Rattle.yf_chars.proofs.CharFacts.{feed_no_ns, mark_no_ns}
 
--- one character further: on the same line, or the first one of a next line
+-- one more character: on its line, or the first one of a next line
 pub data PlainStep (t : List ℕ) (n : ℤ) (c : Ctx) : ℕ → ℕ → List ℕ → Type 0 where
   stay : {i j : ℕ} {x : List ℕ} → PlainItem t c i j x → PlainStep t n c i j x
   move : {i h : ℕ} {x : List ℕ} → FlowFolded t n i h x → is_plain_char t c h ≡ true → PlainStep t n c i (next t h) (x ++ code t h ∷ [])
 
--- the same where no forbidden line is covered
+-- one more character, without a forbidden line
 pub record ClearStep (t : List ℕ) (n : ℤ) (c : Ctx) (i j : ℕ) (x : List ℕ) : Type 0 where
   pub go : PlainStep t n c i j x
   pub clear : Clear t i j
@@ -98,7 +98,7 @@ step_functional t n c = record {
   forward = λ a. step_forward (kind a.go);
 }
 
--- a range is clear where each step in it is
+-- a range is clear if each step in it is
 clear_split : {t : List ℕ} {n : ℤ} {c : Ctx} {i j : ℕ} {x : List ℕ} → Chain (PlainStep t n c) i j x → Clear t i j → Chain (ClearStep t n c) i j x
 clear_split done a = done
 clear_split {t} {n} {c} (step s d) a =
@@ -233,7 +233,7 @@ enders : (d : ℕ) → (d ≡ 10) ⊎ ((d ≡ 13) ⊎ (d ≡ 0xFEFF)) → is_ns_
 enders d e = ⊎_elim (λ (f : d ≡ 10). ap is_ns_char f ∙ feed_no_ns)
     (λ (g : (d ≡ 13) ⊎ (d ≡ 0xFEFF)). ⊎_elim (λ (f : d ≡ 13). ap is_ns_char f ∙ ns_cr) (λ (f : d ≡ 0xFEFF). ap is_ns_char f ∙ mark_no_ns) g) e
 
--- what is before the first character of a next line is no character of content
+-- no character of content is before the first character of a next line
 pub fold_before : {t : List ℕ} {n : ℤ} {i h : ℕ} {x : List ℕ} → IsUtf8 t → FoldsTo t n i h x → is_ns_char (before t h) ≡ false
 fold_before {t} {n} {i} {h} u f = go (fold_line f) where
   at_start : {l g : ℕ} → Break t g l → is_ns_char (before t l) ≡ false
@@ -254,7 +254,7 @@ no_next_at {t} {n} {c} {i} {h} f refuse = record {
 pub no_next_fold : {t : List ℕ} {n : ℤ} {c : Ctx} {i : ℕ} → Stuck (FoldsTo t n i) → NoNextLine t n c i
 no_next_fold s = record { none = λ k y g e a. s.none k y g }
 
--- the characters of a line are those that are there
+-- the characters of a line are those of the text there
 item_spelled : {t : List ℕ} {c : Ctx} {i j : ℕ} {x : List ℕ} → IsUtf8 t → PlainItem t c i j x → Spelled t i j x
 item_spelled {t} {c} u (set_off {h = h} w e) = spelled_join (spelled_whites u w) (spelled_char (reads_real t h u (ns_below (code t h) (plain_is_ns t c h e))))
 
@@ -270,7 +270,7 @@ front_spelled {t} {c} {i} u p = go p.text where
   go : {j : ℕ} {x : List ℕ} → PlainLine t c i j x → Spelled t i j x
   go (one_line e d) = char_spelled u (first_is_ns t c i e) d
 
--- a key is the part on its line
+-- a key is the first line
 pub key_chosen : {t : List ℕ} {n : ℤ} {c : Ctx} {i j : ℕ} {x : List ℕ} → is_key c ≡ true → Chosen (PlainFront t c i) j x → Chosen (Plain t n c i) j x
 key_chosen {t} {n} {c} {i} k best = record {
   derived = record { text = as_key k best.derived.text; clear = best.derived.clear };

@@ -1,4 +1,4 @@
--- Ordinary characters are in plain scalars.
+-- Plain scalars may contain ordinary characters.
 use Rattle.std.proofs.Common.{◌≡◌, ◌≢◌, ℕ, zero, suc, ◌+◌, ◌<◌, ◌≤◌, ⊎_elim, Bool, true, false, List, [], ◌∷◌, refl, sym, ap, ◌∙◌, subst, arith, get_or, length}
 use Rattle.std.proofs.lemmas.Bool.{cases_Bool, true≢false}
 use Rattle.std.proofs.lemmas.Bool.Decides.{nat_tests}
@@ -20,7 +20,7 @@ use Rattle.yf_plain.specs.Plain.{is_sign, PlainItem}
 use Rattle.yf_plain.proofs.PlainLemmas.{plain_other, plain_colon, first_other, char_first, safe_is_ns, item_stuck, item_found, plain_is_ns}
 use Rattle.yf_chars.proofs.CharFacts.{feed_no_ns, feed_no_white, space_white, colon_no_white, space_no_ns}
 
--- a class of characters that may be in a plain scalar in the context, whatever is beside them
+-- a class of characters that a plain scalar in the context may contain beside any character
 pub record Ordinary (test : ℕ → Bool) (x : Ctx) : Type 0 where
   pub below : (c : ℕ) → test c ≡ true → c < 128
   pub no_colon : (c : ℕ) → test c ≡ true → c ≢ 58
@@ -80,7 +80,7 @@ ordinary_class x n = record {
   safe = λ c e. ordinary_safe c x n e;
 }
 
--- of a byte that is one
+-- bytes of ordinary characters
 pub ordinary_at : {test : ℕ → Bool} {x : Ctx} → Ordinary test x → (t : List ℕ) (i : ℕ) → IsUtf8 t → i < length t → test (get_or t i 0) ≡ true
     → OrdinaryAt t x i
 ordinary_at {test} {x} s t i u l e =
@@ -118,7 +118,7 @@ run_found {test} s t b i n e u w r a z =
     let few = r.few in
     run_on s t i n u (omega arith) (λ k l m. sym (ap (λ v. test (get_or v k 0)) e) ∙ r.pass k l m) (record { reads = (_, done); follows = a; boundary = z })
 
--- of a byte that is a letter, a digit or _
+-- bytes of letters, digits and _
 letter_outer : (c : ℕ) → is_letter c ≡ true → is_outer c ≡ true
 unfolding is_letter is_outer is_between
 letter_outer c e = grind (arith, nat_tests)
@@ -146,7 +146,7 @@ letter_at t i u l e =
       allowed = not_forbidden t i (λ q. absurd (omega arith)) (λ q. absurd (omega arith));
     }
 
--- a byte above : is no white space
+-- a byte above : isn't white space
 white_upto : (c : ℕ) → is_white c ≡ true → c ≤ 32
 unfolding is_white
 white_upto c e = grind (arith, nat_tests)
@@ -177,7 +177,7 @@ word_boundary t c i o =
     let end : i + 1 + 1 ≡ i + 2 = omega arith in
     subst (λ k. IsCharBoundary t k) end o.reads.boundary
 
--- a character that is no character of content is not safe
+-- a character that isn't a character of content is not safe
 no_content_unsafe : (c : ℕ) (x : Ctx) → is_ns_char c ≡ false → is_plain_safe c x ≡ false
 no_content_unsafe c x n =
     ⊎_elim (λ (h : is_plain_safe c x ≡ true). absurd (true≢false (sym (safe_is_ns c x h) ∙ n))) (λ (h : is_plain_safe c x ≡ false). h)

@@ -1,4 +1,4 @@
--- The characters of a plain scalar on one line are one wherever they are.
+-- The characters of a plain scalar on one line are a plain scalar at any offset.
 use Rattle.std.proofs.Common.{◌≡◌, ◌≢◌, ℕ, ◌+◌, ◌<◌, ℤ, true, false, ◌&&◌, ◌||◌, not, List, [], ◌∷◌, ◌++◌, length, refl, sym, ap, ◌∙◌, subst, inl, inr, ◌⊎◌, ⊎_elim, arith, append_assoc, append-nil, eqb}
 use Rattle.std.proofs.lemmas.Bool.{cases_Bool, true≢false, and_parts, or_cases, eqb-true}
 use Rattle.std.proofs.lemmas.Bool.Decides.{nat_tests}
@@ -29,7 +29,7 @@ use Rattle.yf_plain.specs.Kept.{starts_plain, goes_on_plain, is_plain_after, is_
 use Rattle.yf_plain.proofs.PlainLemmas.{white_not_ns, safe_at_end, ns_sign, sign_below}
 use Rattle.yf_plain.proofs.KeptLemmas.{char_is, first_is, goes_moves, starts_moves, goes_is_ns, steady_parts, Steady}
 
--- the character after, where it is safe
+-- the next character, if it is safe
 ahead : {t : List ℕ} {q : ℕ} (x : Ctx) (cs r : List ℕ) → IsUtf8 t → IsAt t q (encodes cs ++ r) → is_plain_safe (first_or_none cs) x ≡ true
     → is_plain_safe (code t q) x ≡ true
 ahead x [] r u s e = absurd (true≢false (sym e ∙ safe_at_end x))
@@ -37,7 +37,7 @@ ahead {t} {q} x (c ∷ cs) r u s e =
     let got = is_at_char c u (subst (λ w. IsAt t q w) (append_assoc (encode c) (encodes cs) r) s) in
     ap (λ w. is_plain_safe w x) got.0.char ∙ e
 
--- white space that wait for the character after them
+-- white space before the character that ends it
 data Waiting (b k q : ℕ) : List ℕ → Type 0 where
   none_waiting : k ≡ q → Waiting b k q []
   white_waiting : {w : List ℕ} → is_white b ≡ true → Waiting b k q w
@@ -158,7 +158,7 @@ peel {t} {q} d c cs r u l e s =
     let one : len_utf8 c ≡ 1 = len_utf8_ascii c (omega arith) in
     record { same = same; bytes = ap (λ v. encodes (v ∷ cs)) same ∙ ascii_bytes d cs l; rest = subst (λ k. IsAt t (q + k) (encodes cs ++ r)) one got.1 }
 
--- three of one character after each other, and then white or an end, begin no plain scalar that stays plain
+-- three equal characters before white space or an end begin no plain scalar that stays plain
 marker_fails : {t : List ℕ} (x : Ctx) (d q : ℕ) (cs r : List ℕ) → IsUtf8 t → d < 128 → is_plain_line x cs ≡ true → is_marker_of d (encodes cs) ≡ false
     → IsAt t q (encodes cs ++ r) → code t (q + length (encodes cs)) ≢ d → code t q ≡ d → code t (q + 1) ≡ d → code t (q + 2) ≡ d
     → is_white_or_end (code t (q + 3)) ≡ true → ⊥
@@ -238,14 +238,14 @@ line_nb x (c ∷ cs) e = let parts = split_line x c cs e in (ns_nb c (start_ns x
 pub plain_line_text : {x : Ctx} {w : List ℕ} → IsPlain x w → IsLineText w
 plain_line_text {x} p = record { chars = p.chars; bytes = p.bytes; each = line_nb x p.chars p.line }
 
--- wherever the bytes are, they are a plain scalar of that context
+-- at any offset, the bytes are a plain scalar of the context
 in_context : {t : List ℕ} (n : ℤ) (x : Ctx) {q j : ℕ} {cs : List ℕ} → is_block x ≡ false → PlainLine t x q j cs → PlainText t n x q j cs
 in_context {t} n x {q} {j} {cs} b d =
     ⊎_elim (λ (k : is_key x ≡ true). as_key k d)
     (λ (k : is_key x ≡ false). subst (λ v. PlainText t n x q j v) (append-nil cs) (as_lines (not_others x b k) d done))
     (cases_Bool (is_key x))
 
--- as a part of others nothing is asked of what follows
+-- within other scalars, nothing is required of the text that follows
 pub plain_text_back : {t : List ℕ} (n : ℤ) {x : Ctx} {w : List ℕ} (r : List ℕ) {q : ℕ} → IsUtf8 t → is_block x ≡ false → (p : IsPlain x w) → IsAt t q (w ++ r)
     → PlainText t n x q (q + length w) p.chars
 plain_text_back {t} n {x} {w} r {q} u b p s =

@@ -104,7 +104,7 @@ first_is_ns t c i e =
     (λ (h : is_sign (code t i) ≡ false). (and_parts (is_ns_char (code t i)) (not (is_indicator (code t i))) (sym (first_other t c i h) ∙ e)).0)
     (cases_Bool (is_sign (code t i)))
 
--- the same tests, by the character that was read
+-- those tests, by the character that was read
 pub ascii_end : {t : List ℕ} {i c j : ℕ} → CharAt t i c j → c < 128 → i + 1 ≡ j
 ascii_end {t} {i} r l = sym (next_ascii t i (rw r.char l)) ∙ r.end
 
@@ -142,7 +142,7 @@ first_at_end t c i e =
     ⊎_elim (λ (h : is_plain_first t c i ≡ true). absurd (true≢false (sym (first_is_ns t c i h) ∙ ap is_ns_char e ∙ no_ns_char)))
     (λ (h : is_plain_first t c i ≡ false). h) (cases_Bool (is_plain_first t c i))
 
--- after white space is a white
+-- white space ends with white space
 pub after_whites : {t : List ℕ} {i j : ℕ} {x : List ℕ} → IsUtf8 t → Many t is_white i j x → (i ≡ j) ⊎ (is_white (before t j) ≡ true)
 after_whites u done = inl refl
 after_whites {t} {j = j} u (step (one {i = i} e) c) =

@@ -1,4 +1,4 @@
--- Plain scalars and their parts end after their start, or at it where they may be empty.
+-- Plain scalars and their parts end after their start; parts that may be empty may end at it.
 use Rattle.std.proofs.Common.{ℕ, ℤ, ◌<◌, ◌≤◌, List, arith}
 use Rattle.yf_chars.specs.declared.context.Ctx.{Ctx}
 use Rattle.yf_chars.specs.Chain.{Chain, done, step}

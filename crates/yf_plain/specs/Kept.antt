@@ -1,4 +1,4 @@
--- A plain scalar on one line, by its characters alone: wherever they are, they are one.
+-- Plain scalars on one line, defined by their characters; such characters are a plain scalar at any offset.
 use Rattle.std.specs.Prelude.{◌≡◌, ℕ, Bool, true, false, ◌==◌, ◌&&◌, ◌||◌, not, List, [], ◌∷◌, encode_utf8_all}
 use Rattle.yf_chars.specs.Signs.{COLON, NUMBER_SIGN}
 use Rattle.yf_chars.specs.declared.context.Ctx.{Ctx}
@@ -20,7 +20,7 @@ goes_on_plain x b c d =
     || ((c == NUMBER_SIGN) && is_ns_char b)
     || ((c == COLON) && is_plain_safe d x)
 
--- after the character b: such characters, and white space between them
+-- such characters after the character b, with white space between them
 unfoldable pub is_plain_after : Ctx → ℕ → List ℕ → Bool
 is_plain_after x b [] = is_ns_char b
 is_plain_after x b (c ∷ cs) = (is_white c || goes_on_plain x b c (first_or_none cs)) && is_plain_after x c cs
@@ -29,7 +29,7 @@ unfoldable pub is_plain_line : Ctx → List ℕ → Bool
 is_plain_line x [] = false
 is_plain_line x (c ∷ cs) = starts_plain x c (first_or_none cs) && is_plain_after x c cs
 
--- bytes that are a plain scalar in the context, and that stay plain
+-- bytes that are a plain scalar in the context and that stay plain
 pub record IsPlain (x : Ctx) (w : List ℕ) : Type 0 where
   pub chars : List ℕ
   pub bytes : encode_utf8_all chars ≡ w
@@ -45,8 +45,8 @@ is_inside FlowIn = true
 is_inside BlockKey = false
 is_inside FlowKey = true
 
--- what is plain in the first context is plain in the second, where it is on one line: outside of flow collections, and in
--- them where it comes from one
+-- a scalar on one line that is plain in the first context is plain in the second: the second is outside flow
+-- collections, or both are within one
 pub record StaysPlain (x y : Ctx) : Type 0 where
   pub flow : is_block y ≡ false
   pub inside : is_inside y ≡ true → is_inside x ≡ true

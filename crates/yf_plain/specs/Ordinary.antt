@@ -1,5 +1,5 @@
--- ASCII characters of which one test tells what they are to a plain scalar: those that may be in it whatever is beside them,
--- letters, digits and _, which may begin it, and those after which its line ends whatever the context
+-- ASCII characters that one test classifies for plain scalars: those that it may contain beside any character; letters,
+-- digits and _, which may begin it; and those that end its line in every context
 use Rattle.std.specs.Prelude.{◌≡◌, ℕ, ◌+◌, Bool, true, false, ◌==◌, ◌||◌, List}
 use Rattle.yf_chars.specs.declared.context.Ctx.{Ctx}
 use Rattle.yf_chars.specs.Class.{is_between}
@@ -8,11 +8,11 @@ use Rattle.yf_chars.specs.Text.{code, CharAt}
 use Rattle.yf_lines.specs.Basic.{ForbiddenLine, is_block}
 use Rattle.yf_plain.specs.Plain.{is_plain_char, is_plain_first, PlainItem}
 
--- outside of flow collections: from $ on all that are printed, but :
+-- outside flow collections: all printable ones from $ on except :
 unfoldable pub is_outer : ℕ → Bool
 is_outer c = is_between 0x24 0x39 c || is_between 0x3B 0x7E c
 
--- within them too: the same but , [ ] { and }
+-- also within them: all those except , [ ] { and }
 unfoldable pub is_ordinary : ℕ → Bool
 is_ordinary c = is_between 0x24 0x2B c || is_between 0x2D 0x39 c || is_between 0x3B 0x5A c || (c == 0x5C) || is_between 0x5E 0x7A c || (c == 0x7C) || (c == 0x7E)
 
@@ -20,7 +20,7 @@ is_ordinary c = is_between 0x24 0x2B c || is_between 0x2D 0x39 c || is_between 0
 unfoldable pub is_letter : ℕ → Bool
 is_letter c = is_between 0x61 0x7A c || is_between 0x41 0x5A c || is_between 0x30 0x39 c || (c == 0x5F)
 
--- a character in one byte begins at i that may be in a plain scalar in the context
+-- a character of one byte begins at i that a plain scalar may contain in the context
 pub record OrdinaryAt (t : List ℕ) (c : Ctx) (i : ℕ) : Type 0 where
   pub reads : CharAt t i (code t i) (i + 1)
   pub plain : is_plain_char t c i ≡ true
@@ -31,6 +31,6 @@ pub record LetterAt (t : List ℕ) (i : ℕ) : Type 0 where
   pub first : (c : Ctx) → is_plain_first t c i ≡ true
   pub allowed : ForbiddenLine t i → ⊥
 
--- nothing more of a plain scalar is on the line after i
+-- the plain scalar has no more characters on the line from i on
 pub record EndAt (t : List ℕ) (i : ℕ) : Type 0 where
   pub ends : (c : Ctx) → Stuck (PlainItem t c i)

@@ -1,4 +1,4 @@
-//! Plain scalars (YAML 1.2.2, section 7.3.3): their reader, and which texts stay plain when they are written.
+//! Plain scalars (YAML 1.2.2, section 7.3.3): their reader, and the texts that stay plain when they are written.
 #![tactic(auto)]
 
 mod ordinary;

@@ -1,4 +1,4 @@
-//! Characters of which one test tells what they are to a plain scalar. Offsets count bytes.
+//! Characters that one test classifies for plain scalars. Offsets count bytes.
 ghost use Rattle.std.specs.Prelude.{◌≡◌, ◌+◌, ◌≤◌, length, false, true};
 ghost use Rattle.yf_chars.specs.Class.{is_between, is_white};
 ghost use Rattle.yf_chars.specs.Lanes.{LaneRun};
@@ -11,7 +11,7 @@ use std::simd::prelude::*;
 use yf_chars::lanes::lanes_before;
 use yf_chars::text::is_char_at;
 
-// Whether the ASCII character may be in a plain scalar, whatever is beside it and in whatever context of scalars.
+// Returns whether a plain scalar may contain the ASCII character beside any character, in each context of scalars.
 #[tactic(auto, unfolding(crate::specs::Ordinary::is_ordinary, yf_chars::specs::Class::is_between))]
 #[inline(always)]
 fn is_ordinary(byte: u8) -> bool
@@ -23,7 +23,7 @@ fn is_ordinary(byte: u8) -> bool
     matches!(byte, b'\\' | b'^'..=b'z' | b'|' | b'~')
 }
 
-/// Whether such a character begins at the offset.
+/// Returns whether such a character begins at the offset.
 #[inline(always)]
 pub(crate) fn is_ordinary_at(s: &str, at: usize) -> bool
     ensures { result ≡ true → (c : Ctx) → is_block c ≡ false → OrdinaryAt s.now c at }
@@ -35,7 +35,7 @@ pub(crate) fn is_ordinary_at(s: &str, at: usize) -> bool
     false
 }
 
-/// How many such characters are at the offset, of 16 bytes.
+/// Returns the number of such characters at the offset, within 16 bytes.
 #[inline(always)]
 pub(crate) fn ordinary_lanes(bytes: &[u8], at: usize) -> usize
     requires { at + 16 ≤ length bytes.now }
@@ -52,7 +52,7 @@ pub(crate) fn ordinary_lanes(bytes: &[u8], at: usize) -> usize
     lanes_before(others.to_bitmask())
 }
 
-/// The same outside of flow collections, where commas and brackets may be too.
+/// Returns that number outside flow collections, where commas and brackets count too.
 #[inline(always)]
 pub(crate) fn outer_lanes(bytes: &[u8], at: usize) -> usize
     requires { at + 16 ≤ length bytes.now }
@@ -64,7 +64,8 @@ pub(crate) fn outer_lanes(bytes: &[u8], at: usize) -> usize
     lanes_before(others.to_bitmask())
 }
 
-/// Whether the byte may be one of these: before white space, breaks and wider characters 16 bytes are not looked at.
+/// Returns whether the byte may be such a character. Before white space, breaks and wider characters, the 16 bytes
+/// aren't tested.
 #[tactic(auto, unfolding(yf_chars::specs::Class::is_between))]
 #[inline(always)]
 pub(crate) fn is_worth_a_look(byte: u8) -> bool
@@ -73,7 +74,7 @@ pub(crate) fn is_worth_a_look(byte: u8) -> bool
     matches!(byte, b'$'..=b'~')
 }
 
-// A letter, a digit or `_`. Most are lower-case letters, which take two tests.
+// Returns whether the byte is a letter, a digit or `_`. Most are lower-case letters, which take two tests.
 #[tactic(auto, unfolding(crate::specs::Ordinary::is_letter, yf_chars::specs::Class::is_between))]
 #[inline(always)]
 fn is_letter(byte: u8) -> bool
@@ -85,7 +86,7 @@ fn is_letter(byte: u8) -> bool
     byte <= b'z'
 }
 
-/// Whether a letter, a digit or `_` is there, which may begin a plain scalar.
+/// Returns whether a letter, a digit or `_` is at the offset. It may begin a plain scalar.
 #[inline(always)]
 pub(crate) fn is_letter_at(s: &str, at: usize) -> bool
     ensures { result ≡ true → LetterAt s.now at }
@@ -97,8 +98,8 @@ pub(crate) fn is_letter_at(s: &str, at: usize) -> bool
     false
 }
 
-/// Whether a character above `:` is there, and so no white space and no end of a line. Of a character beyond ASCII its first byte is above `:` too, and the
-/// tests for white space and for the end of a line, which are all of ASCII, are spared.
+/// Returns whether a character above `:` is at the offset. It is neither white space nor the end of a line, which are
+/// all ASCII, so the tests for these are not needed. The first byte of a character beyond ASCII is above `:` too.
 #[inline(always)]
 pub(crate) fn is_text_at(s: &str, at: usize) -> bool
     ensures { result ≡ true → is_white (code s.now at) ≡ false }
@@ -112,7 +113,8 @@ pub(crate) fn is_text_at(s: &str, at: usize) -> bool
     false
 }
 
-/// Whether a line feed is there, or a `:` before a space or a line feed, which end the line of a plain scalar.
+/// Returns whether a line feed, or a `:` before a space or a line feed, is at the offset. Both end the line of a plain
+/// scalar.
 #[inline(always)]
 pub(crate) fn is_end_at(s: &str, at: usize) -> bool
     ensures { result ≡ true → EndAt s.now at }

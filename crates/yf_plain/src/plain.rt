@@ -28,15 +28,15 @@ use yf_lines::fold::{flow_folded, indent_width};
 use yf_lines::source_text::Src;
 use yf_lines::text::{FoundText, OwnedText, Text};
 
-/// Reads a plain scalar (ns-plain(n,c), production 131) that begins at the byte offset: its text, folded, and the offset
-/// after it, or `None` where no plain scalar begins. `n` is the indentation, from -1.
+/// Reads a plain scalar (ns-plain(n,c), production 131) that begins at the byte offset. Returns its folded text and the
+/// offset after it, or `None` if no plain scalar begins there. `n` is the indentation, from -1.
 ///
 /// In keys it is on one line. No plain scalar covers a document marker at the start of a line. The text is a slice of
-/// the source where the scalar is on one line.
+/// the source if the scalar is on one line.
 ///
 /// # Errors
 ///
-/// `Fault::Memory` alone.
+/// Only `Fault::Memory`.
 pub fn read_plain<'a>(alloc: Global, src: &Src<'a>, at: usize, n: i32, ctx: Ctx) -> FoundText<'a>
     requires { IsCharBoundary src.now.text at }
     ensures reads { IfOk result (λ o. MatchOption o (Stuck (Plain src.now.text n ctx at))
@@ -47,7 +47,7 @@ pub fn read_plain<'a>(alloc: Global, src: &Src<'a>, at: usize, n: i32, ctx: Ctx)
     read_plain_in(alloc, src.text(), at, n, ctx)
 }
 
-/// The same in a text without its lines.
+/// Reads a plain scalar as `read_plain` does, in a text without its lines.
 pub fn read_plain_in<'a>(alloc: Global, s: &'a str, at: usize, n: i32, ctx: Ctx) -> FoundText<'a>
     requires { IsCharBoundary s.now at }
     ensures reads { IfOk result (λ o. MatchOption o (Stuck (Plain s.now n ctx at))
@@ -80,7 +80,7 @@ pub fn read_plain_in<'a>(alloc: Global, s: &'a str, at: usize, n: i32, ctx: Ctx)
     }
 }
 
-// Whether it is a context within flow collections.
+// Returns whether the context is within a flow collection.
 fn is_inside(ctx: Ctx) -> bool
     ensures { result ≡ is_inside ctx }
 {
@@ -94,7 +94,7 @@ struct Lines {
     end: usize,
 }
 
-// The plain scalar that begins at the offset, whose first line ends at `first_end`.
+// Reads the plain scalar at the offset, whose first line ends at `first_end`.
 fn plain_lines(
     alloc: Global,
     s: &str,
@@ -126,7 +126,7 @@ fn plain_lines(
     }
 }
 
-// Appends what a fold with so many empty lines means.
+// Appends the meaning of a fold with `feeds` empty lines.
 fn push_fold(text: &mut String, feeds: usize) -> Result<(), AllocError>
     ensures { OnOk result (string_bytes text.new ≡ string_bytes text.old ++ fold_text feeds) }
 {
@@ -147,7 +147,7 @@ struct NextLine {
     end: usize,
 }
 
-// The next line of a plain scalar after the end of one of its lines (s-ns-plain-next-line(n,c), production 134).
+// Reads the next line of a plain scalar after the end of one of its lines (s-ns-plain-next-line(n,c), production 134).
 #[inline(always)]
 fn next_line(s: &str, at: usize, width: usize, ctx: Ctx) -> Option<NextLine>
     requires { IsCharBoundary s.now at }
@@ -174,8 +174,8 @@ fn next_line(s: &str, at: usize, width: usize, ctx: Ctx) -> Option<NextLine>
     }
 }
 
-/// Reads the part of a plain scalar that is on its first line (ns-plain-one-line(c), production 133): the byte
-/// offset after it, or `None` where no plain scalar begins.
+/// Reads the first line of a plain scalar (ns-plain-one-line(c), production 133). Returns the byte offset after it, or
+/// `None` if no plain scalar begins there.
 ///
 /// In a key this is the whole scalar.
 #[inline(always)]
@@ -192,8 +192,8 @@ pub fn read_plain_line(s: &str, at: usize, ctx: Ctx) -> Option<usize>
     }
 }
 
-// The offset after the first character of a plain scalar, which begins no forbidden line. Most are letters, which need one
-// test.
+// Returns the offset after the first character of a plain scalar, at which no forbidden line begins. Most are letters,
+// which need one test.
 #[inline(always)]
 fn front_char(s: &str, at: usize, ctx: Ctx) -> Option<usize>
     requires { IsCharBoundary s.now at }
@@ -212,7 +212,8 @@ fn front_char(s: &str, at: usize, ctx: Ctx) -> Option<usize>
     }
 }
 
-// The characters of a plain scalar after one of them, on the same line (nb-ns-plain-in-line(c), production 132).
+// Returns the offset after all further characters of a plain scalar on its line (nb-ns-plain-in-line(c), production
+// 132).
 #[inline(always)]
 fn plain_in_line(s: &str, at: usize, ctx: Ctx) -> usize
     requires boundary { IsCharBoundary s.now at }
@@ -232,8 +233,9 @@ fn plain_in_line(s: &str, at: usize, ctx: Ctx) -> usize
     }
 }
 
-// The offset after ordinary characters that are there after a character of content: after all, or after those among the next 16
-// bytes. Outside of flow collections commas and brackets are some too. In block contexts, in which no scalar is, none is looked for.
+// Returns the offset after ordinary characters that follow a character of content: after all of them, or after those
+// among the next 16 bytes. Outside flow collections, commas and brackets count too. Block contexts have no scalars, so
+// it passes none there.
 #[inline(always)]
 fn ordinary_run(s: &str, at: usize, ctx: Ctx) -> usize
     requires boundary { IsCharBoundary s.now at }
@@ -263,7 +265,7 @@ fn ordinary_run(s: &str, at: usize, ctx: Ctx) -> usize
     end
 }
 
-// White space and one character after them: the offset after it. Most often it is one space, and an ordinary character.
+// Returns the offset after white space and one more character. Usually that is one space and an ordinary character.
 #[inline(always)]
 fn plain_item(s: &str, at: usize, ctx: Ctx) -> Option<usize>
     requires boundary { IsCharBoundary s.now at }
@@ -294,7 +296,7 @@ fn plain_item(s: &str, at: usize, ctx: Ctx) -> Option<usize>
     }
 }
 
-// Whether an ordinary character begins there, in a context of scalars.
+// Returns whether an ordinary character begins there, in a context of scalars.
 #[inline(always)]
 fn is_plain_char_at(s: &str, at: usize, ctx: Ctx) -> bool
     ensures { result ≡ true → OrdinaryAt s.now ctx at }
@@ -305,8 +307,8 @@ fn is_plain_char_at(s: &str, at: usize, ctx: Ctx) -> bool
     is_ordinary_at(s, at)
 }
 
-// The offset after the character that begins there, where it may be in a plain scalar (ns-plain-char(c), production
-// 130); `after_char` tells whether a character of content is before it.
+// Returns the offset after the character there, if a plain scalar may contain it (ns-plain-char(c), production 130).
+// `after_char` says whether a character of content is before it.
 #[inline(always)]
 fn plain_char(s: &str, at: usize, ctx: Ctx, after_char: bool) -> Option<usize>
     requires boundary { IsCharBoundary s.now at }
@@ -337,8 +339,7 @@ fn plain_char(s: &str, at: usize, ctx: Ctx, after_char: bool) -> Option<usize>
     }
 }
 
-// The offset after the character that begins there, where it may begin a plain scalar (ns-plain-first(c), production
-// 126).
+// Returns the offset after the character there, if it may begin a plain scalar (ns-plain-first(c), production 126).
 fn plain_first(s: &str, at: usize, ctx: Ctx) -> Option<usize>
     requires { IsCharBoundary s.now at }
     ensures { MatchOption result (is_plain_first s.now ctx at ≡ false)
@@ -364,7 +365,7 @@ fn plain_first(s: &str, at: usize, ctx: Ctx) -> Option<usize>
     }
 }
 
-// One of the indicators `?`, `:` and `-`.
+// Returns whether the character is one of the indicators `?`, `:` and `-`.
 #[tactic(auto, unfolding(crate::specs::Plain::is_sign))]
 fn is_sign(c: char) -> bool
     ensures { result ≡ is_sign c }
@@ -372,7 +373,7 @@ fn is_sign(c: char) -> bool
     matches!(c, '?' | ':' | '-')
 }
 
-// Whether a character that is safe in plain scalars (ns-plain-safe(c), production 127) begins there.
+// Returns whether a character that is safe in plain scalars (ns-plain-safe(c), production 127) begins there.
 fn is_safe_at(s: &str, at: usize, ctx: Ctx) -> bool
     requires { IsCharBoundary s.now at }
     ensures { result ≡ Class.is_plain_safe (code s.now at) ctx }

@@ -1,4 +1,4 @@
--- The walk along an edit script: what is known between two of its steps.
+-- The walk along an edit script: its state between two steps.
 use Rattle.std.proofs.Common.{◌≡◌, ℕ, ◌+◌, ◌<◌, ◌≤◌, true, false, List, [], ◌∷◌, length, drop, get_or, refl, sym, ap, ◌∙◌, subst, arith}
 use Rattle.std.proofs.lemmas.List.{drop_all, drop_more}
 use Rattle.yf_diff.specs.Script.{Edit, kept, dropped, added, olds, news, old_part, is_change}

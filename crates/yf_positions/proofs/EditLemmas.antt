@@ -1,4 +1,4 @@
--- What edits make of a text, one more edit or line at a time.
+-- The text after edits, one more edit or line at a time.
 use Rattle.std.proofs.Common.{◌≡◌, ℕ, ◌+◌, ◌-◌, ◌<◌, ◌≤◌, true, false, ◌&&◌, List, [], ◌∷◌, ◌++◌, length, take, drop, get_or, slice_range, refl, sym, ap, ◌∙◌, subst, arith, eqb, leb, append_assoc, append-nil, take-add, drop-drop, take_all}
 use Rattle.std.proofs.lemmas.Bool.{and_parts, and_from, eq-eqb, le-leb, lt-leb}
 use Rattle.std.proofs.lemmas.List.{drop_more, take_rest}

@@ -51,7 +51,7 @@ units_within e (c ∷ t) k =
     omega (arith, same))
     (cases_Bool (is_break c || ltb k (byte_units e c)))
 
--- as many lines end before the start of a line as its number says
+-- the number of lines that end before the start of a line is the line's index
 start_line : (t : List ℕ) (n : ℕ) → n ≤ lines_before t (length t) → lines_before t (line_start t n) ≡ n
 start_line [] n h = omega arith
 start_line (c ∷ t) zero h = refl

@@ -41,7 +41,7 @@ never_empty : (run : List Edit) (x : Edit) → run ++ x ∷ [] ≡ [] → ⊥
 never_empty [] x h = absurd (cc)
 never_empty (y ∷ run) x h = absurd (cc)
 
--- since the last line that stays: the steps so far, and what follows if the edits that are left follow the script
+-- the state since the last kept line: the steps so far, and the result if the remaining edits follow the script
 pub record Follows (e : Encoding) (old new : List ℕ) (edits : List RangeEdit) (from to : Offsets)
     (all steps : List Edit) : Type 0 where
   pub run : List Edit

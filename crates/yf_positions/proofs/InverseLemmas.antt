@@ -112,7 +112,7 @@ offset-position e t i l h a =
     let below : line_start t (lines_before t i) ≤ i = start_below t (lines_before t i) i (omega arith) in
     ap (λ z. line_start t (lines_before t i) + z) (inverse e t i l h a) ∙ (omega arith)
 
--- a boundary is where no byte continues a character
+-- at a boundary, no byte continues a character
 pub boundary_starts : (t : List ℕ) (i : ℕ) → IsCharBoundary t i → continues (get_or t i 0) ≡ false
 boundary_starts t i b =
     ⊎_elim (λ (l : i < length t).
@@ -145,7 +145,7 @@ positions_invert e t i b a =
     ∙ start_here t i h in
     ap (λ z. offset_of e t (position_at e t z)) same ∙ offset-position e t i l h a
 
--- where a position's offset is
+-- the offset of a position
 break_starts : (b : ℕ) → is_break b ≡ true → continues b ≡ false
 break_starts b h =
     ⊎_elim (λ (f : (b == 10) ≡ true). let e : b ≡ 10 = eqb-true b 10 f in

@@ -1,4 +1,4 @@
--- The lemmas, each group under what it serves.
+-- The lemmas, grouped by the function or the law that needs them.
 
 -- the lines of a text
 pub mod LineLemmas

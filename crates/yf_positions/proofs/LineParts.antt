@@ -126,7 +126,7 @@ passed_line t i line rest l e =
       };
     }
 
--- where no line is left, the text ends
+-- if no line is left, the text ends
 pub none_left : (t : List ℕ) (i : ℕ) → i ≤ length t → lines_of (drop i t) ≡ [] → i ≡ length t
 none_left t i l e =
     let none : length (drop i t) ≡ 0 = ap length (lines_none (drop i t) e) in

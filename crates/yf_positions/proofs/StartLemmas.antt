@@ -7,7 +7,7 @@ use Rattle.yf_positions.specs.Units.{is_break}
 use Rattle.yf_positions.specs.Lines.{lines_before, line_start, AreLineStarts, IsUnbroken, FirstBreak, LineEndsAt}
 use Rattle.yf_positions.proofs.LineLemmas.{lines_before-zero, line_start-zero, lines_most, start_above, start_below, unbroken_same}
 
--- what a search of the rest of a text finds
+-- the result of a search of the rest of a text
 none_between : (t : List ℕ) (from n : ℕ) → Nowhere (Passes (is_byte2 10 13) (drop from t)) 0 n → (k : ℕ) → from ≤ k
     → k < from + n → is_break (get_or t k 0) ≡ false
 none_between t from n none k a b =

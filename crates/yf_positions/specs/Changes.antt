@@ -21,7 +21,7 @@ changed_in e t (Some range) new = replaced t (offset_of e t range.start) (offset
 abbrev pub changed : Encoding → List ℕ → TextChange → Option (List ℕ)
 changed e t x = changed_in e t x.range x.text
 
--- the text after all changes, each of which is of the text that the one before it left
+-- the text after all changes; each refers to the text after the one before it
 abbrev pub all_changed : Encoding → List ℕ → List TextChange → Option (List ℕ)
 all_changed e t [] = Some t
 all_changed e t (x ∷ rest) = option_and_then (λ u. all_changed e u rest) (changed e t x)

@@ -1,4 +1,4 @@
--- Edits of a document, all of which speak of the text before any of them is made.
+-- Edits of a document, which all refer to the text before any edit.
 use Rattle.std.specs.Prelude.{◌≡◌, ℕ, suc, ◌+◌, ◌<◌, ◌≤◌, Bool, true, ◌&&◌, ◌==◌, nat_le, List, [], ◌∷◌, ◌++◌, length, take, drop, slice_index, slice_range}
 use Rattle.yf_diff.specs.Script.{Edit, kept, olds, news, is_change}
 use Rattle.yf_diff.specs.Texts.{lines_of}
@@ -24,12 +24,12 @@ in_order e t at [] = true
 in_order e t at (x ∷ rest) = nat_le at (edit_start e t x) &&
     (nat_le (edit_start e t x) (edit_end e t x) && in_order e t (edit_end e t x) rest)
 
--- the text from the offset on with the edits made: what is between them stays
+-- the text from the offset on with the edits made; the text between them stays
 abbrev pub edited : Encoding → List ℕ → ℕ → List RangeEdit → List ℕ
 edited e t at [] = drop at t
 edited e t at (x ∷ rest) = slice_range t at (edit_start e t x) ++ (x.text ++ edited e t (edit_end e t x) rest)
 
--- that text up to the end of the last edit, and where the last edit ends
+-- that text up to the end of the last edit, and the end of the last edit
 abbrev pub edited_front : Encoding → List ℕ → ℕ → List RangeEdit → List ℕ
 edited_front e t at [] = []
 edited_front e t at (x ∷ rest) = slice_range t at (edit_start e t x) ++
@@ -60,8 +60,8 @@ abbrev pub all_changes : List Edit → Bool
 all_changes [] = true
 all_changes (x ∷ rest) = is_change x && all_changes rest
 
--- The edits are those of a script from an offset on: each puts the lines that come in the place of lines that go, and
--- has at least one such line. No edit covers a line that stays.
+-- The edits are those of a script from an offset on: each replaces dropped lines by added ones, and has at least one
+-- such line. No edit covers a kept line.
 pub data EditsFollow (e : Encoding) (old : List ℕ) : ℕ → List Edit → List RangeEdit → Type 0 where
   follow_end : {at : ℕ} → EditsFollow e old at [] []
   follow_kept : {at : ℕ} {line : List ℕ} {rest : List Edit} {edits : List RangeEdit}
@@ -79,11 +79,11 @@ pub record EditsOfScript (e : Encoding) (old new : List ℕ) (edits : List Range
   pub news : news script ≡ lines_of new
   pub follow : EditsFollow e old 0 script edits
 
--- nothing goes and nothing comes between two offsets
+-- no line is dropped or added between two offsets
 abbrev pub is_empty : Offsets → Offsets → Bool
 is_empty from to = from.old == to.old && from.new == to.new
 
--- the edit of a range with this text is added; none if nothing goes or comes
+-- the edit of a range with this text is added, unless nothing is dropped or added
 pub data AddsEdit (e : Encoding) (t text : List ℕ) (from to : Offsets) (before after : List RangeEdit) : Type 0 where
   no_edit : from.old ≡ to.old → from.new ≡ to.new → after ≡ before → AddsEdit e t text from to before after
   one_edit : (x : RangeEdit) → (from.old ≡ to.old → from.new ≡ to.new → ⊥) → edit_start e t x ≡ from.old

@@ -1,4 +1,4 @@
--- What follows from the definitions.
+-- Consequences of the definitions.
 use Rattle.std.specs.Prelude.{◌≡◌, ℕ, ◌-◌, ◌<◌, ◌≤◌, false, List, length, sum_by, take, drop}
 use Rattle.std.specs.Str.{IsCharBoundary, IsUtf8, chars}
 use Rattle.yf_positions.specs.declared.encoding.Encoding.{Encoding}
@@ -22,9 +22,8 @@ abbrev pub ColumnsCount : Type 0
 ColumnsCount = (e : Encoding) (t : List ℕ) (start i : ℕ) → IsUtf8 t → IsCharBoundary t start → IsCharBoundary t i
     → IsUnbroken t start i → column_at e t start i ≡ sum_by (char_units e) (chars (take (i - start) (drop start t)))
 
--- The offset of a position: between two characters and not inside a CR LF, in the position's line, at most as many
--- units
--- after the line's start as the position says, and the last such offset.
+-- The offset of a position: the last one in the position's line that is between two characters, not inside a CR LF, and
+-- at most the position's number of units after the line's start.
 pub record IsOffsetOf (e : Encoding) (t : List ℕ) (p : LspPosition) (offset : ℕ) : Type 0 where
   pub boundary : IsCharBoundary t offset
   pub apart : inside_break t offset ≡ false

@@ -6,7 +6,7 @@ use Rattle.yf_positions.specs.Units.{is_break}
 abbrev pub ends_line : ℕ → List ℕ → Bool
 ends_line c t = c == 10 || (c == 13 && not (slice_index t 0 == 10))
 
--- how many lines end in the first i bytes
+-- the number of lines that end in the first i bytes
 abbrev pub lines_before : List ℕ → ℕ → ℕ
 lines_before [] i = 0
 lines_before (c ∷ t) zero = 0
@@ -28,7 +28,7 @@ pub record AreLineStarts (starts t : List ℕ) : Type 0 where
   pub count : length starts ≡ suc (lines_before t (length t))
   pub each : (k : ℕ) → k < length starts → slice_index starts k ≡ line_start t k
 
--- no line ends in the bytes from i up to j: none of them is of a line break
+-- no line ends in the bytes from i to j: none of them is part of a line break
 pub record IsUnbroken (t : List ℕ) (i j : ℕ) : Type 0 where
   pub order : i ≤ j
   pub bound : j ≤ length t

@@ -11,13 +11,13 @@ units_before e [] i = 0
 units_before e (c ∷ t) zero = 0
 units_before e (c ∷ t) (suc i) = if is_break c then 0 else (byte_units e c + units_before e t i)
 
--- how many bytes the longest front of whole characters has that is before a break and has at most k units
+-- the number of bytes of the longest front of whole characters that is before a break and has at most k units
 abbrev pub bytes_within : Encoding → List ℕ → ℕ → ℕ
 bytes_within e [] k = 0
 bytes_within e (c ∷ t) k = if is_break c || nat_lt k (byte_units e c) then 0 else suc
     (bytes_within e t (k - byte_units e c))
 
--- the offset at which the character begins that holds the byte at i; i itself at the end of the text
+-- the start of the character with the byte at i, or i itself at the end of the text
 abbrev pub character_start : List ℕ → ℕ → ℕ
 character_start t zero = 0
 character_start t (suc i) = if continues (slice_index t (suc i)) then character_start t i else suc i
@@ -35,7 +35,7 @@ position_at e t i = record { line = lines_before t i; character = column_at e t 
 abbrev pub position_of : Encoding → List ℕ → ℕ → LspPosition
 position_of e t i = position_at e t (character_start t (min i (length t)))
 
--- the offset that is so many units after the start of a line, and at most at the line's end
+-- the offset k units after the start of a line, but at most the line's end
 abbrev pub offset_in : Encoding → List ℕ → ℕ → ℕ → ℕ
 offset_in e t start k = start + bytes_within e (drop start t) k
 

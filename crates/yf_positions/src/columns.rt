@@ -59,7 +59,7 @@ fn continues(byte: u8) -> bool
     byte >= 128 && byte < 192
 }
 
-/// Returns the offset at which the character begins that holds the byte at an offset; the offset itself at the end.
+/// Returns the start of the character with the byte at the offset, or the offset itself at the end of the text.
 #[tactic(auto, using(crate::proofs::ColumnLemmas::start_steps))]
 pub fn character_start(bytes: &[u8], offset: usize) -> usize
     requires { offset ≤ length bytes.now }

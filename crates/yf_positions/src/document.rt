@@ -1,4 +1,4 @@
-//! A document of an editor: its text, and where its lines begin.
+//! A document of an editor: its text, and the starts of its lines.
 ghost use Rattle.std.specs.Prelude.{◌≡◌, ◌↔◌, ◌≤◌, ◌++◌, length, take, drop, IfOk, IsErrOf, string_bytes};
 ghost use Rattle.std.specs.Str.{IsCharBoundary};
 ghost use Rattle.yf_positions.specs.Changes.{all_changed, changed, changed_in};
@@ -12,7 +12,7 @@ use crate::position::{LspPosition, LspRange};
 use std::alloc::{AllocError, Global};
 use std::marker::Model;
 
-/// The text of a document and the offsets at which its lines begin. In a contract it is the bytes of the text.
+/// The text of a document and the offsets at which its lines begin. A contract sees the bytes of the text.
 #[derive(Drop)]
 pub struct Document {
     text: String,
@@ -56,7 +56,7 @@ impl Document {
     ///
     /// # Errors
     ///
-    /// `AllocError` if memory was refused.
+    /// `AllocError` if memory is refused.
     pub fn new(alloc: Global, text: String) -> Result<Document, AllocError>
         ensures { IfOk result (λ document. document ≡ string_bytes text) }
     {
@@ -64,7 +64,7 @@ impl Document {
         Ok(Document { text, starts })
     }
 
-    /// The text.
+    /// Returns the text.
     pub fn text(&self) -> &str
         ensures { result.now ≡ self.now }
     {
@@ -167,12 +167,12 @@ impl Document {
         Document::new(alloc, text)
     }
 
-    /// Returns the document after all changes, in order: each is of the text that the one before it left.
+    /// Returns the document after all changes, in order; each refers to the text after the one before it.
     ///
     /// # Errors
     ///
     /// `ChangeError::ReversedRange` if the range of a change ends before it starts, and `ChangeError::Memory` if memory
-    /// was refused. This document stays as it is.
+    /// is refused. This document is unchanged.
     pub fn after_changes(
         &self,
         alloc: Global,

@@ -1,8 +1,8 @@
-//! The units in which a position counts the characters of a line.
+//! The units by which a position counts the characters of a line.
 ghost use Rattle.std.specs.Prelude.{◌≡◌};
 ghost use Rattle.yf_positions.specs.Units.{byte_units, is_break};
 
-/// The unit in which a position counts (`PositionEncodingKind` of LSP 3.17).
+/// The unit by which a position counts (`PositionEncodingKind` of LSP 3.17).
 #[derive(Clone, Copy)]
 pub enum Encoding {
     /// Bytes.
@@ -16,7 +16,7 @@ pub enum Encoding {
 /// The UTF-16 code units of a character above U+FFFF.
 const SURROGATE_PAIR: usize = 2;
 
-/// Returns how many units the character has that begins with the byte. A byte that continues a character has none.
+/// Returns the number of units of the character that begins with the byte, or 0 for a byte that continues a character.
 #[inline(always)]
 pub fn byte_units(encoding: Encoding, byte: u8) -> usize
     ensures { result ≡ byte_units encoding byte }

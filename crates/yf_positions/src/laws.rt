@@ -1,4 +1,4 @@
-//! What follows from the definitions.
+//! Consequences of the definitions.
 ghost use Rattle.yf_positions.specs.Laws.{ColumnsCount, LaterLinesAreEnd, OffsetsAreExact, OffsetsInvert, PositionsInvert};
 
 /// The offset of an offset's position is that offset, if it is between two characters and not inside a CR LF.
@@ -6,7 +6,7 @@ pub fn positions_invert()
     ensures { PositionsInvert }
 {}
 
-/// The offset of a position is the offset of its own position, so no information is lost from the second step on.
+/// The offset of a position is the offset of its own position, so a second conversion loses no information.
 pub fn offsets_invert()
     ensures { OffsetsInvert }
 {}

@@ -1,4 +1,4 @@
-//! Where the lines of a text begin.
+//! The starts of the lines of a text.
 ghost use Rattle.std.specs.Prelude.{◌≡◌, ◌<◌, ◌≤◌, true, length, slice_index, IfOk, MatchOption};
 ghost use Rattle.yf_positions.specs.Lines.{AreLineStarts, FirstBreak, IsUnbroken, LineEndsAt, line_start, lines_before};
 ghost use Rattle.yf_positions.specs.Units.{is_break};

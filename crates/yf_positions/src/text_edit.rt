@@ -47,11 +47,11 @@ impl From<AllocError> for EditError {
     }
 }
 
-/// Returns the text of a document after edits, all of which speak of the text before any of them is made.
+/// Returns the text of a document after edits, which all refer to the text before any edit.
 ///
 /// # Errors
 ///
-/// `EditError::OutOfOrder` if the edits are not in order or overlap, and `EditError::Memory` if memory was refused.
+/// `EditError::OutOfOrder` if the edits are not in order or overlap, and `EditError::Memory` if memory is refused.
 #[tactic(auto, using(crate::proofs::EditLemmas::edit_steps))]
 pub fn after_edits(
     alloc: Global,
@@ -90,7 +90,7 @@ pub struct Offsets {
     pub new: usize,
 }
 
-/// Returns whether nothing goes and nothing comes between two offsets.
+/// Returns whether no line is dropped or added between two offsets.
 fn is_empty(from: Offsets, to: Offsets) -> bool
     ensures { result ≡ is_empty from to }
 {
@@ -131,11 +131,11 @@ fn push_edit<'a>(
 }
 
 /// Returns edits of whole lines that lead from a document to a new text. They are in order and do not overlap, and no
-/// edit covers a line that the edit script keeps. If the text is that of the document, there are no edits.
+/// edit covers a line that the edit script keeps. If the text equals the document's, there are no edits.
 ///
 /// # Errors
 ///
-/// `AllocError` if memory was refused.
+/// `AllocError` if memory is refused.
 pub fn edits_between<'a>(
     alloc: Global,
     document: &Document,

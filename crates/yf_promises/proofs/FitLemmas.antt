@@ -1,4 +1,4 @@
--- A document breaches nothing exactly if what it says keeps the further rules.
+-- A document breaches nothing if and only if its statements keep the further rules.
 use Rattle.std.proofs.Common.{◌≡◌, ℕ, Bool, true, false, not, List, [], ◌∷◌, ◌++◌, map, Option, Some, None, refl, ap, ◌∙◌}
 use Rattle.yf_props.specs.Handles.{Declaration}
 use Rattle.yf_events.specs.Event.{EventInText, props_of}

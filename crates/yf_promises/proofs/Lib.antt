@@ -1,4 +1,4 @@
--- the further rules, over what is said
+-- the further rules, over the documents that the tokens state
 pub mod FitLemmas
 -- events, content and comments
 pub mod SaidLemmas

@@ -29,7 +29,7 @@ use Rattle.yf_promises.specs.Said.{ContentSaid, DocumentsFit, IsAccepted, SameCo
 use Rattle.yf_promises.proofs.FitLemmas.{documents_breach, documents_fit}
 use Rattle.yf_promises.proofs.SaidLemmas.{nodes_one, reading_comments, reading_content, reading_events}
 
--- what the promises rest on
+-- the basis of the promises
 pub record Laws : Type 0 where
   pub standard : StandardTextsAreRead
   pub meant : StandardStreamsMeanOne
@@ -95,7 +95,7 @@ module _ (laws : Laws) where
   read_text : (t : List ℕ) (r : Lists) → IsUtf8 t → ReadingOf t r → IsAccepted t
   read_text t r u g = accepted_text t ((laws.standard t).1 u r g)
 
-  -- what each derivation says is what the reading was made of
+  -- each derivation states the documents from which the reading was made
   said_read : (t : List ℕ) (r : Lists) → IsUtf8 t → (g : ReadingOf t r) → (d : IsStandardStream t) → said_by d ≡ documents_said g.derived
   said_read t r u g d =
       let v = laws.streams t DEPTH u d in

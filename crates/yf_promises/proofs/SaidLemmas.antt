@@ -1,4 +1,4 @@
--- The events, the content and the comments of a reading are what the documents say.
+-- The events, the content and the comments of a reading are those that the documents state.
 use Rattle.std.proofs.Common.{◌≡◌, ℕ, Bool, List, [], ◌∷◌, ◌++◌, map, flat_map, Option, Some, None, refl, sym, ap, ◌∙◌, subst, append_assoc, append-nil}
 use Rattle.std.specs.List.{zip}
 use Rattle.std.proofs.lemmas.List.{map-append}
@@ -30,7 +30,7 @@ noted_events nothing_noted = refl
 noted_events (without_entry {e = e} n r) = ap (λ z. e.event ∷ z) (noted_events r)
 noted_events (with_entry {e = e} entry i n r) = ap (λ z. e.event ∷ z) (noted_events r)
 
--- the events of one document and of those after it, without their places
+-- the events of one document and of those after it, without their positions
 one_more : (d : Document) (closed : Bool) (x : List EventInText)
     → values (unplaced (document_starts d.marked) ∷ (d.events ++ (unplaced (document_ends closed) ∷ x)))
     ≡ document_starts d.marked ∷ (values d.events ++ (document_ends closed ∷ values x))
@@ -86,7 +86,7 @@ record NodesIn (ds : List Document) (x : List EventInText) (tags : List (Option 
   are : (more : List EventValue) (rest : List (Option (List ℕ)))
       → items (values x ++ more) (tags ++ rest) ≡ nodes ++ items more rest
 
--- the lists of one document and of those after it, with what follows
+-- the lists of one document and of those after it
 events_before : (d : Document) (closed : Bool) (x : List EventInText) (more : List EventValue)
     → values (unplaced (document_starts d.marked) ∷ (d.events ++ (unplaced (document_ends closed) ∷ x))) ++ more
     ≡ document_starts d.marked ∷ (values d.events ++ (document_ends closed ∷ (values x ++ more)))

@@ -1,4 +1,4 @@
--- what the tokens of a text say: whether it is accepted, its events, its content and its comments
+-- the statements of a text's tokens: whether it is accepted, its events, its content and its comments
 pub mod Said
 -- the promises
 pub mod Promises

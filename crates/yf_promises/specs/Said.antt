@@ -1,5 +1,5 @@
--- What the tokens of a text say, besides its documents: whether the further rules of YAML 1.2.2 hold (sections 5.7, 6.8,
--- 6.9 and 7.1, except that verbatim tags are not checked), its events, its content and its comments.
+-- The statements of a text's tokens, besides its documents: whether the further rules of YAML 1.2.2 hold (sections 5.7,
+-- 6.8, 6.9 and 7.1, except that verbatim tags are not checked), its events, its content and its comments.
 use Rattle.std.specs.Prelude.{◌≡◌, ⊤, ℕ, Bool, true, false, List, [], ◌∷◌, ◌++◌, Option, Some, None, map}
 use Rattle.std.specs.List.{flat_map, zip}
 use Rattle.yf_props.specs.Handles.{Declaration}
@@ -13,7 +13,7 @@ use Rattle.yf_standard.specs.Laws.{IsStandardStream}
 use Rattle.yf_standard.specs.Readings.{DocumentSaid, StreamSaid, stream_said}
 use Rattle.yf_standard.specs.Tokens.{tokens}
 
--- What a derivation of all of a text by production 211 says.
+-- The statements of a derivation of a whole text by production 211.
 abbrev pub said_by : {t : List ℕ} → IsStandardStream t → StreamSaid
 said_by d = stream_said [] (tokens d)
 
@@ -32,8 +32,8 @@ NodesFit ds anchors (e ∷ es) =
     (is_unknown ds (props_of e).tag ≡ false) × (has_anchor anchors (alias_of e) ≡ true)
     × NodesFit ds (with_name (props_of e).anchor anchors) es
 
--- The directives of a document have one version at most, whose major number is 1, and declare each handle once; its nodes
--- fit them; and each of its escapes is a character. (A key may occur twice in a mapping.)
+-- The directives of a document have at most one version, whose major number is 1, and declare each handle once; its
+-- nodes fit them; and each of its escapes is a character. (A key may occur twice in a mapping.)
 pub record DocumentFits (d : DocumentSaid) : Type 0 where
   pub directives : directive_breaches false [] d.directives ≡ []
   pub nodes : NodesFit (declarations [] d.directives) [] d.events

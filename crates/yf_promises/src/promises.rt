@@ -3,11 +3,12 @@ ghost use Rattle.yf_promises.specs.Promises.{ContentIsOne, Promises, StreamsSayO
 
 use yf_rules::headline::headline;
 
-/// What holds of every text and every style. The function does nothing; its contract is what it is for.
+/// Laws of every text and every style. The function does nothing; only its contract matters.
 ///
 /// `yamlfmt` has the relations that the contracts of the commands `events`, `fmt` and `check` name, and `promises` says
 /// what they mean for a user. A text is accepted if some derivation keeps the further rules, and the promises speak of
-/// all derivations of it; the clause `meaning` says that these agree. By the clause `content`, documents say one content.
+/// all derivations of it; the clause `meaning` says that these agree. By the clause `content`, documents say one
+/// content.
 pub fn promises()
     ensures promises { Promises yamlfmt }
     ensures meaning { StreamsSayOne }

@@ -1,4 +1,4 @@
--- Looking a handle up among the declarations, and the texts of tags.
+-- Handles among the declarations, and the texts of tags.
 use Rattle.std.proofs.Common.{◌≡◌, ℕ, Bool, true, false, cond, List, [], ◌∷◌, ◌++◌, map, Option, Some, None, codes, refl, sym, ap, ◌∙◌, subst, is_some, true≢false, append-nil}
 use Rattle.std.specs.Borrow.{Bor}
 use Rattle.std.specs.Map.{lookup}
@@ -16,7 +16,7 @@ name_cond : (b : Bool) (x : Bor (List ℕ)) (q : Option (Bor (List ℕ))) → co
 name_cond true x q = refl
 name_cond false x q = refl
 
--- among the entries of the map and among the declarations the same is found
+-- the entries of the map and the declarations give one result
 pub lookup_declaration : (es : List (Bor (List ℕ) × Bor (List ℕ))) (h : List ℕ)
     → lookup (bytes_eq h) (map declaration es) ≡ name_value (lookup (λ k. bytes_eq h k.now) es)
 lookup_declaration [] h = refl

@@ -1,4 +1,4 @@
--- The lemmas, each group under the function or the theorem that it serves.
+-- The lemmas, grouped by the function or the theorem that needs them.
 
 -- `alias_node` and anchors
 pub mod NameLemmas
@@ -13,10 +13,10 @@ pub mod SeparationEnds
 -- `Handles`: `declare` and `resolve`; the order of resolved tags
 pub mod HandleLemmas
 pub mod OrderLemmas
--- what is written is read again (the laws of layouts of yf_laws)
+-- written names are read again (the laws of layouts of yf_laws)
 pub mod NamesMade
 pub mod NamesBack
 pub mod PropsBack
 pub mod PropsLines
--- the definitions by small texts
+-- the definitions on small texts
 mod PropsShown

@@ -1,4 +1,4 @@
--- The handle and the prefix of a TAG directive are read as long as their characters go.
+-- The handle and the prefix of a TAG directive include all characters that may be in them.
 use Rattle.std.proofs.Common.{◌≡◌, ◌≢◌, ℕ, ◌+◌, ◌≤◌, false, List, ◌∷◌, ◌++◌, refl, sym, ap, ◌∙◌, subst, arith}
 use Rattle.yf_chars.specs.Chain.{Chain, Chosen, Many, Stuck}
 use Rattle.yf_chars.specs.Chain.Chain.{done}
@@ -19,7 +19,7 @@ handle_mark (named_handle a r b) = a
 pub no_handle : {t : List ℕ} {i : ℕ} → code t i ≢ 33 → (j : ℕ) → Handle t i j → ⊥
 no_handle n j h = n (handle_mark h)
 
--- where the name after the ! ends at w
+-- the name after the ! ends at w
 module _ (t : List ℕ) (i w : ℕ) (x : List ℕ) (m : Many t is_word_char (i + 1) w x) (e : is_word_char (code t w) ≡ false) where
   named_end : {j : ℕ} → Run (WordChar t) (i + 1) j → j ≡ w
   named_end r = (stuck_unique (one_functional t is_word_char) r.chain r.all m (one_stuck t is_word_char w e)).0

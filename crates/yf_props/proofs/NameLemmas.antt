@@ -1,4 +1,4 @@
--- Names are as long as their characters go, so where one ends is unique.
+-- Names include all characters that may be in them, so they have only one end.
 use Rattle.std.proofs.Common.{◌≡◌, ◌≢◌, ℕ, ◌+◌, ◌<◌, ◌≤◌, Bool, false, ◌⊎◌, inl, inr, ⊎_elim, List, slice_range, sym, ap, subst, arith}
 use Rattle.std.proofs.lemmas.Bool.{cases_lt}
 use Rattle.yf_chars.specs.Text.{code, no_char}
@@ -11,7 +11,7 @@ use Rattle.yf_props.specs.Names.Anchor.{ampersand_name}
 use Rattle.yf_props.specs.Names.Alias.{asterisk_name}
 use Rattle.yf_chars.proofs.EscapeLemmas.{chosen_only}
 
--- and what ends further than all else that is derived, or is the same
+-- a result is chosen if every other one ends earlier or is equal
 pub chosen_over : {X : Type 0} {P : ℕ → X → Type 0} {j : ℕ} {x : X} → P j x
     → ((k : ℕ) (y : X) → P k y → (k < j) ⊎ ((k ≡ j) × (y ≡ x))) → Chosen P j x
 chosen_over {X} {P} {j} {x} d other = record {
@@ -20,7 +20,7 @@ chosen_over {X} {P} {j} {x} d other = record {
   only = λ y e. ⊎_elim (λ (l : j < j). absurd (omega arith)) (λ (s : (j ≡ j) × (y ≡ x)). s.1) (other j y e);
 }
 
--- what is chosen is one of these
+-- a result ends before the chosen one or is equal to it
 pub chosen_cases : {X : Type 0} {P : ℕ → X → Type 0} {j k : ℕ} {x y : X} → Chosen P j x → P k y → (k < j) ⊎ ((k ≡ j) × (y ≡ x))
 chosen_cases {P = P} {j = j} {k = k} {y = y} c d = ⊎_elim
     (λ (l : k < j). inl l)
@@ -42,7 +42,7 @@ module _ {S : ℕ → ℕ → List ℕ → Type 0} where
   no_way stuck done l = absurd (omega arith)
   no_way stuck (step {h = h} {x = x} s c) l = stuck.none h x s
 
-  -- where there is no character there is no run
+  -- without a character there is no run
   pub run_stuck : {i j : ℕ} → Stuck (S i) → Run S i j → ⊥
   run_stuck stuck r = no_way stuck r.chain r.some
 
@@ -86,7 +86,7 @@ module _ {t : List ℕ} where
   pub no_anchor : {i : ℕ} → (code t i ≡ 38 → is_anchor_char (code t (i + 1)) ≡ false) → Stuck (Anchor t i)
   no_anchor {i} n = record { none = λ j x a. let p = anchor_parts a in run_stuck (one_stuck t is_anchor_char (i + 1) (n p.0)) p.1 }
 
--- at the end of the text no character of a name is
+-- `no_char` is no character of a name
 pub no_anchor_char : (c : ℕ) → c ≡ no_char → is_anchor_char c ≡ false
 unfolding is_anchor_char is_ns_char is_nb_char is_printable is_between is_break_char is_white is_flow_indicator
 no_anchor_char c e = ap is_anchor_char e

@@ -1,4 +1,4 @@
--- Names, tags and properties that are written are derived again, where a space, a break, a comma or a closing bracket follows.
+-- Written names, tags and properties are derived again before a space, a break, a comma or a closing bracket.
 use Rattle.std.proofs.Common.{◌≡◌, ◌≢◌, ℕ, ◌+◌, ◌<◌, Bool, true, false, List, [], ◌∷◌, ◌++◌, length, slice_range, refl, sym, ap, ◌∙◌, subst, inl, inr, ◌⊎◌, ⊎_elim, arith, append_assoc, add-zero}
 use Rattle.std.proofs.lemmas.List.{length-append}
 use Rattle.std.proofs.lemmas.Str.{length-encode, len_utf8_bounds}
@@ -24,7 +24,7 @@ use Rattle.yf_props.proofs.TagLemmas.{spelled_stuck, percent_tag}
 use Rattle.yf_props.proofs.SolidLemmas.{hex_solid}
 use Rattle.yf_props.proofs.SeparationEnds.{Solid}
 
--- what follows is no character of a name or of a tag
+-- the following character is not part of a name or of a tag
 none_of_name : (c : ℕ) → (c ≡ no_char) ⊎ (is_after_name c ≡ true) → is_anchor_char c ≡ false
 unfolding is_anchor_char is_ns_char is_nb_char is_printable is_between is_break_char is_white is_flow_indicator
 none_of_name c (inl e) = ap is_anchor_char e
@@ -64,7 +64,7 @@ some_bytes : (cs : List ℕ) → cs ≢ [] → 0 < length (encodes cs)
 some_bytes [] n = absurd (n refl)
 some_bytes (c ∷ cs) n = omega (arith, length-append (encode c) (encodes cs), length-encode c, len_utf8_bounds c)
 
--- a run of a class, where none of it follows
+-- a run of a class, if none of the class follows
 pub run_back : {t : List ℕ} {p : ℕ → Bool} {x : List ℕ} (r : List ℕ) (q : ℕ) → IsUtf8 t → RunText p x → p (code t (q + length x)) ≡ false → IsAt t q (x ++ r)
     → Run (One t p) q (q + length x)
 run_back {t} {p} {x} r q u n e s =

@@ -23,7 +23,7 @@ then_equal Equal b e = refl
 then_equal Greater b e = absurd (true≢false e)
 
 module _ {X : Type 0} (R : X → X → Ordering) where
-  -- first parts of one length decide, and else the second parts do
+  -- if the first parts have one length, they decide, or else the second parts do
   order_by_parts : (a b c d : List X) → length a ≡ length c → slice_cmp R (a ++ b) (c ++ d) ≡ ordering_then (slice_cmp R a c) (slice_cmp R b d)
   order_by_parts [] b [] d e = refl
   order_by_parts [] b (y ∷ c) d e = absurd (omega (arith, e))
@@ -51,7 +51,7 @@ module _ {X : Type 0} (R : X → X → Ordering) where
 pub parted : {X : Type 0} {start rest : List X} (n : ℕ) (text : List X) → start ≡ take n text → rest ≡ drop n text → start ++ rest ≡ text
 parted n text e f = rw (e, f) (take-append-drop n text)
 
--- the order of two texts, from that of their parts the other way round
+-- the order of two texts, from the reversed order of their parts
 pub order_turned : {x y : List ℕ} {o q : Ordering} (front back other_front other_back : List ℕ) → x ≡ front ++ back → y ≡ other_front ++ other_back
     → o ≡ slice_cmp nat_cmp (other_front ++ other_back) (front ++ back) → q ≡ ordering_reverse o → q ≡ slice_cmp nat_cmp x y
 order_turned {x} {y} front back other_front other_back e f is turned =

@@ -1,4 +1,4 @@
--- Which properties are the longest.
+-- The longest properties.
 use Rattle.std.proofs.Common.{◌≡◌, ℕ, ℤ, ◌-◌, ◌<◌, ◌⊎◌, inl, inr, ⊎_elim, List, ap, ◌∙◌, subst, arith}
 use Rattle.std.specs.Str.{IsUtf8}
 use Rattle.yf_chars.specs.declared.context.Ctx.{Ctx}
@@ -26,7 +26,7 @@ module _ {t : List ℕ} where
   not_both a v = let e = (anchor_parts a).0 in let f = tag_mark v in absurd (omega arith)
 
 module _ {t : List ℕ} {n : ℤ} {c : Ctx} where
-  -- a separation that ends before a character with which none goes on is the chosen one
+  -- a separation is chosen if it ends before a character at which no separation goes on
   last_is : {h k l : ℕ} {x y : List CommentValue} → Chosen (Separate t n c h) k x → Separate t n c h l y → Apparent t l → (l ≡ k) × (y ≡ x)
   last_is {h} {k} {l} {x} {y} s r a =
       let above = apparent_last r a s.derived in
@@ -63,7 +63,7 @@ module _ {t : List ℕ} {n : ℤ} {c : Ctx} where
       → Chosen (Separate t n c h) k x → Chosen (TagProperty t k) j v → Chosen (Properties t n c i) j (tag_with_anchor k v a x)
   anchor_then_tag a s g = chosen_over (anchor_first a s.derived g.derived) (λ l p d. past_anchor a s g d)
 
-  -- an anchor alone
+  -- an anchor without a tag
   pub no_tag_after : {h k : ℕ} {x : List CommentValue} → Chosen (Separate t n c h) k x → Stuck (TagProperty t k)
       → (l m : ℕ) (y : List CommentValue) (v : TagValue) → Separate t n c h l y → TagProperty t l m v → ⊥
   no_tag_after s g l m y v r e =
@@ -118,7 +118,7 @@ module _ {t : List ℕ} (u : IsUtf8 t) {n : ℤ} {c : Ctx} where
       → Chosen (Separate t n c h) k x → Anchor t k j a → Chosen (Properties t n c i) j (tag_with_anchor i v a x)
   tag_then_anchor g s a = chosen_over (tag_first g.derived s.derived a) (λ l p d. past_tag g s a d)
 
-  -- a tag alone
+  -- a tag without an anchor
   tag_only_is : {i h l : ℕ} {v : TagValue} {p : PropertiesValue} → Chosen (TagProperty t i) h v
       → ((l m : ℕ) (y : List CommentValue) (a : List ℕ) → Separate t n c h l y → Anchor t l m a → ⊥)
       → Properties t n c i l p → (l < h) ⊎ ((l ≡ h) × (p ≡ tag_only i v))

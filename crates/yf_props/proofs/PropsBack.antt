@@ -1,4 +1,4 @@
--- Tags and properties that are written are derived again.
+-- Written tags and properties are derived again.
 use Rattle.std.proofs.Common.{◌≡◌, ◌≢◌, ℕ, ◌+◌, ◌<◌, ℤ, true, List, [], ◌∷◌, ◌++◌, Option, Some, None, length, slice_range, refl, sym, ap, ◌∙◌, subst, arith, append_assoc}
 use Rattle.std.proofs.lemmas.List.{length-append}
 use Rattle.std.specs.Str.{IsUtf8}
@@ -89,7 +89,7 @@ tag_back r {q} u (verbatim_form k n) f s = verbatim_tag (verbatim_back r q u k n
 tag_back r {q} u (short_form a k n) f s = shorthand_tag (shorthand_back r q u a k n f s)
 tag_back r {q} u lone_form f s = let got = is_at_ascii 33 u (omega arith) s in non_specific_tag got.0.char (tag_stuck u got.1 f)
 
--- what is after a name
+-- the character after a name
 space_after : is_after_name 32 ≡ true
 unfolding is_after_name
 space_after = refl

@@ -1,4 +1,4 @@
--- Names, tags and properties are within one line.
+-- Names, tags and properties are on one line.
 use Rattle.std.proofs.Common.{◌≡◌, ℕ, Bool, true, Option, Some, None, List, [], ◌∷◌, ◌++◌, refl, arith, subst, append-nil}
 use Rattle.std.proofs.lemmas.Bool.{and_parts}
 use Rattle.std.proofs.Common.{not, ◌&&◌}

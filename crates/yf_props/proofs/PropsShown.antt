@@ -1,4 +1,4 @@
--- Properties by hand: how they are written, and that they are read again before a space.
+-- Example properties: their text, which is read again before a space.
 use Rattle.std.proofs.Common.{◌≡◌, ℕ, ◌+◌, ℤ, List, [], ◌∷◌, ◌++◌, Some, None, codes, refl, ap, subst, arith}
 use Rattle.std.specs.Str.{IsUtf8}
 use lib.Utf8.{encode}
@@ -39,7 +39,7 @@ shown_is = record { anchor = λ name e. named e; tag = λ v e. tagged e } where
   tagged : {v : TagValue} → Some (IsShort (codes "!!") (codes "s")) ≡ Some v → IsTag v
   tagged e = let same : IsShort (codes "!!") (codes "s") ≡ _ = cc in subst (λ w. IsTag w) same tag_s
 
--- at any offset, before a space and whatever is after it
+-- at any offset, before a space, whatever follows
 shown_back : (t : List ℕ) (n : ℤ) (c : Ctx) (q : ℕ) (r : List ℕ) → IsUtf8 t → IsAt t q (codes "&a !!s " ++ r)
     → Properties t n c q (q + 6) (tag_with_anchor (q + 2 + 1) (IsShort (codes "!!") (codes "s")) (codes "a") [])
 unfolding shown is_after_name

@@ -1,5 +1,5 @@
--- A separation that ends before a character with which none goes on is the longest, and none begins after a character of
--- a tag and before another.
+-- A separation that ends before a character at which none goes on is the longest. No separation is between a character
+-- of a tag and another one.
 use Rattle.std.proofs.Common.{◌≡◌, ◌≢◌, ℕ, ℤ, ◌+◌, ◌<◌, ◌≤◌, true, false, ⊎_elim, List, [], refl, sym, ap, ◌∙◌, subst, arith, get_or}
 use Rattle.std.proofs.lemmas.Bool.{cases_Bool}
 use Rattle.std.specs.Str.{IsUtf8}
@@ -26,13 +26,13 @@ use Rattle.yf_comments.proofs.LineEndLemmas.{line_end_rows, line_end_stuck}
 use Rattle.yf_comments.proofs.SeparateLemmas.{prefix_whites}
 pub use Rattle.yf_comments.proofs.LineOrder.{separate_forward}
 
--- with the character there no separation goes on, and no line ends
+-- no separation goes on at the character, and no line ends there
 pub record Apparent (t : List ℕ) (k : ℕ) : Type 0 where
   pub white : is_white (code t k) ≡ false
   pub hash : code t k ≢ 35
   pub ends : Nowhere (BreakOrEnd t k)
 
--- a visible character of ASCII
+-- a visible ASCII character
 pub record Solid (c : ℕ) : Type 0 where
   pub low : 33 ≤ c
   pub high : c < 127
@@ -105,14 +105,14 @@ module _ {t : List ℕ} where
       whites_within m a (subst (λ u. Many t is_white u l w) (sym same) n)
   within m a n (falls_short z c e) = rows_beyond m a c n
 
-  -- a separation that ends before such a character is as long as any
+  -- a separation that ends before such a character is the longest
   pub apparent_last : {n : ℤ} {c : Ctx} {h k l : ℕ} {x y : List CommentValue} → Separate t n c h k x → Apparent t k → Separate t n c h l y → l ≤ k
   apparent_last s a r =
       let d = tail s in
       let e = tail r in
       within d.whites_to a e.whites_to (chain_meet row_functional d.rows e.rows)
 
--- no line begins after a visible character, nor a separation before another
+-- no line begins after a visible character, and no separation is between two of them
 module _ (t : List ℕ) (u : IsUtf8 t) (i h : ℕ) (q : h ≡ i + 1) (s : Solid (code t i)) where
   break_not_after : {k e : ℕ} → Break t k e → e ≡ h → ⊥
   break_not_after (cr_lf {i = k} a b) r =

@@ -1,4 +1,4 @@
--- Each character of a tag is a visible character of ASCII.
+-- Each character of a tag is a visible ASCII character.
 use Rattle.std.proofs.Common.{◌≡◌, ℕ, ◌+◌, ◌<◌, ◌≤◌, Bool, true, false, ⊎_elim, List, refl, sym, ◌∙◌, subst, arith, leb, eqb, not, ◌&&◌, true≢false}
 use Rattle.std.proofs.lemmas.Bool.{cases_lt, ne_eqb, lt-leb, and_parts}
 use Rattle.std.proofs.Math.Bool.{and-false}
@@ -18,7 +18,7 @@ use Rattle.yf_props.specs.Names.TagProperty.{verbatim_tag, shorthand_tag, non_sp
 use Rattle.yf_props.proofs.TagLemmas.{word_uri}
 use Rattle.yf_props.proofs.SeparationEnds.{Solid}
 
--- below the space and above the tilde no character is in the classes
+-- no character below the space or above the tilde is in the classes
 low_uri : (c : ℕ) → c < 33 → is_uri_char c ≡ false
 unfolding is_uri_char is_word_char is_digit is_between
 low_uri c l =
@@ -125,7 +125,7 @@ hex_solid c e = record {
 solid_is : {c d : ℕ} → c ≡ d → 33 ≤ d → d < 127 → Solid c
 solid_is e l h = record { low = omega arith; high = omega arith }
 
--- each character from one place up to another
+-- each character between two offsets
 pub record AllSolid (t : List ℕ) (i j : ℕ) : Type 0 where
   pub each : (m : ℕ) → i ≤ m → m < j → Solid (code t m)
 

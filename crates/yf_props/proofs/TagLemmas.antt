@@ -1,4 +1,4 @@
--- Characters of tags and their runs, and that a tag with the longest handle is the longest tag.
+-- Characters of tags and their runs. A tag with the longest handle is the longest tag.
 use Rattle.std.proofs.Common.{◌≡◌, ◌≢◌, ℕ, ◌+◌, ◌<◌, ◌≤◌, Bool, true, false, ◌⊎◌, inl, inr, ⊎_elim, List, slice_range, refl, sym, ap, ◌∙◌, subst, arith, leb, true≢false}
 use Rattle.std.proofs.Math.Bool.{and-false}
 use Rattle.std.proofs.lemmas.Bool.{cases_lt, ne_eqb, lt-leb}
@@ -25,7 +25,7 @@ use Rattle.yf_chars.specs.ClassEnds as Ends
 use Rattle.yf_chars.proofs.CharFacts.{exclamation_no_tag, exclamation_no_word, angle_no_tag, end_no_tag, end_no_uri, angle_no_word}
 use Rattle.yf_chars.proofs.EscapeLemmas.{chosen_only}
 
--- which characters are in which class
+-- characters and their classes
 pub percent_uri : is_uri_char 37 ≡ false
 unfolding is_uri_char is_word_char is_digit is_between
 percent_uri = refl
@@ -222,7 +222,7 @@ module _ (t : List ℕ) (i w : ℕ) (x : List ℕ) (m : Many t is_word_char (i +
       → Chosen (ShorthandTag t i) j (IsShort (slice_range t i (w + 1)) (slice_range t (w + 1) j))
   long_chosen a b r = chosen_over (handle_suffix (long_handle a b) r) (λ k y d. other_handle b r d)
 
--- tags at an offset where no longer handle has a suffix
+-- tags at an offset at which no longer handle has a suffix
 module _ (t : List ℕ) (i : ℕ) (mark : code t i ≡ 33) (none : (h j : ℕ) → Handle t i h → i + 1 < h → Run (TagChar t) h j → ⊥) where
   handle_later : {h : ℕ} → Handle t i h → i + 1 ≤ h
   handle_later (primary_handle a) = omega arith

@@ -1,4 +1,4 @@
--- The characters that stand for themselves in a tag, by the kind of the tag's part.
+-- The characters that represent themselves in a tag, by the kind of the tag's part.
 use Rattle.std.specs.Prelude.{ℕ, Bool}
 use Rattle.yf_chars.specs.Class.{is_tag_char, is_uri_char}
 use Rattle.yf_props.specs.declared.tag.Chars.{Chars}

@@ -11,11 +11,11 @@ use Rattle.yf_props.specs.Props.TagValue.{IsVerbatim, IsShort, IsNonSpecific}
 abbrev pub Declaration : Type 0
 Declaration = List ℕ × List ℕ
 
--- the prefix that is declared for a handle
+-- the prefix that a handle is declared with
 abbrev pub declared_prefix : List Declaration → List ℕ → Option (List ℕ)
 declared_prefix ds handle = lookup (bytes_eq handle) ds
 
--- the prefix that a handle has where none is declared for it
+-- the prefix of a handle that is not declared
 abbrev pub default_prefix : List ℕ → Option (List ℕ)
 default_prefix handle = cond (bytes_eq handle (codes "!")) (Some (codes "!"))
     (cond (bytes_eq handle (codes "!!")) (Some (codes "tag:yaml.org,2002:")) None)
@@ -28,13 +28,13 @@ or_else (Some x) q = Some x
 abbrev pub prefix_of : List Declaration → List ℕ → Option (List ℕ)
 prefix_of ds handle = or_else (declared_prefix ds handle) (default_prefix handle)
 
--- what a suffix stands for: each % with two hexadecimal digits is a byte, but where the bytes are then no text the suffix
--- stands for itself
+-- the meaning of a suffix: each % with two hexadecimal digits means a byte; if the bytes are then not UTF-8, the suffix
+-- means itself
 pub data SuffixText (suffix : List ℕ) : List ℕ → Type 0 where
   as_decoded : IsUtf8 (percent_decode suffix) → SuffixText suffix (percent_decode suffix)
   as_written : ¬ (IsUtf8 (percent_decode suffix)) → SuffixText suffix suffix
 
--- what a tag stands for, with these declarations
+-- the meaning of a tag with these declarations
 pub data TagText (ds : List Declaration) : TagValue → List ℕ → Type 0 where
   verbatim_text : {text : List ℕ} → TagText ds (IsVerbatim text) text
   shorthand_text : {handle prefix suffix x : List ℕ} → prefix_of ds handle ≡ Some prefix → SuffixText suffix x
@@ -45,10 +45,10 @@ pub data TagText (ds : List Declaration) : TagValue → List ℕ → Type 0 wher
 pub data UnknownHandleOf (ds : List Declaration) : TagValue → Type 0 where
   no_prefix : {handle suffix : List ℕ} → prefix_of ds handle ≡ None → UnknownHandleOf ds (IsShort handle suffix)
 
--- whether a declaration of the handle is
+-- whether the handle is declared
 abbrev pub is_declared : List Declaration → List ℕ → Bool
 is_declared ds handle = is_some (declared_prefix ds handle)
 
--- what an entry of the map is to a contract
+-- an entry of the map, as contracts see it
 abbrev pub declaration : Bor (List ℕ) × Bor (List ℕ) → Declaration
 declaration e = (e.0.now, e.1.now)

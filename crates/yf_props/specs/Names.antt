@@ -1,5 +1,5 @@
--- Aliases, anchors, tags and node properties (YAML 1.2.2, 5.6, 6.8.2, 6.9 and 7.1) as relations between byte offsets of
--- a text t. A name is as long as its characters go. n is an indentation, from -1; c is a context.
+-- Aliases, anchors, tags and node properties (YAML 1.2.2, 5.6, 6.8.2, 6.9 and 7.1), as relations between byte offsets
+-- of a text t. A name includes all characters that may be in it. n is an indentation, from -1; c is a context.
 use Rattle.std.specs.Prelude.{◌≡◌, ℕ, ◌+◌, ◌<◌, ℤ, Bool, true, List, [], ◌∷◌, ◌++◌, Option, Some, None, slice_range}
 use Rattle.yf_chars.specs.Signs.{AMPERSAND, ASTERISK, EXCLAMATION, GREATER, LESS, PERCENT}
 use Rattle.yf_chars.specs.declared.context.Ctx.{Ctx}
@@ -30,18 +30,18 @@ UriChar t = SpelledChar t is_uri_char
 abbrev pub TagChar : List ℕ → ℕ → ℕ → List ℕ → Type 0
 TagChar t = SpelledChar t is_tag_char
 
--- one character or more, as long as they go
+-- one or more characters, up to an offset at which none is
 pub record Run (S : ℕ → ℕ → List ℕ → Type 0) (i j : ℕ) : Type 0 where
   pub characters : List ℕ
   pub chain : Chain S i j characters
   pub some : i < j
   pub all : Stuck (S j)
 
--- c-ns-anchor-property, which means its name: & and the name
+-- c-ns-anchor-property: & and a name, which is the meaning
 pub data Anchor (t : List ℕ) : ℕ → ℕ → List ℕ → Type 0 where
   ampersand_name : {i j : ℕ} → code t i ≡ AMPERSAND → Run (AnchorChar t) (i + 1) j → Anchor t i j (slice_range t (i + 1) j)
 
--- c-ns-alias-node, which means its name: * and the name
+-- c-ns-alias-node: * and a name, which is the meaning
 pub data Alias (t : List ℕ) : ℕ → ℕ → List ℕ → Type 0 where
   asterisk_name : {i j : ℕ} → code t i ≡ ASTERISK → Run (AnchorChar t) (i + 1) j → Alias t i j (slice_range t (i + 1) j)
 
@@ -51,12 +51,12 @@ pub data Handle (t : List ℕ) : ℕ → ℕ → Type 0 where
   secondary_handle : {i : ℕ} → code t i ≡ EXCLAMATION → code t (i + 1) ≡ EXCLAMATION → Handle t i (i + 2)
   named_handle : {i j : ℕ} → code t i ≡ EXCLAMATION → Run (WordChar t) (i + 1) j → code t j ≡ EXCLAMATION → Handle t i (j + 1)
 
--- ns-tag-prefix: of tags of the document's own, or of all tags that begin so
+-- ns-tag-prefix: a prefix of local tags, or of global tags
 pub data TagPrefix (t : List ℕ) : ℕ → ℕ → List ℕ → Type 0 where
   local_prefix : {i j : ℕ} {x : List ℕ} → code t i ≡ EXCLAMATION → Chain (UriChar t) (i + 1) j x → TagPrefix t i j (EXCLAMATION ∷ x)
   global_prefix : {i k j : ℕ} {c x : List ℕ} → TagChar t i k c → Chain (UriChar t) k j x → TagPrefix t i j (c ++ x)
 
--- c-verbatim-tag, which means what is between < and >
+-- c-verbatim-tag; its meaning is the text between < and >
 pub data VerbatimTag (t : List ℕ) : ℕ → ℕ → List ℕ → Type 0 where
   in_brackets : {i j : ℕ} → code t i ≡ EXCLAMATION → code t (i + 1) ≡ LESS → Run (UriChar t) (i + 2) j → code t j ≡ GREATER
       → VerbatimTag t i (j + 1) (slice_range t (i + 2) j)
@@ -65,13 +65,13 @@ pub data VerbatimTag (t : List ℕ) : ℕ → ℕ → List ℕ → Type 0 where
 pub data ShorthandTag (t : List ℕ) : ℕ → ℕ → TagValue → Type 0 where
   handle_suffix : {i h j : ℕ} → Handle t i h → Run (TagChar t) h j → ShorthandTag t i j (IsShort (slice_range t i h) (slice_range t h j))
 
--- c-ns-tag-property; no character of a suffix follows a ! that is a tag alone (c-non-specific-tag)
+-- c-ns-tag-property; no character of a suffix follows a non-specific ! (c-non-specific-tag)
 pub data TagProperty (t : List ℕ) : ℕ → ℕ → TagValue → Type 0 where
   verbatim_tag : {i j : ℕ} {text : List ℕ} → VerbatimTag t i j text → TagProperty t i j (IsVerbatim text)
   shorthand_tag : {i j : ℕ} {tag : TagValue} → ShorthandTag t i j tag → TagProperty t i j tag
   non_specific_tag : {i : ℕ} → code t i ≡ EXCLAMATION → Stuck (TagChar t (i + 1)) → TagProperty t i (i + 1) IsNonSpecific
 
--- what properties mean: the properties, where the ! of their tag is, and the comments between the two
+-- the meaning of properties: the properties, the offset of the tag's !, and the comments between tag and anchor
 pub record PropertiesValue : Type 0 where
   pub props : PropsValue
   pub tag_offset : Option ℕ

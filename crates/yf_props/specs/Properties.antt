@@ -1,4 +1,4 @@
--- What properties that were read are to a contract.
+-- Properties as contracts see them.
 use Rattle.yf_props.specs.declared.properties.Properties.{Properties}
 use Rattle.yf_props.specs.Names.{PropertiesValue}
 use Rattle.yf_props.specs.Props.{props_value}

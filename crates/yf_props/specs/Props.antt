@@ -1,4 +1,4 @@
--- What properties are to a contract: the bytes of their names, and not where in memory these lie.
+-- Properties as contracts see them: the bytes of their names, but not the addresses of these.
 use Rattle.std.specs.Prelude.{ℕ, List, Option, Some, None}
 use Rattle.std.specs.Borrow.{Bor}
 use Rattle.yf_props.specs.declared.props.Props.{Props}
@@ -19,7 +19,7 @@ tag_value (Verbatim text) = IsVerbatim text.now
 tag_value (Short handle suffix) = IsShort handle.now suffix.now
 tag_value NonSpecific = IsNonSpecific
 
--- a name that may be missing
+-- an optional name
 abbrev pub name_value : Option (Bor (List ℕ)) → Option (List ℕ)
 name_value None = None
 name_value (Some name) = Some name.now
@@ -31,6 +31,6 @@ optional_tag_value (Some tag) = Some (tag_value tag)
 abbrev pub props_value : Props → PropsValue
 props_value props = record { anchor = name_value props.anchor; tag = optional_tag_value props.tag }
 
--- no properties are written
+-- the properties without an anchor or a tag
 abbrev pub no_props : PropsValue
 no_props = record { anchor = None; tag = None }

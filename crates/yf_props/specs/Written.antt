@@ -1,4 +1,4 @@
--- What names, tags and properties are made of, and how they are written on a line: the anchor before the tag.
+-- The form of names, tags and properties, and their text on a line: the anchor comes before the tag.
 use Rattle.std.specs.Prelude.{◌≡◌, ◌≢◌, ℕ, ◌+◌, Bool, true, List, [], ◌∷◌, ◌++◌, length, Option, Some, None, encode_utf8_all}
 use Rattle.yf_chars.specs.Signs.{AMPERSAND, ASTERISK, EXCLAMATION, GREATER, LESS, PERCENT, SPACE}
 use Rattle.yf_chars.specs.Class.{is_anchor_char, is_hex_digit, is_tag_char, is_uri_char, is_word_char}
@@ -6,12 +6,12 @@ use Rattle.yf_props.specs.Names.{PropertiesValue}
 use Rattle.yf_props.specs.Props.{PropsValue, TagValue}
 use Rattle.yf_props.specs.Props.TagValue.{IsVerbatim, IsShort, IsNonSpecific}
 
--- each character is of the class
+-- each character is in the class
 abbrev pub AllOf : (ℕ → Bool) → List ℕ → Type 0
 AllOf p [] = Unit {0}
 AllOf p (c ∷ cs) = (p c ≡ true) × AllOf p cs
 
--- the bytes of a name: characters of anchors, one or more
+-- the bytes of a name: one or more anchor characters
 pub record IsName (x : List ℕ) : Type 0 where
   pub chars : List ℕ
   pub bytes : encode_utf8_all chars ≡ x
@@ -35,7 +35,7 @@ pub data IsTag : TagValue → Type 0 where
   short_form : {h x : List ℕ} → IsHandle h → IsSpelled is_tag_char x → x ≢ [] → IsTag (IsShort h x)
   lone_form : IsTag IsNonSpecific
 
--- properties of a name and a tag, where they are there
+-- properties with a well-formed name and tag, if these are present
 pub record IsProps (p : PropsValue) : Type 0 where
   pub anchor : (name : List ℕ) → p.anchor ≡ Some name → IsName name
   pub tag : (v : TagValue) → p.tag ≡ Some v → IsTag v
@@ -61,7 +61,7 @@ parts_bytes (Some name) (Some v) = anchor_bytes name ++ (SPACE ∷ tag_bytes v)
 abbrev pub props_bytes : PropsValue → List ℕ
 props_bytes p = parts_bytes p.anchor p.tag
 
--- what properties that are written at the offset mean
+-- the offset of the tag in properties that are written at the offset q
 abbrev pub tag_offset_at : ℕ → Option (List ℕ) → Option TagValue → Option ℕ
 tag_offset_at q anchor None = None
 tag_offset_at q None (Some v) = Some q

@@ -9,7 +9,7 @@ ghost use Rattle.yf_props.specs.Names.{AnchorChar, Run, Alias, Anchor};
 use yf_chars::runs::{AnchorChars, skip_while};
 use yf_chars::text::is_char_at;
 
-// The offset after all characters of a name that are at the offset.
+// Returns the offset after all characters of a name at the offset.
 #[inline(never)]
 fn name_end(s: &str, at: usize) -> usize
     requires { IsCharBoundary s.now at }
@@ -21,8 +21,8 @@ fn name_end(s: &str, at: usize) -> usize
     skip_while::<AnchorChars>(s, at)
 }
 
-// Reads the name of an anchor or an alias (ns-anchor-name, production 103) after its sign, and gives it with the offset
-// after it.
+// Reads the name of an anchor or an alias (ns-anchor-name, production 103) after its sign, and returns it with the
+// offset after it.
 #[inline(always)]
 fn name_after<'a>(s: &'a str, at: usize, sign: u8) -> Option<(&'a str, usize)>
     requires { sign < 128 }
@@ -42,9 +42,10 @@ fn name_after<'a>(s: &'a str, at: usize, sign: u8) -> Option<(&'a str, usize)>
     None
 }
 
-/// Reads an alias (c-ns-alias-node, production 104): its name, without the `*`, and the byte offset after it.
+/// Reads an alias (c-ns-alias-node, production 104). Returns its name, without the `*`, and the byte offset after it,
+/// or `None` if no alias begins at the offset.
 ///
-/// The name is as long as its characters go; `None` where no alias begins at the offset.
+/// The name includes all characters that may be in it.
 #[inline(always)]
 pub fn alias_node<'a>(s: &'a str, at: usize) -> Option<(&'a str, usize)>
     ensures reads { MatchOption result (Stuck (Alias s.now at)) (λ p. Chosen (Alias s.now at) p.1 p.0.now) }
@@ -56,7 +57,7 @@ pub fn alias_node<'a>(s: &'a str, at: usize) -> Option<(&'a str, usize)>
     }
 }
 
-// Reads an anchor (c-ns-anchor-property, production 101): its name, without the `&`, and the offset after it.
+// Reads an anchor (c-ns-anchor-property, production 101). Returns its name, without the `&`, and the offset after it.
 pub(crate) fn anchor_property<'a>(s: &'a str, at: usize) -> Option<(&'a str, usize)>
     ensures reads { MatchOption result (Stuck (Anchor s.now at)) (λ p. Chosen (Anchor s.now at) p.1 p.0.now) }
     ensures boundary { IfSome result (λ p. IsCharBoundary s.now p.1) }

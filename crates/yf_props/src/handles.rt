@@ -1,4 +1,4 @@
-//! Tag handles (YAML 1.2.2, section 6.8.2), and what tags stand for (section 6.9.1).
+//! Tag handles (YAML 1.2.2, section 6.8.2), and the tags that shorthands mean (section 6.9.1).
 ghost use Rattle.std.specs.Prelude.{◌≡◌, ◌⊎◌, ◌++◌, [], ◌∷◌, false, not, Option, Some, None, Ok, Err, MatchOption, IfOk, IfErr, if◌then◌else◌, codes};
 ghost use Rattle.yf_lines.specs.Text.{text_bytes};
 ghost use Rattle.yf_props.specs.Props.{tag_value};
@@ -15,7 +15,7 @@ use yf_lines::fault::Fault;
 use yf_lines::place::Position;
 use yf_lines::text::{OwnedText, Text};
 
-/// The tag handles of one document. In a contract it is the list of the declarations, each a handle and its prefix; a
+/// The tag handles of one document. A contract sees the list of the declarations, each a handle and its prefix; a
 /// handle without one may have a default.
 #[derive(Drop)]
 pub struct Handles<'a> {
@@ -31,7 +31,7 @@ impl<'a> Model for Handles<'a> {
     ghost view = { λ h. map declaration h.prefixes.entries };
 }
 
-// The prefix that a handle has where none is declared for it.
+// Returns the prefix of a handle that is not declared.
 fn default_of(handle: &str) -> Option<&'static str>
     ensures { MatchOption result (default_prefix handle.now ≡ None) (λ prefix. default_prefix handle.now ≡ Some prefix.now) }
 {
@@ -42,7 +42,7 @@ fn default_of(handle: &str) -> Option<&'static str>
     }
 }
 
-// What a suffix stands for: a text of its own only where escapes are read.
+// Returns the meaning of a suffix. The text is a new one only if the suffix has escapes.
 fn suffix_text<'a>(alloc: Global, suffix: &'a str) -> Result<Text<'a>, AllocError>
     ensures { IfOk result (λ text. SuffixText suffix.now (text_bytes text)) }
 {
@@ -55,7 +55,8 @@ fn suffix_text<'a>(alloc: Global, suffix: &'a str) -> Result<Text<'a>, AllocErro
 }
 
 impl<'a> Handles<'a> {
-    /// The handles of a document without TAG directives: `!` stands for `!`, and `!!` for `tag:yaml.org,2002:`.
+    /// Returns the handles of a document without TAG directives: the prefix of `!` is `!`, and that of `!!` is
+    /// `tag:yaml.org,2002:`.
     pub fn new(alloc: Global) -> Handles<'a>
         ensures none { result ≡ [] }
         ensures primary { prefix_of result (codes "!") ≡ Some (codes "!") }
@@ -66,10 +67,10 @@ impl<'a> Handles<'a> {
         }
     }
 
-    /// Declares a handle's prefix, as a TAG directive does, in the place of the handle's default if it has one.
+    /// Declares a handle's prefix, as a TAG directive does. It replaces the handle's default, if any.
     ///
-    /// The answer is whether the handle was not declared before; where it was, its prefix stays. Where memory is refused,
-    /// the handles are as they were.
+    /// Returns whether the handle is new; if it was declared before, its prefix doesn't change. If memory is refused,
+    /// the handles are unchanged.
     pub fn declare(&mut self, handle: &'a str, prefix: &'a str) -> Result<bool, Fault>
         ensures declared { IfOk result (λ fresh. (fresh ≡ not (is_declared self.old handle.entry.now))
             × (self.new ≡ (if fresh then self.old ++ (handle.entry.now, prefix.entry.now) ∷ [] else self.old))) }
@@ -85,7 +86,7 @@ impl<'a> Handles<'a> {
         }
     }
 
-    // The prefix of a handle: the declared one, or else the default.
+    // Returns the prefix of a handle: the declared one, or else the default.
     fn prefix(&self, handle: &str) -> Option<&'a str>
         ensures { MatchOption result (prefix_of self.now handle.now ≡ None) (λ prefix. prefix_of self.now handle.now ≡ Some prefix.now) }
     {
@@ -95,11 +96,11 @@ impl<'a> Handles<'a> {
         }
     }
 
-    /// What a tag stands for (section 6.9.1): a verbatim tag for what is written between its brackets, `!` for itself, and
-    /// a shorthand for its handle's prefix and its suffix. In the suffix each `%` with two hexadecimal digits is a byte;
-    /// where the bytes are then not UTF-8 the suffix stays as it is written.
+    /// Returns the meaning of a tag (section 6.9.1): the text between the brackets of a verbatim tag, `!` for `!`, and
+    /// a handle's prefix and the suffix for a shorthand. In the suffix, each `%` with two hexadecimal digits means a
+    /// byte; if the bytes are then not UTF-8, the suffix stays as it is written.
     ///
-    /// `UnknownHandle` at the place, which is the tag's, where the handle is neither declared nor a default.
+    /// Fails with `UnknownHandle` at `place`, the tag's position, if the handle is neither declared nor a default.
     pub fn resolve(
         &self,
         alloc: Global,

@@ -17,7 +17,7 @@ use yf_chars::text::is_char_at;
 use yf_comments::comments::{Comments, Separation};
 use yf_comments::separation::separate;
 
-/// Properties that were read.
+/// The result of reading properties.
 #[derive(Drop)]
 pub struct Properties<'a> {
     pub props: Props<'a>,
@@ -29,7 +29,7 @@ pub struct Properties<'a> {
     pub end: usize,
 }
 
-// An anchor alone.
+// Returns the properties with only an anchor.
 fn only_anchor<'a>(alloc: Global, anchor: &'a str, end: usize) -> Properties<'a>
     ensures value { properties_value result ≡ anchor_only anchor.now }
     ensures end { result.end ≡ end }
@@ -45,7 +45,7 @@ fn only_anchor<'a>(alloc: Global, anchor: &'a str, end: usize) -> Properties<'a>
     }
 }
 
-// A tag alone, which is at the offset.
+// Returns the properties with only a tag, which is at the offset.
 fn only_tag<'a>(alloc: Global, at: usize, part: TagPart<'a>) -> Properties<'a>
     ensures value { properties_value result ≡ tag_only at (tag_value part.entry.tag) }
     ensures end { result.end ≡ part.entry.end }
@@ -61,7 +61,7 @@ fn only_tag<'a>(alloc: Global, at: usize, part: TagPart<'a>) -> Properties<'a>
     }
 }
 
-// Reads what may follow an anchor that ends at the offset: separation and a tag.
+// Reads an optional separation and tag after an anchor that ends at the offset.
 fn after_anchor<'a>(
     alloc: Global,
     s: &'a str,
@@ -98,7 +98,7 @@ fn after_anchor<'a>(
     }
 }
 
-// Reads what may follow a tag: separation and an anchor.
+// Reads an optional separation and anchor after a tag.
 fn after_tag<'a>(
     alloc: Global,
     s: &'a str,
@@ -134,10 +134,10 @@ fn after_tag<'a>(
     }
 }
 
-/// Reads properties (c-ns-properties(n,c), production 96) from a byte offset on: a tag, an anchor, or both in either order
-/// with separation between them, as long as their characters go. `n` is an indentation, from -1.
+/// Reads properties (c-ns-properties(n,c), production 96) that begin at a byte offset: a tag, an anchor, or both in
+/// either order with separation between them, with all characters that may be in them. `n` is an indentation, from -1.
 ///
-/// `None` where no properties begin at the offset, as before most nodes: the first character tells it.
+/// Returns `None` if no properties begin at the offset. Usually none do, and a test of the first character shows it.
 #[inline(always)]
 pub fn node_properties<'a>(
     alloc: Global,
@@ -157,7 +157,7 @@ pub fn node_properties<'a>(
     Ok(None)
 }
 
-// Whether the first character of an anchor or a tag is there.
+// Returns whether the first character of an anchor or a tag is at the offset.
 #[inline(always)]
 fn is_property_at(s: &str, at: usize) -> bool
     ensures { result ≡ false → (code s.now at ≢ AMPERSAND) × (code s.now at ≢ EXCLAMATION) }
@@ -168,7 +168,7 @@ fn is_property_at(s: &str, at: usize) -> bool
     is_char_at(s, at, b'!')
 }
 
-// Reads properties where an anchor or a tag may be.
+// Reads properties after the test of the first character.
 #[inline(never)]
 fn anchor_or_tag<'a>(
     alloc: Global,

@@ -1,6 +1,6 @@
 //! The properties of a node, as they are written.
 
-/// The properties of a node (c-ns-properties, production 96), each of which may be missing.
+/// The properties of a node (c-ns-properties, production 96); each may be missing.
 #[derive(Clone, Copy)]
 pub struct Props<'a> {
     /// The name after the `&`.
@@ -13,8 +13,8 @@ pub struct Props<'a> {
 pub enum Tag<'a> {
     /// `!<..>`: the text between `<` and `>`.
     Verbatim(&'a str),
-    /// A shorthand: its handle with the exclamation marks, and the suffix after it, its escapes not yet read.
+    /// A shorthand: its handle with the exclamation marks, and its suffix with the escapes as written.
     Short { handle: &'a str, suffix: &'a str },
-    /// A lone `!`.
+    /// A single `!`.
     NonSpecific,
 }

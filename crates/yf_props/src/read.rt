@@ -1,4 +1,4 @@
-//! The readers of properties and aliases over a text with its lines.
+//! Readers of properties and aliases in a text with its lines.
 ghost use Rattle.std.specs.Prelude.{◌≡◌, IfSome, MatchOption, MatchResult};
 ghost use Rattle.std.specs.Str.{IsCharBoundary};
 ghost use Rattle.yf_chars.specs.Chain.{Chosen, Stuck};
@@ -12,10 +12,10 @@ use yf_chars::context::Ctx;
 use yf_lines::fault::Fault;
 use yf_lines::source_text::Src;
 
-/// Reads an alias (c-ns-alias-node, production 104) from a byte offset on: its name, without the `*`, and the byte offset
-/// after it.
+/// Reads an alias (c-ns-alias-node, production 104) that begins at a byte offset. Returns its name, without the `*`,
+/// and the byte offset after it, or `None` if no alias begins there.
 ///
-/// The name is as long as its characters go; `None` where no alias begins there.
+/// The name includes all characters that may be in it.
 pub fn read_alias<'a>(src: &Src<'a>, at: usize) -> Option<(&'a str, usize)>
     ensures reads { MatchOption result (Stuck (Alias src.now.text at)) (λ p. Chosen (Alias src.now.text at) p.1 p.0.now) }
     ensures boundary { IfSome result (λ p. IsCharBoundary src.now.text p.1) }
@@ -26,14 +26,14 @@ pub fn read_alias<'a>(src: &Src<'a>, at: usize) -> Option<(&'a str, usize)>
     }
 }
 
-/// Reads properties (c-ns-properties(n,c), production 96) from a byte offset on: a tag, an anchor, or both in either order
-/// with separation between them, whose comments come with them. `n` is an indentation, from -1.
+/// Reads properties (c-ns-properties(n,c), production 96) that begin at a byte offset: a tag, an anchor, or both in
+/// either order with separation between them, and the comments of the separation. `n` is an indentation, from -1.
 ///
-/// Names are as long as their characters go; `None` where no properties begin there.
+/// Names include all characters that may be in them. Returns `None` if no properties begin there.
 ///
 /// # Errors
 ///
-/// `Fault::Memory` where a growth of memory was refused.
+/// `Fault::Memory` if memory is refused.
 pub fn read_props<'a>(
     alloc: Global,
     src: &Src<'a>,

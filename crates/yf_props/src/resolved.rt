@@ -1,4 +1,4 @@
-//! What tags stand for (YAML 1.2.2, section 6.9.1).
+//! Resolved tags (YAML 1.2.2, section 6.9.1).
 ghost use Rattle.std.specs.Prelude.{◌≡◌, ◌≤◌, ◌++◌, Some, bytes_eq, length, refl};
 ghost use Rattle.std.specs.Cmp.{partial_equiv_from_equiv};
 ghost use Rattle.std.specs.Cmp.Lexicographic.{nat_list_cmp_total, nat_list_eq_equiv, slice_cmp, texts_po, texts_ties};
@@ -9,9 +9,8 @@ use std::cmp::Ordering;
 use std::marker::Model;
 use yf_lines::text::Text;
 
-/// What a tag stands for: a prefix, which is a slice of the source or the prefix of a default handle, and after it a
-/// suffix. However many tags have one prefix, it is in memory once. In a contract it is the text that both make,
-/// and as that text it is compared.
+/// The meaning of a tag: a prefix, which is a slice of the source or a default prefix, and a suffix. Tags with one
+/// prefix share it in memory. A contract sees the text that both make, and comparisons compare that text.
 #[derive(Drop)]
 pub struct ResolvedTag<'a> {
     prefix: &'a str,
@@ -34,14 +33,14 @@ impl<'a> ResolvedTag<'a> {
         ResolvedTag { prefix, suffix }
     }
 
-    /// The prefix, and the suffix after it.
+    /// Returns the prefix and the suffix.
     pub fn parts(&self) -> (&str, &str)
         ensures { self.now ≡ result.0.now ++ result.1.now }
     {
         (self.prefix, self.suffix.as_str())
     }
 
-    /// The same tag, which shares the texts of this one.
+    /// Returns a copy that shares the texts of this tag.
     pub fn lent(&self) -> ResolvedTag<'_>
         ensures { result ≡ self.now }
     {
@@ -97,7 +96,7 @@ impl<'a> Ord for ResolvedTag<'a> {
     }
 }
 
-// The order of two texts that are each made of two, where the first part of the one is no longer than that of the other.
+// Compares two texts that are in two parts each. The front of the first is no longer than that of the second.
 fn order_of_pairs(front: &[u8], back: &[u8], other_front: &[u8], other_back: &[u8]) -> Ordering
     requires { length front.now ≤ length other_front.now }
     ensures { result ≡ slice_cmp nat_cmp (front.now ++ back.now) (other_front.now ++ other_back.now) }
@@ -110,7 +109,7 @@ fn order_of_pairs(front: &[u8], back: &[u8], other_front: &[u8], other_back: &[u
     order_of_one(back, rest, other_back)
 }
 
-// The order of a text and one that is made of two.
+// Compares a text with a text in two parts.
 fn order_of_one(text: &[u8], front: &[u8], back: &[u8]) -> Ordering
     ensures { result ≡ slice_cmp nat_cmp text.now (front.now ++ back.now) }
 {

@@ -22,14 +22,14 @@ pub(crate) struct TagPart<'a> {
     pub(crate) end: usize,
 }
 
-// Which characters a part of a tag may hold as themselves: all of a URI, or those of a suffix.
+// The characters that represent themselves in a part of a tag: those of a URI, or those of a suffix.
 #[derive(Clone, Copy)]
 enum Chars {
     Uri,
     Suffix,
 }
 
-// Whether the class holds the character.
+// Returns whether the class contains the character.
 fn is_of(class: Chars, c: char) -> bool
     ensures { result ≡ class_of class c }
 {
@@ -39,7 +39,7 @@ fn is_of(class: Chars, c: char) -> bool
     }
 }
 
-// Whether a hexadecimal digit begins at the offset.
+// Returns whether a hexadecimal digit begins at the offset.
 fn is_hex_at(s: &str, at: usize) -> bool
     requires { IsCharBoundary s.now at }
     ensures value { result ≡ is_hex_digit (code s.now at) }
@@ -51,7 +51,7 @@ fn is_hex_at(s: &str, at: usize) -> bool
     }
 }
 
-// Reads a character of the class, or `%` with two hexadecimal digits, and gives the offset after it.
+// Reads a character of the class, or `%` with two hexadecimal digits, and returns the offset after it.
 fn read_char(s: &str, at: usize, class: Chars) -> Option<usize>
     requires { IsCharBoundary s.now at }
     ensures reads { MatchOption result (Stuck (SpelledChar s.now (class_of class) at))
@@ -79,7 +79,7 @@ fn read_char(s: &str, at: usize, class: Chars) -> Option<usize>
     }
 }
 
-// The offset after all characters of the class, escapes among them, that are at the offset.
+// Returns the offset after all characters of the class, including escapes, at the offset.
 fn skip_chars(s: &str, at: usize, class: Chars) -> usize
     requires { IsCharBoundary s.now at }
     ensures chars { (x : List ℕ) × Chain (SpelledChar s.now (class_of class)) at result x }
@@ -96,8 +96,8 @@ fn skip_chars(s: &str, at: usize, class: Chars) -> usize
     }
 }
 
-/// Reads the handle of a TAG directive (c-tag-handle, production 89), as long as its characters go, and gives the byte offset
-/// after it.
+/// Reads the handle of a TAG directive (c-tag-handle, production 89), with all characters that may be in it, and
+/// returns the byte offset after it.
 pub fn tag_handle(s: &str, at: usize) -> Option<usize>
     ensures reads { MatchOption result ((j : ℕ) → Handle s.now at j → ⊥) (λ j. Handle s.now at j) }
     ensures longest { IfSome result (λ j. (k : ℕ) → Handle s.now at k → k ≤ j) }
@@ -114,8 +114,8 @@ pub fn tag_handle(s: &str, at: usize) -> Option<usize>
     None
 }
 
-/// Reads the prefix of a TAG directive (ns-tag-prefix, production 93), as long as its characters go, and gives the byte
-/// offset after it.
+/// Reads the prefix of a TAG directive (ns-tag-prefix, production 93), with all characters that may be in it, and
+/// returns the byte offset after it.
 pub fn tag_prefix(s: &str, at: usize) -> Option<usize>
     requires { IsCharBoundary s.now at }
     ensures reads { MatchOption result (Stuck (TagPrefix s.now at)) (λ j. (x : List ℕ) × Chosen (TagPrefix s.now at) j x) }
@@ -156,7 +156,7 @@ fn verbatim<'a>(s: &'a str, at: usize) -> Option<TagPart<'a>>
     None
 }
 
-// Reads the suffix of a shorthand tag, whose handle begins at `at` and ends at `start`.
+// Reads the suffix of a shorthand tag with the handle from `at` to `start`.
 fn suffix_after<'a>(s: &'a str, at: usize, start: usize) -> Option<TagPart<'a>>
     requires first { IsCharBoundary s.now at }
     requires second { IsCharBoundary s.now start }
@@ -176,7 +176,7 @@ fn suffix_after<'a>(s: &'a str, at: usize, start: usize) -> Option<TagPart<'a>>
     None
 }
 
-// Reads a shorthand tag whose handle is not the lone `!`.
+// Reads a shorthand tag with a longer handle than `!`.
 fn long_shorthand<'a>(s: &'a str, at: usize) -> Option<TagPart<'a>>
     requires { CharAt s.now at EXCLAMATION (at + 1) }
     ensures reads { MatchOption result ((h j : ℕ) → Handle s.now at h → at + 1 < h → Run (TagChar s.now) h j → ⊥)
@@ -209,7 +209,7 @@ fn shorthand<'a>(s: &'a str, at: usize) -> Option<TagPart<'a>>
     }
 }
 
-// Reads a tag (c-ns-tag-property, production 97), as long as its characters go.
+// Reads a tag (c-ns-tag-property, production 97), with all characters that may be in it.
 pub(crate) fn tag_property<'a>(s: &'a str, at: usize) -> Option<TagPart<'a>>
     ensures reads { MatchOption result (Stuck (TagProperty s.now at)) (λ p. Chosen (TagProperty s.now at) p.end (tag_value p.tag)) }
     ensures boundary { IfSome result (λ p. IsCharBoundary s.now p.end) }

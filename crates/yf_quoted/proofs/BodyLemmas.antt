@@ -1,4 +1,4 @@
--- Laws of the inside of quoted scalars: character by character there is one way to go on.
+-- The inside of quoted scalars can be read in only one way, character by character.
 use Rattle.std.proofs.Common.{◌≡◌, ℕ, ◌<◌, ◌≤◌, true, false, List, [], ◌∷◌, ◌++◌, refl, sym, ap, ◌∙◌, subst, inl, inr, ◌⊎◌, ⊎_elim, arith, append_assoc}
 use Rattle.std.proofs.lemmas.Bool.{cases_Bool}
 use Rattle.yf_chars.specs.declared.context.Ctx.{Ctx}
@@ -17,7 +17,7 @@ use Rattle.yf_quoted.specs.Quoted.Inside.{as_lines}
 use Rattle.yf_quoted.specs.Body.{Gap, Step, Body}
 use Rattle.yf_quoted.specs.Body.Gap.{by_whites, by_break}
 
--- what a kind of quotes is to keep: at the end of a gap something can be read, and gaps that end so are one
+-- the laws of a kind of quotes: something can be read at the end of a gap, and only one gap ends so
 pub record Laws {A : Type 0} (t : List ℕ) (put : List ℕ → List A) (C B : ℕ → ℕ → List A → Type 0) (quote : ℕ) : Type 0 where
   pub chars : Functional C
   pub ends : (i j k : ℕ) (x y : List A) → Gap t put B i j x → ((l : ℕ) × (z : List A) × C j l z) ⊎ (code t j ≡ quote)
@@ -42,7 +42,7 @@ module _ {A : Type 0} {t : List ℕ} {put : List ℕ → List A} {C B : ℕ → 
     forward = λ a. step_forward l a;
   }
 
-  -- before the closing quote no step goes on, where the quote is no character
+  -- no step goes on before the closing quote if the quote begins no character
   pub gap_stuck : {i j : ℕ} {x : List A} → Laws t put C B quote → ((k l : ℕ) (z : List A) → code t k ≡ quote → C k l z → ⊥) → Gap t put B i j x → code t j ≡ quote
       → Stuck (Step t put C B i)
   gap_stuck {i} {j} {x} l no_char g q = record {
@@ -59,7 +59,7 @@ module _ {A : Type 0} {t : List ℕ} {put : List ℕ → List A} {C B : ℕ → 
       let ends = l.ends a.at j k a.last b.last a.gap (inr a.closing) g (inr b.closing) in
       (ends.0, a.text ∙ ap (λ w. w ++ a.last) same.1 ∙ ap (λ w. b.front ++ w) ends.1 ∙ sym b.text)
 
-  -- where neither a step nor the closing quote follows, there is no body
+  -- no body exists if neither a step nor the closing quote follows
   pub no_body : {i j : ℕ} {x : List A} → Laws t put C B quote → ((k l : ℕ) (z : List A) → code t k ≡ quote → C k l z → ⊥)
       → Chain (Step t put C B) i j x → Stuck (Step t put C B j)
       → ((k : ℕ) (y : List A) → Gap t put B j k y → code t k ≡ quote → ⊥) → (k : ℕ) (y : List A) → Body t put C B quote i k y → ⊥
@@ -67,7 +67,7 @@ module _ {A : Type 0} {t : List ℕ} {put : List ℕ → List A} {C B : ℕ → 
       let same = stuck_unique (step_functional l) c s b.steps (gap_stuck l no_char b.gap b.closing) in
       no_gap k b.last (subst (λ h. Gap t put B h k b.last) (sym same.0) b.gap) b.closing
 
--- how plain characters and white space are to mean
+-- the meanings of plain characters and white space
 pub record Means {A : Type 0} (t : List ℕ) (put : List ℕ → List A) (C : ℕ → ℕ → List A → Type 0) (quote : ℕ) : Type 0 where
   pub nothing : put [] ≡ []
   pub append : (x y : List ℕ) → put (x ++ y) ≡ put x ++ put y
@@ -219,7 +219,7 @@ module _ {A : Type 0} {t : List ℕ} {put : List ℕ → List A} {C B : ℕ → 
   body_chars {i} {j} m n b = subst (λ v. Chain C i j v) (sym b.text) (chain_append (steps_chars m n b.steps) (gap_chars m n b.gap))
 
 module _ {A : Type 0} {t : List ℕ} {put : List ℕ → List A} {C B : ℕ → ℕ → List A → Type 0} {quote : ℕ} where
-  -- a white before a gap without breaks, and before what goes on with one
+  -- white space before a gap without breaks, and before steps that begin with such a gap
   white_gap : {g i j : ℕ} {x : List A} → Means t put C quote → ((i j : ℕ) (x : List A) → B i j x → ⊥) → is_white (code t g) ≡ true → next t g ≡ i
       → Gap t put B i j x → Gap t put B g j (put (code t g ∷ []) ++ x)
   white_gap {g} m no_break e q (by_whites {i = i} {j = j} {x = x} w n) =

@@ -1,4 +1,4 @@
--- Where the closing quote can also be half of a character: the bodies from one place, and which of them is the longest.
+-- Closing quotes that can also be half of a character: the bodies from one offset, and the longest of them.
 use Rattle.std.proofs.Common.{◌≡◌, ◌≢◌, ℕ, ◌<◌, ◌≤◌, List, [], ◌++◌, Option, Some, None, refl, sym, ap, ◌∙◌, subst, inl, inr, ◌⊎◌, ⊎_elim, arith, append_assoc}
 use Rattle.std.proofs.lemmas.Option.{same_Some}
 use Rattle.yf_chars.specs.Text.{code}
@@ -11,13 +11,13 @@ use Rattle.yf_lines.proofs.BasicLemmas.{clear_front}
 use Rattle.yf_quoted.specs.Body.{Gap, Step, Body}
 use Rattle.yf_quoted.proofs.BodyLemmas.{Laws, step_functional}
 
--- the body up to k with the text y is no longer than the one up to j with the text x
+-- the body up to k with the text y isn't longer than the body up to j with the text x
 pub record NoLonger {A : Type 0} (j : ℕ) (x : List A) (k : ℕ) (y : List A) : Type 0 where
   pub within : k ≤ j
   pub same : k ≡ j → y ≡ x
 
 module _ {A : Type 0} {t : List ℕ} {put : List ℕ → List A} {C B : ℕ → ℕ → List A → Type 0} {quote : ℕ} where
-  -- a body that goes on where another one closes, and no character is there
+  -- no body goes on after the end of another one if no character begins there
   goes_nowhere : {m p j k : ℕ} {last other z : List A} → Laws t put C B quote → Stuck (C j) → Gap t put B m j last → code t j ≡ quote
       → Chain (Step t put C B) m p z → Gap t put B p k other → code t k ≡ quote → (k ≡ j) × (z ++ other ≡ last)
   goes_nowhere {m} {j = j} {k = k} {last = last} {other = other} l s g q done h r = l.ends m k j other last h (inr r) g (inr q)
@@ -36,7 +36,7 @@ module _ {A : Type 0} {t : List ℕ} {put : List ℕ → List A} {C B : ℕ → 
       let o = l.order p j last g in
       inl (omega (arith, same.0))
 
-  -- a body is the longest where no character begins at its closing quote
+  -- a body is the longest if no character begins at its closing quote
   pub close_longest : {i j k : ℕ} {x y : List A} → Laws t put C B quote → Stuck (C j) → Body t put C B quote i j x → Body t put C B quote i k y
       → NoLonger j x k y
   close_longest {i} {j} {k} {x} {y} l s a b = go (chain_meet (step_functional l) a.steps b.steps) where
@@ -56,7 +56,7 @@ module _ {A : Type 0} {t : List ℕ} {put : List ℕ → List A} {C B : ℕ → 
         })
         (closes_early l a.gap a.closing c b.gap b.closing)
 
--- a body that is known: where it closes, and its text
+-- a known body: its closing quote and its text
 pub record Closed (A : Type 0) : Type 0 where
   pub close : ℕ
   pub text : List A
@@ -70,7 +70,7 @@ pub record Later {A : Type 0} (t : List ℕ) (put : List ℕ → List A) (C B : 
   pub body : Body t put C B quote e k rest
   pub text : y ≡ x ++ rest
 
--- the longest body that closes before e, where there is one: each other one goes on from there
+-- the longest body that closes before e, if one exists; every other body goes on from e
 pub record Best {A : Type 0} (t : List ℕ) (put : List ℕ → List A) (C B : ℕ → ℕ → List A → Type 0) (quote i e : ℕ) (x : List A) (best : Option (Closed A)) : Type 0 where
   pub derived : (c : Closed A) → best ≡ Some c → Body t put C B quote i c.close c.text × (c.close < e)
   pub every : (k : ℕ) (y : List A) → Body t put C B quote i k y → Later t put C B quote e x k y ⊎ Within k y best
@@ -103,7 +103,7 @@ module _ {A : Type 0} {t : List ℕ} {put : List ℕ → List A} {C B : ℕ → 
   later_more : {e h k : ℕ} {x z y : List A} (l : Later t put C B quote e x k y) → Later t put C B quote h z k l.rest → Later t put C B quote h (x ++ z) k y
   later_more {x = x} {z = z} l m = record { rest = m.rest; body = m.body; text = l.text ∙ ap (λ w. x ++ w) m.text ∙ sym (append_assoc x z m.rest) }
 
-  -- a step whose character begins with no quote
+  -- a step whose character doesn't begin with a quote
   pub best_more : {i e h : ℕ} {x z : List A} {best : Option (Closed A)} → Laws t put C B quote → Best t put C B quote i e x best → (s : Step t put C B e h z)
       → code t s.at ≢ quote → Best t put C B quote i h (x ++ z) best
   best_more {i} {e} {h} {x} {z} {best} l b s n = record {
@@ -117,7 +117,7 @@ module _ {A : Type 0} {t : List ℕ} {put : List ℕ → List A} {C B : ℕ → 
         (b.every k y d);
   }
 
-  -- a step whose character begins with a quote, at which a body closes
+  -- a step whose character begins with a quote that closes a body
   pub best_mark : {i e h : ℕ} {x z : List A} {best : Option (Closed A)} → Laws t put C B quote → Chain (Step t put C B) i e x → Best t put C B quote i e x best
       → (s : Step t put C B e h z) → code t s.at ≡ quote → Best t put C B quote i h (x ++ z) (Some (record { close = s.at; text = x ++ s.front }))
   best_mark {i} {e} {h} {x} {z} {best} l a b s q = record {
@@ -151,7 +151,7 @@ module _ {A : Type 0} {t : List ℕ} {put : List ℕ → List A} {C B : ℕ → 
         let f = early c refl in
         known (record { within = omega (arith, o, w.within); same = λ p. absurd (omega (arith, o, w.within)) })
 
-  -- where no body goes on, all are known
+  -- if no body goes on, all are known
   pub best_last : {i e k : ℕ} {x y : List A} {best : Option (Closed A)} → Best t put C B quote i e x best → ((k : ℕ) (z : List A) → Body t put C B quote e k z → ⊥)
       → Body t put C B quote i k y → Within k y best
   best_last {e = e} {k = k} {x = x} {y = y} {best = best} b n d = ⊎_elim

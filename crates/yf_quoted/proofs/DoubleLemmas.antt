@@ -30,7 +30,7 @@ pub json_cr : is_nb_json 13 ≡ false
 unfolding is_nb_json is_between
 json_cr = refl
 
--- the escapes' and the quotes' own characters are no white space
+-- a backslash and a quote are not white space
 pub white_backslash : is_white 92 ≡ false
 unfolding is_white
 white_backslash = refl
@@ -57,7 +57,7 @@ char_end {t} {i} {j} {k} a b = go (written a) (written b) where
   go (by_escape v f) (itself n m e p q) = absurd (n (escape_backslash f))
   go (by_escape v f) (by_escape w g) = (escape_unique f g).0
 
--- what an escape means, by its number
+-- the meaning of an escape, by its number
 pub data Meant (t : List ℕ) (i j : ℕ) (x : List Piece) : Type 0 where
   as_itself : code t i ≢ 92 → x ≡ good (code t i) ∷ [] → Meant t i j x
   as_char : (v : ℕ) → Escape t i j v → IsScalar v → x ≡ good v ∷ [] → Meant t i j x
@@ -90,7 +90,7 @@ char_forward {t} {i} {j} a = go (written a) where
 pub char_functional : (t : List ℕ) → Functional (DoubleChar t)
 char_functional t = record { one_end = λ a b. char_end a b; one_meaning = λ a b. char_meaning a b; forward = λ a. char_forward a }
 
--- where a gap may end: no break is there, nor an escaped one
+-- an end of a gap, at which neither a break nor an escaped break begins
 pub record Good (t : List ℕ) (k : ℕ) : Type 0 where
   pub no_break : Nowhere (Break t k)
   pub no_escaped : code t k ≡ 92 → (l : ℕ) → Break t (k + 1) l → ⊥
@@ -171,7 +171,7 @@ gap_kind : {t : List ℕ} {w i j : ℕ} {x : List Piece} → Gap t goods (Double
 gap_kind (by_whites {x = x} m n) = whites_alone x m n refl
 gap_kind (by_break b n) = break_kind b n
 
--- on one line there are white space alone
+-- on one line, a gap is white space
 line_kind : {t : List ℕ} {i j : ℕ} {x : List Piece} → Gap t goods (DoubleBreaks t None) i j x → Kind t (pos 0) i j x
 line_kind (by_whites {x = x} m n) = whites_alone x m n refl
 line_kind (by_break b n) = absurd b

@@ -1,4 +1,4 @@
--- Laws of gaps: what the reader of a gap finds is the one gap that leads on.
+-- Laws of gaps: the reader finds the only gap after which the scalar can go on.
 use Rattle.std.proofs.Common.{◌≡◌, ℕ, zero, suc, ◌+◌, ◌-◌, ◌≤◌, ℤ, pos, Bool, false, List, [], ◌∷◌, ◌++◌, Option, Some, None, IsSome, refl, sym, ap, ◌∙◌, subst, ⊎_elim, arith, append-nil, encode_utf8_all, length, take, drop, eqb}
 use lib.Utf8.{encode}
 use Rattle.std.proofs.lemmas.Str.{encodes-append}
@@ -25,7 +25,7 @@ use Rattle.yf_quoted.specs.Body.PlainGap.{of_whites, of_fold}
 use Rattle.yf_quoted.specs.Body.NoPlainGap.{at_break}
 use Rattle.yf_quoted.proofs.DoubleLemmas.{Good, good_place, to_fold, goods_append, white_backslash}
 
--- no escaped break is after the white space
+-- no escaped break follows the white space
 pub record NoEscape (t : List ℕ) (o : Option ℕ) (i : ℕ) : Type 0 where
   pub none : (w h l : ℕ) (x : List ℕ) → o ≡ Some w → Many t is_white i h x → code t h ≡ 92 → Break t (h + 1) l → ⊥
 
@@ -61,7 +61,7 @@ fold_gap_bytes t i zero = ap (λ w. w ++ (32 ∷ [])) (no_slice t i)
 fold_gap_bytes t i (suc k) =
     rw (ne_eqb (suc k) 0 (λ e. absurd (omega arith))) (ap (λ w. w ++ line_feeds (suc k)) (no_slice t i) ∙ sym (feeds_bytes (suc k)))
 
--- breaks are where lines are indented by a width
+-- breaks exist only if a width is given
 break_of : {t : List ℕ} (o : Option ℕ) {i k : ℕ} {y : List Piece} → DoubleBreaks t o i k y → (w : ℕ) × (o ≡ Some w) × DoubleBreak t (pos w) i k y
 break_of None b = absurd b
 break_of (Some w) b = (w, refl, b)
@@ -125,7 +125,7 @@ double_of_plain {t} {o} {i} u l e (of_fold {feeds = feeds} {j = j} w s f) = reco
   clear = clear_fold u f;
 }
 
--- no gap after a break that no line goes on from
+-- no gap begins with a break that no line continues
 stuck_break : {t : List ℕ} {w i j l k : ℕ} {x : List ℕ} {y : List Piece} → Many t is_white i j x → Break t j l → Stuck (FoldsTo t (pos w) i)
     → DoubleBreak t (pos w) i k y → is_white (code t k) ≡ false → Good t k → ⊥
 stuck_break {k = k} m b s (folded_break {x = x} f) v g = s.none k x (to_fold f v g)

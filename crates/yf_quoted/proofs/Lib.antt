@@ -1,6 +1,6 @@
--- The lemmas, each group under the function or the theorem that it serves.
+-- The lemmas, grouped by the function or the theorem that needs them.
 
--- both kinds: their insides, gaps and closing quotes
+-- both kinds: insides, gaps and closing quotes
 pub mod BodyLemmas
 pub mod GapLemmas
 pub mod CloseLemmas
@@ -15,9 +15,9 @@ pub mod SingleLemmas
 pub mod SingleReadLemmas
 pub mod UnquotedLemmas
 pub mod MarkLemmas
--- `write_single` and `write_double`: what is written is read again
+-- `write_single` and `write_double`: readers read the written text again
 pub mod WriteLemmas
 pub mod OwnLemmas
 pub mod QuotedBack
--- the definitions by small texts
+-- the definitions on small texts
 mod QuotedShown

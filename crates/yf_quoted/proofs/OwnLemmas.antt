@@ -1,4 +1,4 @@
--- Characters that are spelled by themselves are written in runs.
+-- Characters that need no escape are written in runs.
 use Rattle.std.proofs.Common.{◌≡◌, ℕ, ◌+◌, ◌-◌, ◌<◌, ◌≤◌, true, false, List, [], ◌∷◌, ◌++◌, refl, sym, ap, ◌∙◌, subst, arith, append_assoc, append-nil, get_or, length, take, drop, chars, flat_map, encode_utf8, encode_utf8_all}
 use Rattle.std.specs.Prelude.{is_some}
 use Rattle.std.proofs.lemmas.Bool.Decides.{nat_tests}
@@ -29,7 +29,7 @@ wide_not_by_two c l = grind (arith, nat_tests)
 pub wide_spelled : (c : ℕ) → 160 < c → is_by_four c ≡ false → spelled c ≡ c ∷ []
 wide_spelled c l e = spelled_none c (none_there (short_name c) (wide_no_letter c l)) ∙ spelled_self c (wide_not_by_two c l) e
 
--- of a byte that is one
+-- bytes of common characters
 pub common_at : (t : List ℕ) (i : ℕ) → IsUtf8 t → i < length t → is_common (get_or t i 0) ≡ true → OwnAt t i (i + 1)
 common_at t i u l e =
     let r = reads_ascii t i u l (common_below (get_or t i 0) e) in
@@ -46,7 +46,7 @@ wide_at {t} {i} {j = j} r e = record {
   self = subst (λ v. spelled v ≡ v ∷ []) (sym r.char) e;
 }
 
--- what is after a character
+-- the bytes after a character
 rest_after : {t : List ℕ} {i c j : ℕ} → CharAt t i c j → drop i t ≡ encode_utf8 c ++ drop j t
 rest_after {t} {i} {c} {j} r =
     let within : i ≤ length t = omega (arith, r.later, r.within) in
@@ -81,7 +81,7 @@ run_more {t} {i} {j} {k} u b r o =
 pub run_found : {t : List ℕ} {i j : ℕ} → j ≤ length t → RunSoFar t i j → OwnRun t i j
 run_found l r = record { text = r.text; self = r.self; bytes = spelled_slice l r.spelled_out; rest = r.rest }
 
--- what is written and what is still to be written are all
+-- the written bytes and the bytes still to be written are all
 pub run_written : (t out : List ℕ) {new slice all : List ℕ} {i j : ℕ} → OwnRun t i j → out ++ encode_utf8_all (flat_map spelled (chars (drop i t))) ≡ all
     → new ≡ out ++ slice → slice ≡ take (j - i) (drop i t) → new ++ encode_utf8_all (flat_map spelled (chars (drop j t))) ≡ all
 run_written t out {slice = slice} {i = i} {j} r e n q =

@@ -1,4 +1,4 @@
--- Quoted scalars are within one line, and are derived again wherever they are.
+-- Quoted scalars are on one line, and are derived again at any offset.
 use Rattle.std.proofs.Common.{◌≡◌, ◌≢◌, ℕ, ◌+◌, ◌/◌, ◌%◌, ◌<◌, ◌≤◌, ℤ, true, false, Option, Some, None, List, [], ◌∷◌, ◌++◌, length, flat_map, refl, inl, inr, ⊎_elim, arith, encode_utf8_all}
 use Rattle.std.proofs.lemmas.Bool.{cases_Bool, cases_eq, cases_lt, ne_eqb, and_parts}
 use Rattle.std.proofs.lemmas.Bool.Decides.{nat_tests}
@@ -22,7 +22,7 @@ use Rattle.yf_quoted.specs.Quoted.{Piece, text_of, bad_escapes, SingleQuoted, Do
 use Rattle.yf_quoted.specs.Written.{DoubleBack, all_nb, twice, single_bytes, double_bytes, double_bytes_in}
 use Rattle.yf_quoted.proofs.WriteLemmas.{single_back}
 
--- the characters that are written
+-- the written characters
 twice_nb : (c : ℕ) → is_nb_char c ≡ true → AllNb (twice c)
 twice_nb c e = ⊎_elim (λ (q : c ≡ 39). let nb = visible_nb 39 (omega arith) (omega arith) in rw (q) (nb, (nb, tt))) (λ (q : c ≢ 39). rw (ne_eqb c 39 q) (e, tt)) (cases_eq c 39)
 
@@ -71,7 +71,7 @@ spelled_nb c s = go (short_name c) refl where
   go (Some l) e = let b = letter_bounds c l e in (visible_nb 92 (omega arith) (omega arith), (visible_nb l b.0 b.1, tt))
   go None e = long_nb c s e
 
--- each character is spelled by characters that may be on a line
+-- each character is written with characters that may be on a line
 all_spelled_by : (f : ℕ → List ℕ) → ((c : ℕ) → scalar c ≡ true → AllNb (f c)) → (cs : List ℕ) → scalars cs ≡ true → AllNb (flat_map f cs)
 all_spelled_by f each [] e = tt
 all_spelled_by f each (c ∷ cs) e =
@@ -121,7 +121,7 @@ double_in_line Escaped cs a = double_line_text_by spelled_out out_nb cs a
 pub double_line_text : (cs : List ℕ) → scalars cs ≡ true → IsLineText (double_bytes cs)
 double_line_text = double_in_line Plain
 
--- wherever the bytes are, whatever follows
+-- at any offset, whatever follows
 pub single_is_at : {t : List ℕ} (n : ℤ) (c : Ctx) (cs r : List ℕ) {q : ℕ} → IsUtf8 t → is_block c ≡ false → all_nb cs ≡ true → IsAt t q (single_bytes cs ++ r)
     → SingleQuoted t n c q (q + length (single_bytes cs)) cs
 single_is_at {t} n c cs r {q} u b a s = (single_back cs a).derived t q r n c u s.bytes b

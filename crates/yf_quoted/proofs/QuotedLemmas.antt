@@ -1,4 +1,4 @@
--- Whole double-quoted scalars: what the reader of the inside finds is the scalar.
+-- Whole double-quoted scalars: the reader of the inside finds the scalar.
 use Rattle.std.proofs.Common.{◌≡◌, ℕ, ◌+◌, ◌≤◌, ℤ, pos, ◌<ℤ◌, List, [], ◌∷◌, Option, None, sym, ap, ◌∙◌, subst, arith, encode_utf8_all, length, take, drop, ◌-◌}
 use Rattle.std.specs.Str.{IsUtf8}
 use Rattle.yf_chars.specs.declared.context.Ctx.{Ctx}
@@ -51,7 +51,7 @@ double_chosen {t} {n} {c} {o} {i} {j} {x} u w q b = record {
 pub no_double : {t : List ℕ} {n : ℤ} {c : Ctx} {o : Option ℕ} {i : ℕ} → WidthOf n c o → NoDoubleBody t o (i + 1) → Stuck (DoubleQuoted t n c i)
 no_double {t} {n} {c} {o} {i} w b = record { none = λ j y d. b.none d.close y (quoted_body (double_kind t) w d) }
 
--- characters that stand for themselves
+-- characters that represent themselves in double quotes
 simple_chars : {t : List ℕ} {i j : ℕ} {x : List ℕ} → Chain (SimpleChar t) i j x → Chain (DoubleChar t) i j (goods x)
 simple_chars done = done
 simple_chars {t} {j = j} (step {y = y} (simply {i = i} s) c) =

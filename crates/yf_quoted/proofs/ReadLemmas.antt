@@ -131,7 +131,7 @@ no_char_body {t} {o} {j = j} {k = k} s g q n = record { none = no_body (double_l
       let f = (double_laws t o).order j k g.text g.gap in
       n.none h st.char (subst (λ m. DoubleChar t m h st.char) same.0 st.is) (clear_back f st.clear)
 
--- places of bad escapes
+-- offsets of bad escapes
 pub bad_places : (t : List ℕ) (v : Option ℕ) {p : ℕ} (old : List ℕ) {noted : List ℕ} → noted ≡ old ++ bad_escapes (piece v p ∷ [])
     → All (IsCharBoundary t) old → IsCharBoundary t p → All (IsCharBoundary t) noted
 bad_places t (Some c) {p} old e a b = subst (λ w. All (IsCharBoundary t) w) (sym (e ∙ append-nil old)) a

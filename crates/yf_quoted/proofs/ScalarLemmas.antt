@@ -1,4 +1,4 @@
--- Whole quoted scalars of either kind: what the reader of the inside finds is the scalar.
+-- Whole quoted scalars of either kind: the reader of the inside finds the scalar.
 use Rattle.std.proofs.Common.{◌≡◌, ℕ, ◌+◌, ◌<◌, ◌≤◌, ℤ, pos, negsuc, ◌<ℤ◌, true, false, List, Option, Some, None, refl, sym, ap, ◌∙◌, subst, inl, inr, ◌⊎◌, ⊎_elim, arith}
 use Rattle.std.proofs.lemmas.Bool.{cases_Bool}
 use Rattle.std.proofs.lemmas.Int.{ints}
@@ -59,7 +59,7 @@ module _ {A : Type 0} {t : List ℕ} {put : List ℕ → List A} {C B D : ℕ �
   pub body_map : {i j q : ℕ} {x : List A} → ((i j : ℕ) (x : List A) → B i j x → D i j x) → Body t put C B q i j x → Body t put C D q i j x
   body_map f b = record { at = b.at; front = b.front; last = b.last; steps = steps_map f b.steps; gap = gap_map f b.gap; clear = b.clear; closing = b.closing; text = b.text }
 
--- no line is indented by less than nothing
+-- no line has a negative indentation
 pub no_negative_prefix : {t : List ℕ} {n : ℤ} {i j : ℕ} → n <ℤ pos 0 → FlowPrefix t n i j → ⊥
 no_negative_prefix {t} {n} l p = go p where
   indent : {i j : ℕ} → Indent t n i j → ⊥
@@ -76,7 +76,7 @@ no_negative_fold l (past_whites s d p) = no_negative_prefix l p
 pub clear_byte : {t : List ℕ} {i b : ℕ} → IsUtf8 t → code t i ≡ b → b < 45 → Clear t i (i + 1)
 clear_byte {t} {i} {b} u q l = clear_char u (reads_byte t i b u q (omega arith)) (not_forbidden t i (λ e. omega arith) (λ e. omega arith))
 
--- a kind of quotes: its characters C, its breaks D at an indentation, and the same breaks B where lines have a width
+-- a kind of quotes: its characters C, its breaks D at an indentation, and its breaks B at a width
 pub record Kind {A : Type 0} (t : List ℕ) (put : List ℕ → List A) (C : ℕ → ℕ → List A → Type 0) (D : ℤ → ℕ → ℕ → List A → Type 0)
     (B : Option ℕ → ℕ → ℕ → List A → Type 0) (quote : ℕ) : Type 0 where
   pub laws : (o : Option ℕ) → Laws t put C (B o) quote
@@ -141,7 +141,7 @@ module _ {A : Type 0} {t : List ℕ} {put : List ℕ → List A} {C : ℕ → �
     clear = clear_join (clear_byte u q k.low) (clear_join (body_clear b) (clear_byte u b.closing k.low));
   }
 
--- where no scalar is
+-- no scalar
 module _ {A : Type 0} {t : List ℕ} {put : List ℕ → List A} {C B : ℕ → ℕ → List A → Type 0} {quote : ℕ} where
   pub no_opening : {c : Ctx} {i : ℕ} → (code t i ≡ quote → ⊥) → Stuck (QuotedScalar t put C B c quote i)
   no_opening n = record { none = λ j y d. n d.opening }

@@ -1,4 +1,4 @@
--- Ordinary characters stand for themselves, and runs of them are read at once.
+-- Ordinary characters represent themselves, and the reader takes runs of them at once.
 use Rattle.std.proofs.Common.{◌≡◌, ◌≢◌, ℕ, zero, suc, ◌+◌, ◌-◌, ◌<◌, ◌≤◌, false, true, List, [], ◌∷◌, ◌++◌, Option, refl, sym, ap, ◌∙◌, subst, arith, get_or, length, encode_utf8_all, slice_range}
 use Rattle.std.proofs.lemmas.Bool.Decides.{nat_tests}
 use Rattle.std.specs.Str.{IsCharBoundary, IsUtf8}
@@ -49,7 +49,7 @@ ordinary_no_dot : (c : ℕ) → is_ordinary c ≡ true → c ≢ 46
 unfolding is_ordinary is_between
 ordinary_no_dot c e q = grind (arith, nat_tests)
 
--- of a byte that is one
+-- bytes of ordinary characters
 pub ordinary_at : (t : List ℕ) (i : ℕ) → IsUtf8 t → i < length t → is_ordinary (get_or t i 0) ≡ true → Simple t i (i + 1)
 ordinary_at t i u l e =
     let r = reads_ascii t i u l (ordinary_below (get_or t i 0) e) in
@@ -62,7 +62,7 @@ ordinary_at t i u l e =
       allowed = not_forbidden t i (ordinary_no_dash (code t i) o) (ordinary_no_dot (code t i) o);
     }
 
--- where an ASCII character that is printed ends, no forbidden line begins
+-- no forbidden line begins after a printable ASCII character
 visible_from : (c : ℕ) → is_between 0x20 0x7E c ≡ true → 32 ≤ c
 unfolding is_between
 visible_from c e = grind (arith, nat_tests)
@@ -75,7 +75,7 @@ pub allowed_after : (t : List ℕ) (i : ℕ) → IsUtf8 t → i ≢ 0 → i ≤ 
 allowed_after t i u z w e f =
     no_start_past t i u z w (visible_from (get_or t (i - 1) 0) e) (visible_upto (get_or t (i - 1) 0) e) f.start
 
--- of bytes that are ASCII characters other than " and \, where no forbidden line begins: after such a byte no line starts
+-- bytes of ASCII characters other than " and \: no line starts after them, and so no forbidden line begins there
 common_json : (c : ℕ) → is_common c ≡ true → is_nb_json c ≡ true
 unfolding is_common is_between is_nb_json
 common_json c e = grind (arith, nat_tests)

@@ -134,7 +134,7 @@ single_kind t = record {
   low = omega arith;
 }
 
--- the gap from i to j, and its bytes: no other gap leads on
+-- the only gap from i after which the scalar can go on; it ends at j
 pub record SingleGap (t : List ℕ) (o : Option ℕ) (i blank_end : ℕ) (space : Bool) (feeds j : ℕ) : Type 0 where
   pub text : List ℕ
   pub gap : Gap t as_they_are (SingleBreaks t o) i j text

@@ -1,4 +1,5 @@
--- Laws for the reader of single-quoted scalars, which keeps the last place where the first of two quotes may close the scalar.
+-- Laws for the reader of single-quoted scalars, which keeps the last offset at which the first of two quotes may close
+-- the scalar.
 use Rattle.std.proofs.Common.{◌≡◌, ◌≢◌, ℕ, ◌+◌, ◌-◌, ◌<◌, ◌≤◌, ℤ, Bool, true, false, List, [], ◌∷◌, ◌++◌, Option, Some, None, MatchOption, MatchBool, IsSomeAnd, if◌then◌else◌, refl, sym, ap, ◌∙◌, subst, inl, inr, arith, append_assoc, append-nil, encode_utf8_all, encode_utf8, length, take, drop}
 use Rattle.std.proofs.Math.Seq.{take-append_seam}
 use Rattle.std.proofs.lemmas.Bool.{true≢false}
@@ -75,7 +76,7 @@ own_char {t} {i} {c} {j} u r e n f =
     let to : SingleChar t i j (code t i ∷ []) = subst (λ k. SingleChar t i k (code t i ∷ [])) r.end is in
     (subst (λ v. SingleChar t i j (v ∷ [])) r.char to, clear_char u r f)
 
--- where a quote is no character, it closes the scalar for good
+-- a quote that begins no character closes the scalar
 stuck_at_quote : {t : List ℕ} {i : ℕ} → IsUtf8 t → code t i ≡ 39 → NoSingleChar t i → Stuck (SingleChar t i)
 stuck_at_quote {t} {i} u e n = record { none = λ j y d. go j y d (single_written d) } where
   go : (j : ℕ) (y : List ℕ) → SingleChar t i j y → SingleWritten t i j y → ⊥
@@ -222,7 +223,7 @@ single_read {t} {n = n} {c = c} {i = i} u w q r = (r.text, r.is, subst (λ k. Ch
 pub no_single : {t : List ℕ} {n : ℤ} {c : Ctx} {o : Option ℕ} {i : ℕ} → WidthOf n c o → NoSingleBody t o (i + 1) → Stuck (SingleQuoted t n c i)
 no_single {t} w b = record { none = λ j y d. b.none d.close y (quoted_body (single_kind t) w d) }
 
--- characters on one line, and a quote after them; it is the last one where no quote follows
+-- characters on one line with a quote after them: it closes the scalar if no quote follows it
 line_body : {t : List ℕ} {i j : ℕ} {x : List ℕ} (o : Option ℕ) → Chain (SingleChar t) i j x → Clear t i j → code t j ≡ 39
     → Body t as_they_are (SingleChar t) (SingleBreaks t o) 39 i j x
 line_body {t} o d a e = body_map (λ i j x b. absurd b) (chars_body {B = λ i j x. ⊥} (single_functional t) (single_means t) (λ i j x b. b) d e a)

@@ -1,4 +1,4 @@
--- Characters that stand for themselves in single quotes.
+-- Characters that represent themselves in single quotes.
 use Rattle.std.proofs.Common.{◌≡◌, ◌≢◌, ℕ, ◌+◌, ◌<◌, true, List, [], ◌∷◌, sym, ap, ◌∙◌, subst, arith, get_or, length}
 use Rattle.std.proofs.lemmas.Bool.Decides.{nat_tests}
 use Rattle.std.specs.Str.{IsUtf8}
@@ -31,7 +31,7 @@ unquoted_no_dot : (c : ℕ) → is_unquoted c ≡ true → c ≢ 46
 unfolding is_unquoted is_between
 unquoted_no_dot c e q = grind (arith, nat_tests)
 
--- of a byte that is one
+-- bytes of such characters
 pub unquoted_at : (t : List ℕ) (i : ℕ) → IsUtf8 t → i < length t → is_unquoted (get_or t i 0) ≡ true → CharOfItself t i (i + 1)
 unquoted_at t i u l e =
     let r = reads_ascii t i u l (unquoted_below (get_or t i 0) e) in

@@ -1,4 +1,4 @@
--- Quoted scalars that are written are read again.
+-- Written quoted scalars are read again.
 use Rattle.std.proofs.Common.{◌≡◌, ◌≢◌, ℕ, zero, suc, ◌+◌, ◌<◌, ◌≤◌, ℤ, Bool, true, false, List, [], ◌∷◌, ◌++◌, ◌&&◌, Some, length, take, drop, get_or, flat_map, refl, sym, ap, ◌∙◌, subst, inl, inr, ◌⊎◌, ⊎_elim, arith, append_assoc, append-nil, add-zero, encode_utf8_all, if◌then◌else◌, get_or-drop}
 use Rattle.std.proofs.Math.Seq.{take-append_seam, drop-append_seam}
 use Rattle.std.proofs.lemmas.Bool.{cases_Bool, cases_eq, ne_eqb, and_parts}
@@ -104,7 +104,7 @@ nb_chosen cs e =
     apart : Double ≡ Single → ⊥
     apart e = cc
 
--- no line begins after a character that is no break and no mark
+-- no line begins after a character that is neither a break nor a byte order mark
 pub record NoLine (t : List ℕ) (i : ℕ) : Type 0 where
   pub none : LineStart t i → ⊥
 
@@ -117,7 +117,7 @@ no_line_after {t} {i} {c} {j} u r lf cr mark = record { none = λ s. go r.later 
       ⊎_elim (λ (e : w.1 ≡ 10). lf (sym same ∙ e)) (λ (f : (w.1 ≡ 13) ⊎ (w.1 ≡ 0xFEFF)).
       ⊎_elim (λ (e : w.1 ≡ 13). cr (sym same ∙ e)) (λ (e : w.1 ≡ 0xFEFF). mark (sym same ∙ e)) f) w.3
 
--- the last character of an escape is a letter or a digit
+-- the last character of an escape, a letter or a digit
 record LastOf (t : List ℕ) (j : ℕ) : Type 0 where
   from : ℕ
   char : ℕ
@@ -192,7 +192,7 @@ module _ {A : Type 0} {t : List ℕ} {C : ℕ → ℕ → List A → Type 0} whe
   walk_to : {i j k : ℕ} {x : List A} {r : List ℕ} → j ≡ k → Walked t C i j x r → Walked t C i k x r
   walk_to {i} {x = x} {r = r} e w = subst (λ m. Walked t C i m x r) e w
 
-  -- the characters of a text, each spelled by f and good
+  -- the characters of a text, each written by f and good
   walk : (f : ℕ → List ℕ) (g : List ℕ → List A) → g [] ≡ [] → ((c : ℕ) (cs : List ℕ) → g (c ∷ cs) ≡ g (c ∷ []) ++ g cs)
       → (P : ℕ → Bool)
       → ((c i : ℕ) (r : List ℕ) → P c ≡ true → IsAt t i (encode_utf8_all (f c) ++ r) → NoLine t i → Stepped t C i (i + length (encode_utf8_all (f c))) (g (c ∷ [])) r)
@@ -329,7 +329,7 @@ single_back cs a = record { derived = derived; chosen = chosen } where
       let end = frame_length (encode_utf8_all (flat_map twice cs)) 39 i in
       subst (λ k. Chosen (SingleQuoted t n c i) k cs) end (line_chosen u w.1 f.opening f.inside f.clear f.closing (λ z. q (ap (code t) (sym end) ∙ z)))
 
--- a text in double quotes, each character of which is spelled in a way that is read back
+-- a text in double quotes whose characters are each written in a way that is read again
 pub double_back_by : (f : ℕ → List ℕ) → ((c : ℕ) → scalar c ≡ true → ReadsBack (encode_utf8_all (f c)) c) → (cs : List ℕ) → scalars cs ≡ true
     → DoubleBack (34 ∷ encode_utf8_all (flat_map f cs) ++ 34 ∷ []) cs
 double_back_by f back cs a = record { chosen = chosen } where

@@ -1,5 +1,5 @@
--- The inside of quoted scalars, character by character, as their readers go on: a gap of white space or a break, and a
--- character or the closing quote after it.
+-- The inside of quoted scalars, character by character: a gap of white space or a break, and then a character or the
+-- closing quote.
 use Rattle.std.specs.Prelude.{◌<ℤ◌, ◌≢◌, ◌⊎◌, ◌==◌, IsSome, encode_utf8_all, ◌≡◌, ℕ, ◌+◌, ◌≤◌, ℤ, pos, Bool, true, false, List, [], ◌∷◌, ◌++◌, Option, Some, None, if◌then◌else◌, slice_range}
 use Rattle.yf_chars.specs.Signs.{BACKSLASH, DOUBLE_QUOTE, SPACE}
 use Rattle.yf_chars.specs.declared.context.Ctx.{Ctx}
@@ -11,11 +11,11 @@ use Rattle.yf_lines.specs.Fold.{FoldsTo, fold_text, line_feeds}
 use Rattle.yf_quoted.specs.Quoted.Piece.{good, bad}
 use Rattle.yf_quoted.specs.Quoted.{Piece, SingleChar, as_they_are, DoubleChar, DoubleBreak, goods, text_of, bad_escapes}
 
--- the bytes of what is between two characters: white space from i to blank_end, a space, and line feeds
+-- the bytes of a gap between two characters: the white space from i to blank_end, a space, and line feeds
 abbrev pub gap_bytes : List ℕ → ℕ → ℕ → Bool → ℕ → List ℕ
 gap_bytes t i blank_end space feeds = slice_range t i blank_end ++ ((if space then SPACE ∷ [] else []) ++ line_feeds feeds)
 
--- white space, or a break, up to a character that is no white space
+-- white space, or a break, before a character that isn't white space
 pub data Gap {A : Type 0} (t : List ℕ) (put : List ℕ → List A) (B : ℕ → ℕ → List A → Type 0) : ℕ → ℕ → List A → Type 0 where
   by_whites : {i j : ℕ} {x : List ℕ} → Many t is_white i j x → is_white (code t j) ≡ false → Gap t put B i j (put x)
   by_break : {i j : ℕ} {x : List A} → B i j x → is_white (code t j) ≡ false → Gap t put B i j x
@@ -41,7 +41,7 @@ pub record Body {A : Type 0} (t : List ℕ) (put : List ℕ → List A) (C B : �
   pub closing : code t j ≡ quote
   pub text : x ≡ front ++ last
 
--- the breaks of a scalar whose lines are indented by a width; on one line there are none
+-- the breaks of a scalar whose lines are indented by a width; a scalar on one line has none
 abbrev pub DoubleBreaks : List ℕ → Option ℕ → ℕ → ℕ → List Piece → Type 0
 DoubleBreaks t None i j x = ⊥
 DoubleBreaks t (Some w) i j x = DoubleBreak t (pos w) i j x
@@ -50,12 +50,12 @@ abbrev pub SingleBreaks : List ℕ → Option ℕ → ℕ → ℕ → List ℕ �
 SingleBreaks t None i j x = ⊥
 SingleBreaks t (Some w) i j x = FlowFolded t (pos w) i j x
 
--- white space or a folded break, and what they mean; breaks are folded where lines are indented by a width
+-- white space or a folded break, and its meaning; breaks are folded only if a width is given
 pub data PlainGap (t : List ℕ) (o : Option ℕ) (i : ℕ) : ℕ → Bool → ℕ → ℕ → Type 0 where
   of_whites : {j : ℕ} {x : List ℕ} → Many t is_white i j x → is_white (code t j) ≡ false → (IsSome o → Nowhere (Break t j)) → PlainGap t o i j false 0 j
   of_fold : {feeds j : ℕ} (w : ℕ) → o ≡ Some w → FoldsTo t (pos w) i j (fold_text feeds) → PlainGap t o i i (feeds == 0) feeds j
 
--- a break follows, and no line that goes on after it
+-- a break follows, but no line continues the scalar
 pub data NoPlainGap (t : List ℕ) (o : Option ℕ) (i : ℕ) : Type 0 where
   at_break : {j k : ℕ} {x : List ℕ} (w : ℕ) → o ≡ Some w → Many t is_white i j x → Break t j k → Stuck (FoldsTo t (pos w) i) → NoPlainGap t o i
 
@@ -63,7 +63,7 @@ pub data NoPlainGap (t : List ℕ) (o : Option ℕ) (i : ℕ) : Type 0 where
 abbrev pub DoubleGoesOn : List ℕ → ℕ → Type 0
 DoubleGoesOn t k = ((l : ℕ) × (z : List Piece) × DoubleChar t k l z) ⊎ (code t k ≡ DOUBLE_QUOTE)
 
--- the gap of a double-quoted scalar from i to j, and its bytes: no other gap leads on
+-- the only gap of a double-quoted scalar from i after which the scalar can go on; it ends at j
 pub record DoubleGap (t : List ℕ) (o : Option ℕ) (i blank_end : ℕ) (space : Bool) (feeds j : ℕ) : Type 0 where
   pub text : List Piece
   pub gap : Gap t goods (DoubleBreaks t o) i j text
@@ -75,17 +75,17 @@ pub record DoubleGap (t : List ℕ) (o : Option ℕ) (i blank_end : ℕ) (space 
 pub record NoDoubleGap (t : List ℕ) (o : Option ℕ) (i : ℕ) : Type 0 where
   pub none : (k : ℕ) (y : List Piece) → Gap t goods (DoubleBreaks t o) i k y → DoubleGoesOn t k → ⊥
 
--- what an escape or a character means, by its value
+-- the meaning of an escape or a character, by its value
 abbrev pub piece : Option ℕ → ℕ → Piece
 piece (Some v) p = good v
 piece None p = bad p
 
--- the character that is shown for it
+-- the character that is shown for a value
 abbrev pub shown : Option ℕ → ℕ
 shown (Some v) = v
 shown None = 0xFFFD
 
--- a character that stands for itself in double quotes, where no forbidden line begins
+-- a character that represents itself in double quotes, at which no forbidden line begins
 pub record Simple (t : List ℕ) (i j : ℕ) : Type 0 where
   pub json : is_nb_json (code t i) ≡ true
   pub no_backslash : code t i ≢ BACKSLASH
@@ -96,11 +96,11 @@ pub record Simple (t : List ℕ) (i j : ℕ) : Type 0 where
 pub record NoSimple (t : List ℕ) (i : ℕ) : Type 0 where
   pub none : is_nb_json (code t i) ≡ true → code t i ≢ BACKSLASH → code t i ≢ DOUBLE_QUOTE → (ForbiddenLine t i → ⊥) → ⊥
 
--- no character of a double-quoted scalar is there that covers no forbidden line
+-- every character of a double-quoted scalar at i covers a forbidden line
 pub record NoDoubleChar (t : List ℕ) (i : ℕ) : Type 0 where
   pub none : (j : ℕ) (y : List Piece) → DoubleChar t i j y → Clear t i j → ⊥
 
--- the rest of a double-quoted scalar after its opening quote, with the bytes of its text and its bad escapes
+-- the rest of a double-quoted scalar after its opening quote: its bad escapes, and the bytes of its text
 pub record DoubleRead (t : List ℕ) (o : Option ℕ) (i : ℕ) (bytes wrong : List ℕ) (j : ℕ) : Type 0 where
   pub text : List Piece
   pub close : ℕ
@@ -112,22 +112,21 @@ pub record DoubleRead (t : List ℕ) (o : Option ℕ) (i : ℕ) (bytes wrong : L
 pub record NoDoubleBody (t : List ℕ) (o : Option ℕ) (i : ℕ) : Type 0 where
   pub none : (k : ℕ) (y : List Piece) → Body t goods (DoubleChar t) (DoubleBreaks t o) 34 i k y → ⊥
 
--- the width by which the lines of a quoted scalar are indented; a key has none, and no line is indented by less than nothing
+-- the width by which the lines of a quoted scalar are indented; keys and negative indentations have none
 pub data WidthOf (n : ℤ) (c : Ctx) : Option ℕ → Type 0 where
   of_key : is_key c ≡ true → WidthOf n c None
   of_lines : (w : ℕ) → is_flow c ≡ true → n ≡ pos w → WidthOf n c (Some w)
   of_negative : is_flow c ≡ true → n <ℤ pos 0 → WidthOf n c None
 
--- characters that stand for themselves in double quotes
+-- a character that represents itself in double quotes, as a relation with its code
 pub data SimpleChar (t : List ℕ) : ℕ → ℕ → List ℕ → Type 0 where
   simply : {i j : ℕ} → Simple t i j → SimpleChar t i j (code t i ∷ [])
 
--- no character of a single-quoted scalar is there that covers no forbidden line
+-- every character of a single-quoted scalar at i covers a forbidden line
 pub record NoSingleChar (t : List ℕ) (i : ℕ) : Type 0 where
   pub none : (j : ℕ) (y : List ℕ) → SingleChar t i j y → Clear t i j → ⊥
 
--- the rest of a single-quoted scalar after its opening quote, with the bytes of its text: of all that can be closed there,
--- the longest
+-- the longest rest of a single-quoted scalar after its opening quote, with the bytes of its text
 pub record SingleRead (t : List ℕ) (o : Option ℕ) (i : ℕ) (bytes : List ℕ) (j : ℕ) : Type 0 where
   pub text : List ℕ
   pub close : ℕ

@@ -1,4 +1,4 @@
--- What the readers of double-quoted scalars tell of escapes whose number is no character.
+-- Faults of the readers of double-quoted scalars.
 use Rattle.std.specs.Prelude.{◌≡◌, ℕ, ℤ, List, ◌∷◌}
 use Rattle.yf_chars.specs.declared.context.Ctx.{Ctx}
 use Rattle.yf_chars.specs.Chain.{Chosen}
@@ -8,7 +8,7 @@ use Rattle.yf_lines.specs.declared.place.Position.{Position}
 use Rattle.yf_lines.specs.Lines.{PlaceOf}
 use Rattle.yf_quoted.specs.Quoted.{DoubleQuoted, Piece, bad_escapes}
 
--- why no text is given: the longest part holds a bad escape, the first of them at that place; or memory was refused
+-- a fault of a reader: the position of the first bad escape in the longest part, or refused memory
 pub data DoubleFault (t : List ℕ) (n : ℤ) (c : Ctx) (i : ℕ) : Fault → Type 0 where
   for_escape : {j b : ℕ} {more : List ℕ} {x : List Piece} {place : Position} → Chosen (DoubleQuoted t n c i) j x → bad_escapes x ≡ b ∷ more → PlaceOf t b place.line place.column
       → DoubleFault t n c i (EscapeValue place)

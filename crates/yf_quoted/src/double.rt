@@ -24,14 +24,14 @@ use yf_lines::source_text::Src;
 use yf_lines::text::{FoundText, OwnedText, Text};
 use yf_lines::values::Values;
 
-/// Reads a double-quoted scalar (c-double-quoted(n,c), production 109) that begins at the byte offset: its text, and the
-/// offset after it, or `None` where no such scalar is there. `n` is the indentation, from -1.
+/// Reads a double-quoted scalar (c-double-quoted(n,c), production 109) that begins at the byte offset. Returns its text
+/// and the offset after it, or `None` if no such scalar begins there. `n` is the indentation, from -1.
 ///
-/// The text is a slice of the source where the scalar is on one line without an escape.
+/// The text is a slice of the source if the scalar is on one line without an escape.
 ///
 /// # Errors
 ///
-/// `Fault::EscapeValue` at the first escape whose number is no character; `Fault::Memory`.
+/// `Fault::EscapeValue` for the first escape whose number is not a character; `Fault::Memory`.
 pub fn read_double<'a>(alloc: Global, src: &Src<'a>, at: usize, n: i32, ctx: Ctx) -> FoundText<'a>
     requires { IsCharBoundary src.now.text at }
     ensures reads { IfOk result (λ o. MatchOption o (Stuck (Q.DoubleQuoted src.now.text n ctx at))
@@ -52,12 +52,12 @@ pub fn read_double<'a>(alloc: Global, src: &Src<'a>, at: usize, n: i32, ctx: Ctx
     }
 }
 
-/// Reads a double-quoted scalar as `read_double` does, but goes on past an escape whose number is no character, with
-/// U+FFFD in its place: the text, the place of the first such escape, and the offset after the scalar.
+/// Reads a double-quoted scalar as `read_double` does, but reads an escape whose number is not a character as U+FFFD.
+/// Returns the text, the position of the first such escape, and the offset after the scalar.
 ///
 /// # Errors
 ///
-/// `Fault::Memory` alone.
+/// Only `Fault::Memory`.
 pub fn scan_double<'a>(
     alloc: Global,
     src: &Src<'a>,
@@ -85,7 +85,8 @@ pub fn scan_double<'a>(
     }
 }
 
-/// A double-quoted scalar: its text with U+FFFD for each bad escape, the offsets of these, and the offset after the scalar.
+/// A double-quoted scalar: its text with U+FFFD for each bad escape, the offsets of the bad escapes, and the offset
+/// after the scalar.
 #[derive(Drop)]
 pub struct Double<'a> {
     pub text: Text<'a>,
@@ -93,7 +94,7 @@ pub struct Double<'a> {
     pub end: usize,
 }
 
-/// The same in a text without its lines.
+/// Reads a double-quoted scalar as `scan_double` does, in a text without its lines.
 #[inline(always)]
 pub fn double_in<'a>(
     alloc: Global,
@@ -130,7 +131,7 @@ pub fn double_in<'a>(
     }
 }
 
-// The place of the closing quote, where only characters that stand for themselves are before it.
+// Returns the offset of the closing quote if only characters that represent themselves are before it.
 fn simple_end(s: &str, at: usize) -> Option<usize>
     requires { IsCharBoundary s.now at }
     ensures reads { IfSome result (λ j. (x : List ℕ) × Chain (SimpleChar s.now) at j x) }
@@ -158,14 +159,14 @@ fn simple_end(s: &str, at: usize) -> Option<usize>
     }
 }
 
-// One character, or the escape of one that is none.
+// A character and the offset after it; the value is `None` for an escape whose number is not a character.
 #[derive(Clone, Copy)]
 struct DoubleChar {
     value: Option<char>,
     end: usize,
 }
 
-// A character of a double-quoted scalar (nb-double-char, production 107).
+// Reads a character of a double-quoted scalar (nb-double-char, production 107).
 fn double_char(s: &str, at: usize) -> Option<DoubleChar>
     requires { IsCharBoundary s.now at }
     ensures reads { MatchOption result (NoDoubleChar s.now at)
@@ -191,7 +192,7 @@ fn double_char(s: &str, at: usize) -> Option<DoubleChar>
     }
 }
 
-// The rest of a double-quoted scalar after its opening quote.
+// Reads the rest of a double-quoted scalar after its opening quote.
 fn double_body<'a>(
     alloc: Global,
     s: &'a str,
@@ -234,7 +235,7 @@ fn double_body<'a>(
     }
 }
 
-// The character that is shown for a value: U+FFFD where an escape is none.
+// Returns the character that is shown for a value: U+FFFD for a bad escape.
 fn shown(value: Option<char>) -> char
     ensures { result ≡ shown value }
 {
@@ -244,7 +245,7 @@ fn shown(value: Option<char>) -> char
     }
 }
 
-// Notes a bad escape at the place, where the value is none.
+// Adds the offset to the bad escapes if the value is `None`.
 fn note_bad(bad: &mut Values<usize>, value: Option<char>, place: usize) -> Result<(), AllocError>
     ensures { IfOk result (λ _. bad.new ≡ bad.old ++ Q.bad_escapes (piece value place ∷ [])) }
 {

@@ -4,11 +4,11 @@ ghost use Rattle.std.specs.String.{string_bytes};
 
 use std::alloc::AllocError;
 
-/// Appends a text. Where it is empty, as between two escapes that follow each other, nothing is asked of the string.
+/// Appends a text. If it is empty, as between two adjacent escapes, the string isn't touched.
 ///
 /// # Errors
 ///
-/// `AllocError` where a growth of memory was refused; the string is then as before.
+/// `AllocError` if memory is refused; the string is then unchanged.
 #[inline(always)]
 pub fn push_if_filled(out: &mut String, text: &str) -> Result<(), AllocError>
     ensures written { OnOk result (string_bytes out.new ≡ string_bytes out.old ++ text.now) }

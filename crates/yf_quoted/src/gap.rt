@@ -1,4 +1,4 @@
-//! What is between two characters of a quoted scalar: white space, or a line break. Offsets count bytes.
+//! Gaps between two characters of a quoted scalar: white space or a line break. Offsets count bytes.
 ghost use Rattle.std.specs.Prelude.{◌≡◌, ◌+◌, ◌<◌, ◌≤◌, ◌++◌, ◌∷◌, [], if◌then◌else◌, ℕ, pos, Bool, true, false, List, Option, IfSome, OnOk, MatchOption, length};
 ghost use Rattle.std.specs.Str.{IsCharBoundary};
 ghost use Rattle.std.specs.String.{string_bytes};
@@ -16,7 +16,8 @@ use yf_lines::basic::{line_break, skip_whites};
 use yf_lines::contexts::is_key;
 use yf_lines::fold::{flow_folded, fold_lines, indent_width};
 
-/// White space or a line break between two characters: the white space up to `blank_end` stay, then come a space or line feeds.
+/// White space or a line break between two characters. It means the white space up to `blank_end`, then a space or line
+/// feeds.
 #[derive(Clone, Copy)]
 pub struct QuotedGap {
     pub blank_end: usize,
@@ -25,7 +26,7 @@ pub struct QuotedGap {
     pub end: usize,
 }
 
-/// What is between two characters of a single-quoted scalar; line breaks are read where there is a width.
+/// Reads the gap before the next character of a single-quoted scalar. It may hold line breaks only if `width` is given.
 pub fn single_gap(s: &str, at: usize, width: Option<usize>) -> Option<QuotedGap>
     requires { IsCharBoundary s.now at }
     ensures reads { MatchOption result (NoPlainGap s.now width at) (λ g. PlainGap s.now width at g.blank_end g.space g.feeds g.end) }
@@ -56,7 +57,7 @@ pub fn single_gap(s: &str, at: usize, width: Option<usize>) -> Option<QuotedGap>
     }
 }
 
-/// The same in a double-quoted scalar, where a break may be escaped (s-double-escaped(n), production 112).
+/// Reads such a gap of a double-quoted scalar, whose break may be escaped (s-double-escaped(n), production 112).
 pub fn double_gap(s: &str, at: usize, width: Option<usize>) -> Option<QuotedGap>
     requires { IsCharBoundary s.now at }
     ensures reads { MatchOption result (NoDoubleGap s.now width at) (λ g. DoubleGap s.now width at g.blank_end g.space g.feeds g.end) }
@@ -89,7 +90,7 @@ pub fn double_gap(s: &str, at: usize, width: Option<usize>) -> Option<QuotedGap>
     }
 }
 
-// The offset after a backslash and the line break after it.
+// Returns the offset after a backslash and the line break that follows it.
 fn escaped_break(s: &str, at: usize) -> Option<usize>
     ensures reads { MatchOption result (code s.now at ≡ BACKSLASH → (l : ℕ) → Break s.now (at + 1) l → ⊥)
         (λ l. (code s.now at ≡ BACKSLASH) × Break s.now (at + 1) l) }
@@ -105,7 +106,7 @@ fn escaped_break(s: &str, at: usize) -> Option<usize>
     }
 }
 
-/// Appends what a gap after the offset means.
+/// Appends the meaning of a gap that begins at the offset.
 pub fn push_gap(text: &mut String, s: &str, at: usize, gap: QuotedGap) -> Result<(), AllocError>
     requires order { at ≤ gap.blank_end }
     requires start { IsCharBoundary s.now at }
@@ -117,7 +118,7 @@ pub fn push_gap(text: &mut String, s: &str, at: usize, gap: QuotedGap) -> Result
     push_feeds(text, gap.feeds)
 }
 
-// Appends a space, or nothing.
+// Appends a space if `space` is set.
 fn push_space(text: &mut String, space: bool) -> Result<(), AllocError>
     ensures { OnOk result (string_bytes text.new ≡ string_bytes text.old ++ (if space then SPACE ∷ [] else [])) }
 {
@@ -127,7 +128,7 @@ fn push_space(text: &mut String, space: bool) -> Result<(), AllocError>
     Ok(())
 }
 
-// Appends so many line feeds.
+// Appends `feeds` line feeds.
 fn push_feeds(text: &mut String, feeds: usize) -> Result<(), AllocError>
     ensures { OnOk result (string_bytes text.new ≡ string_bytes text.old ++ line_feeds feeds) }
 {
@@ -137,7 +138,7 @@ fn push_feeds(text: &mut String, feeds: usize) -> Result<(), AllocError>
     Ok(())
 }
 
-/// The indentation of the lines of a quoted scalar, where it may have several: no key has.
+/// Returns the indentation of the lines of a quoted scalar, or `None` if the scalar must be on one line, as a key must.
 pub fn lines_width(n: i32, ctx: Ctx) -> Option<usize>
     requires { is_block ctx ≡ false }
     ensures { WidthOf n ctx result }

@@ -1,4 +1,4 @@
-//! Characters that are spelled by themselves in double quotes, in runs. Offsets count bytes.
+//! Runs of characters that double quotes hold unescaped. Offsets count bytes.
 ghost use Rattle.std.specs.Prelude.{◌≡◌, ◌∷◌, [], ◌+◌, ◌<◌, ◌≤◌, true, length, IfSome, IsCharBoundary};
 ghost use Rattle.yf_chars.specs.Escape.{spelled};
 ghost use Rattle.yf_quoted.specs.Own.{OwnAt, OwnRun};
@@ -6,7 +6,7 @@ ghost use Rattle.yf_quoted.specs.Own.{OwnAt, OwnRun};
 use yf_chars::escapes::{is_by_four, is_common};
 use yf_chars::text::peek;
 
-// Whether an ASCII character that is one begins at the offset.
+// Returns whether an ASCII character that needs no escape begins at the offset.
 #[inline(always)]
 fn is_common_at(text: &str, at: usize) -> bool
     ensures { result ≡ true → OwnAt text.now at (at + 1) }
@@ -18,7 +18,7 @@ fn is_common_at(text: &str, at: usize) -> bool
     false
 }
 
-// Whether the character is one that is not ASCII.
+// Returns whether the character needs no escape and isn't ASCII.
 #[inline(always)]
 fn is_wide(c: char) -> bool
     ensures { result ≡ true → spelled c ≡ c ∷ [] }
@@ -32,7 +32,7 @@ fn is_wide(c: char) -> bool
     true
 }
 
-// The offset after such a character.
+// Returns the offset after such a character.
 #[inline(always)]
 fn wide_end(text: &str, at: usize) -> Option<usize>
     requires { IsCharBoundary text.now at }
@@ -49,7 +49,7 @@ fn wide_end(text: &str, at: usize) -> Option<usize>
     }
 }
 
-// The offset after all characters there that are spelled by themselves.
+// Returns the offset after all characters there that need no escape.
 #[inline(always)]
 pub(crate) fn own_run(text: &str, at: usize) -> usize
     requires { IsCharBoundary text.now at }
@@ -70,7 +70,7 @@ pub(crate) fn own_run(text: &str, at: usize) -> usize
     }
 }
 
-/// Whether an ASCII character begins there that is spelled by an escape.
+/// Returns whether an ASCII character that is written as an escape begins there.
 #[inline(always)]
 pub(crate) fn is_escape_at(text: &str, at: usize) -> bool
     ensures { result ≡ true → at < length text.now }

@@ -1,4 +1,4 @@
-//! Characters that stand for themselves in double quotes, one by one and in runs. Offsets count bytes.
+//! Characters that represent themselves in double quotes, one by one and in runs. Offsets count bytes.
 ghost use Rattle.std.specs.Prelude.{◌≡◌, ◌+◌, ◌<◌, ◌≤◌, ℕ, Bool, true, List, IfSome, IsCharBoundary, MatchOption, length};
 ghost use Rattle.yf_chars.specs.Chain.{Chain};
 ghost use Rattle.yf_chars.specs.Class.{is_between};
@@ -14,7 +14,8 @@ use yf_chars::lanes::lanes_before;
 use yf_chars::text::{is_char_at, peek};
 use yf_lines::basic::{is_forbidden_at, is_white_at};
 
-// Whether the ASCII character stands for itself at whatever place. Most are lower-case letters, which take two tests.
+// Returns whether the ASCII character represents itself wherever it is. Most are lower-case letters, which take two
+// tests.
 #[tactic(auto, unfolding(crate::specs::Ordinary::is_ordinary, yf_chars::specs::Class::is_between))]
 #[inline(always)]
 fn is_ordinary(byte: u8) -> bool
@@ -26,7 +27,7 @@ fn is_ordinary(byte: u8) -> bool
     byte <= b'~'
 }
 
-// Whether such a character begins at the offset.
+// Returns whether such a character begins at the offset.
 #[inline(always)]
 fn is_simple_at(s: &str, at: usize) -> bool
     ensures { result ≡ true → Simple s.now at (at + 1) }
@@ -38,7 +39,7 @@ fn is_simple_at(s: &str, at: usize) -> bool
     false
 }
 
-// How many ASCII characters other than `"` and `\` are at the offset, of 16 bytes.
+// Returns the number of ASCII characters other than `"` and `\` at the offset, within 16 bytes.
 #[inline(always)]
 fn common_lanes(bytes: &[u8], at: usize) -> usize
     requires { at + 16 ≤ length bytes.now }
@@ -52,7 +53,7 @@ fn common_lanes(bytes: &[u8], at: usize) -> usize
     lanes_before(others.to_bitmask())
 }
 
-// Whether the byte is an ASCII character that is printed.
+// Returns whether the byte is a printable ASCII character.
 #[tactic(auto, unfolding(yf_chars::specs::Class::is_between))]
 #[inline(always)]
 fn is_visible(byte: u8) -> bool
@@ -61,7 +62,7 @@ fn is_visible(byte: u8) -> bool
     matches!(byte, b' '..=b'~')
 }
 
-// Whether such a character ends at the offset: no line starts there.
+// Returns whether such a character ends at the offset: then no line starts there.
 #[inline(always)]
 fn text_ends(s: &str, at: usize) -> bool
     requires { at ≤ length s.now }
@@ -74,8 +75,9 @@ fn text_ends(s: &str, at: usize) -> bool
     is_visible(bytes[at - 1])
 }
 
-// The offset after such characters that are there. Where fewer than 16 bytes follow, after all of them. Where 16 follow, after those of the
-// 16, among which - and . may be, if a printed ASCII character is before the offset; else none is passed, so that the caller looks at one.
+// Returns the offset after such characters. If fewer than 16 bytes follow, it passes all of them. Otherwise it passes
+// those of the next 16 bytes, including - and ., if a printable ASCII character is before the offset; if not, it passes
+// none, and the caller looks at one character.
 #[inline(always)]
 pub(crate) fn ordinary_run(s: &str, at: usize) -> usize
     requires { IsCharBoundary s.now at }
@@ -97,7 +99,7 @@ pub(crate) fn ordinary_run(s: &str, at: usize) -> usize
     end
 }
 
-// Whether a character begins there that is not ASCII. Before such a one no run is looked for.
+// Returns whether a character that isn't ASCII begins there. The readers don't look for a run before it.
 #[inline(always)]
 pub(crate) fn is_wide_at(s: &str, at: usize) -> bool
     ensures { result ≡ true → at < length s.now }
@@ -109,7 +111,7 @@ pub(crate) fn is_wide_at(s: &str, at: usize) -> bool
     false
 }
 
-// The offset after a character that stands for itself.
+// Returns the offset after a character that represents itself.
 #[inline(always)]
 pub(crate) fn simple_char(s: &str, at: usize) -> Option<usize>
     requires { IsCharBoundary s.now at }
@@ -137,8 +139,9 @@ pub(crate) fn simple_char(s: &str, at: usize) -> Option<usize>
     }
 }
 
-// The offset after the last of all characters that stand for themselves there, with white space between them. None are where an
-// escape begins. The clause holds of fewer characters too, as of none at all: that is slower, and reads the same.
+// Returns the offset after all characters that represent themselves there, with white space between them. It passes
+// none if an escape begins there. The clause also allows fewer characters, even none: reading is then slower, but
+// returns the same text.
 pub(crate) fn words_end(s: &str, at: usize) -> usize
     requires { IsCharBoundary s.now at }
     ensures reads { Words s.now at result }

@@ -23,15 +23,15 @@ use yf_lines::fault::Fault;
 use yf_lines::source_text::Src;
 use yf_lines::text::{FoundText, OwnedText, Text};
 
-/// Reads a single-quoted scalar (c-single-quoted(n,c), production 120) that begins at the byte offset: its text, folded,
-/// and the offset after it, or `None` where no such scalar is there. `n` is the indentation, from -1.
+/// Reads a single-quoted scalar (c-single-quoted(n,c), production 120) that begins at the byte offset. Returns its
+/// folded text and the offset after it, or `None` if no such scalar begins there. `n` is the indentation, from -1.
 ///
-/// Where a closing quote is missing, the first half of the last `''` closes the scalar. The text is a slice of the source
-/// where the scalar is on one line without `''`.
+/// If a closing quote is missing, the first half of the last `''` closes the scalar. The text is a slice of the source
+/// if the scalar is on one line without `''`.
 ///
 /// # Errors
 ///
-/// `Fault::Memory` alone.
+/// Only `Fault::Memory`.
 pub fn read_single<'a>(alloc: Global, src: &Src<'a>, at: usize, n: i32, ctx: Ctx) -> FoundText<'a>
     requires { IsCharBoundary src.now.text at }
     ensures reads { IfOk result (λ o. MatchOption o (Stuck (Q.SingleQuoted src.now.text n ctx at))
@@ -53,7 +53,7 @@ pub struct Single<'a> {
     pub end: usize,
 }
 
-/// The same in a text without its lines.
+/// Reads a single-quoted scalar as `read_single` does, in a text without its lines.
 pub fn single_in<'a>(
     alloc: Global,
     s: &'a str,
@@ -86,7 +86,8 @@ pub fn single_in<'a>(
     }
 }
 
-// The place of the closing quote, where only characters that stand for themselves are before it, and no quote after.
+// Returns the offset of the closing quote if only characters that represent themselves are before it, and no quote
+// follows it.
 fn simple_end(s: &str, at: usize) -> Option<usize>
     requires { IsCharBoundary s.now at }
     ensures reads { IfSome result (λ j. (x : List ℕ) × Chain (Q.SingleChar s.now) at j x × Clear s.now at j
@@ -114,7 +115,8 @@ fn simple_end(s: &str, at: usize) -> Option<usize>
     }
 }
 
-// Whether the ASCII character stands for itself at whatever place. Most are lower-case letters, which take one test.
+// Returns whether the ASCII character represents itself wherever it is. Most are lower-case letters, which take one
+// test.
 #[tactic(auto, unfolding(crate::specs::Ordinary::is_unquoted, yf_chars::specs::Class::is_between))]
 #[inline(always)]
 fn is_unquoted(byte: u8) -> bool
@@ -126,7 +128,7 @@ fn is_unquoted(byte: u8) -> bool
     byte <= b'~'
 }
 
-// Whether such a character begins at the offset.
+// Returns whether such a character begins at the offset.
 #[inline(always)]
 fn is_single_simple_at(s: &str, at: usize) -> bool
     ensures { result ≡ true → CharOfItself s.now at (at + 1) }
@@ -146,7 +148,7 @@ struct SingleChar {
     end: usize,
 }
 
-// A character of a single-quoted scalar (nb-single-char, production 118).
+// Reads a character of a single-quoted scalar (nb-single-char, production 118).
 #[inline(always)]
 fn single_char(s: &str, at: usize) -> Option<SingleChar>
     requires { IsCharBoundary s.now at }
@@ -184,14 +186,15 @@ fn single_char(s: &str, at: usize) -> Option<SingleChar>
     }
 }
 
-// Where the first half of `''` may close the scalar: how many bytes of text are before it, and the offset after it.
+// A mark: the first half of a `''` that may close the scalar. It holds the number of bytes of text before it, and the
+// offset after it.
 #[derive(Clone, Copy)]
 struct Mark {
     len: usize,
     end: usize,
 }
 
-// The rest of a single-quoted scalar after its opening quote.
+// Reads the rest of a single-quoted scalar after its opening quote.
 fn single_body<'a>(
     alloc: Global,
     s: &'a str,
@@ -232,7 +235,7 @@ fn single_body<'a>(
     }
 }
 
-// The mark after a character.
+// Returns the mark after a character.
 fn next_mark(mark: Option<Mark>, doubled: bool, len: usize, end: usize) -> Option<Mark>
     ensures { result ≡ (if doubled then Some (record { len = len; end = end }) else mark) }
 {
@@ -242,7 +245,7 @@ fn next_mark(mark: Option<Mark>, doubled: bool, len: usize, end: usize) -> Optio
     mark
 }
 
-// The scalar up to the mark.
+// Returns the scalar up to the mark.
 fn cut<'a>(mut text: String, mark: Option<Mark>) -> Option<Single<'a>>
     requires { IfSome mark (λ m. IsSplitPoint (string_bytes text) m.len) }
     ensures { MatchOption mark (result ≡ None) (λ m. IsSomeAnd result

@@ -17,8 +17,8 @@ use yf_lines::fault::Fault;
 use yf_lines::invisible::Invisible;
 use yf_lines::quotes::Quotes;
 
-/// The quotes for a text: single ones where they are preferred and every character of the text is printable, no line
-/// break and no byte order mark (nb-char, production 27); else double ones.
+/// Returns the quotes for a text: single quotes if they are preferred and the text holds only nb-chars (production 27:
+/// printable, no line break, no byte order mark); otherwise double quotes.
 pub fn choose(text: &str, preferred: Quotes) -> Quotes
     ensures { result ≡ quotes_for (chars text.now) preferred }
 {
@@ -33,7 +33,8 @@ pub fn choose(text: &str, preferred: Quotes) -> Quotes
     }
 }
 
-/// The same where hidden characters are held in one of two ways: double ones for a text with a hidden character that is to be escaped.
+/// Returns the quotes for a text if hidden characters may be escaped: double quotes if the text holds a hidden
+/// character that must be escaped.
 pub fn choose_in(text: &str, preferred: Quotes, invisible: Invisible) -> Quotes
     ensures { result ≡ quotes_in invisible (chars text.now) preferred }
 {
@@ -48,7 +49,7 @@ pub fn choose_in(text: &str, preferred: Quotes, invisible: Invisible) -> Quotes
     }
 }
 
-// Whether every character is an nb-char.
+// Returns whether every character is an nb-char.
 fn is_all_nb(text: &str) -> bool
     ensures { result ≡ all_nb (chars text.now) }
 {
@@ -60,14 +61,14 @@ fn is_all_nb(text: &str) -> bool
     true
 }
 
-/// Appends the text in single quotes (c-single-quoted, production 120): a quote in it is written twice, all else as it is.
+/// Appends the text in single quotes (c-single-quoted, production 120). Each quote in it is doubled.
 ///
-/// `choose` must answer `Quotes::Single` for the text. Wherever the bytes that are appended are, at any indentation and
-/// in each context of flow scalars and keys, they are a single-quoted scalar with this text.
+/// `choose` must return `Quotes::Single` for the text. The appended bytes are then a single-quoted scalar with this
+/// text, at any offset and indentation, and in each context of flow scalars and keys.
 ///
 /// # Errors
 ///
-/// `Fault::Memory` where a growth of memory was refused; the string is then as before.
+/// `Fault::Memory` if memory is refused; the string is then unchanged.
 pub fn write_single(out: &mut String, text: &str) -> Result<(), Fault>
     requires { quotes_for (chars text.now) Quotes.Single ≡ Quotes.Single }
     ensures written { OnOk result (string_bytes out.new ≡ string_bytes out.old ++ single_bytes (chars text.now)) }
@@ -85,7 +86,7 @@ pub fn write_single(out: &mut String, text: &str) -> Result<(), Fault>
     }
 }
 
-/// Appends the text in single quotes, or a part of that where memory is refused.
+/// Appends the text in single quotes, or only a part of that if memory is refused.
 pub fn push_single(out: &mut String, text: &str) -> Result<(), AllocError>
     ensures written { OnOk result (string_bytes out.new ≡ string_bytes out.old ++ single_bytes (chars text.now)) }
     ensures grown { BytesGrown (string_bytes out.old) (string_bytes out.new) }
@@ -109,14 +110,14 @@ fn push_twice(out: &mut String, c: char) -> Result<(), AllocError>
     out.push(c)
 }
 
-/// Appends the text in double quotes (c-double-quoted, production 109), each character as `push_escaped` spells it.
+/// Appends the text in double quotes (c-double-quoted, production 109), each character as `push_escaped` writes it.
 ///
-/// Wherever the bytes that are appended are, at any indentation and in each context of flow scalars and keys, the
-/// longest double-quoted scalar there is these bytes, with this text.
+/// The appended bytes are then the longest double-quoted scalar at their offset, with this text, at any offset and
+/// indentation, and in each context of flow scalars and keys.
 ///
 /// # Errors
 ///
-/// `Fault::Memory` where a growth of memory was refused; the string is then as before.
+/// `Fault::Memory` if memory is refused; the string is then unchanged.
 pub fn write_double(out: &mut String, text: &str) -> Result<(), Fault>
     ensures written { OnOk result (string_bytes out.new ≡ string_bytes out.old ++ double_bytes (chars text.now)) }
     ensures read { DoubleBack (double_bytes (chars text.now)) (chars text.now) }
@@ -133,7 +134,7 @@ pub fn write_double(out: &mut String, text: &str) -> Result<(), Fault>
     }
 }
 
-/// Appends the text in double quotes, or a part of that where memory is refused.
+/// Appends the text in double quotes, or only a part of that if memory is refused.
 pub fn push_double(out: &mut String, text: &str) -> Result<(), NoMemory>
     ensures written { OnOk result (string_bytes out.new ≡ string_bytes out.old ++ double_bytes (chars text.now)) }
     ensures grown { BytesGrown (string_bytes out.old) (string_bytes out.new) }
@@ -144,7 +145,7 @@ pub fn push_double(out: &mut String, text: &str) -> Result<(), NoMemory>
     Ok(())
 }
 
-// Appends the text as it is between double quotes, or a part of that. Most texts are there as they are.
+// Appends the text between double quotes, or only a part of that. Most texts are copied whole.
 fn push_spelled(out: &mut String, text: &str) -> Result<(), NoMemory>
     ensures written { OnOk result (string_bytes out.new ≡ string_bytes out.old ++ encode_utf8_all (flat_map spelled (chars text.now))) }
     ensures grown { BytesGrown (string_bytes out.old) (string_bytes out.new) }
@@ -156,8 +157,8 @@ fn push_spelled(out: &mut String, text: &str) -> Result<(), NoMemory>
     push_runs(out, text)
 }
 
-// The same where some character may be spelled otherwise: the first character and each escape by itself, and after it what is spelled by
-// itself at once. No run is looked for between two escapes.
+// Appends a text that may need escapes: first each escape and the character after it, then the run that needs none. It
+// looks for no run between two escapes.
 fn push_runs(out: &mut String, text: &str) -> Result<(), NoMemory>
     ensures written { OnOk result (string_bytes out.new ≡ string_bytes out.old ++ encode_utf8_all (flat_map spelled (chars text.now))) }
     ensures grown { BytesGrown (string_bytes out.old) (string_bytes out.new) }
@@ -179,10 +180,11 @@ fn push_runs(out: &mut String, text: &str) -> Result<(), NoMemory>
     }
 }
 
-/// Appends the text in double quotes, its hidden characters held in one of two ways, or a part of that where memory is refused.
+/// Appends the text in double quotes, with its hidden characters escaped or not, or only a part of that if memory is
+/// refused.
 ///
-/// Wherever the bytes that are appended are, at any indentation and in each context of flow scalars and keys, the
-/// longest double-quoted scalar there is these bytes, with this text.
+/// The appended bytes are the longest double-quoted scalar at their offset, with this text, at any offset and
+/// indentation, and in each context of flow scalars and keys.
 pub fn push_double_in(out: &mut String, text: &str, invisible: Invisible) -> Result<(), NoMemory>
     ensures written { OnOk result (string_bytes out.new ≡ string_bytes out.old ++ double_bytes_in invisible (chars text.now)) }
     ensures read { DoubleBack (double_bytes_in invisible (chars text.now)) (chars text.now) }
@@ -194,7 +196,7 @@ pub fn push_double_in(out: &mut String, text: &str, invisible: Invisible) -> Res
     }
 }
 
-// The same where each hidden character is escaped.
+// Appends such a text with each hidden character escaped.
 fn push_escaped_text(out: &mut String, text: &str) -> Result<(), NoMemory>
     ensures written { OnOk result (string_bytes out.new ≡ string_bytes out.old ++ double_bytes_in Invisible.Escaped (chars text.now)) }
     ensures grown { BytesGrown (string_bytes out.old) (string_bytes out.new) }
@@ -205,7 +207,7 @@ fn push_escaped_text(out: &mut String, text: &str) -> Result<(), NoMemory>
     Ok(())
 }
 
-// Appends each character as it is spelled where hidden ones are escaped.
+// Appends each character as it is written if hidden ones are escaped.
 fn push_each(out: &mut String, text: &str) -> Result<(), NoMemory>
     ensures written { OnOk result (string_bytes out.new ≡ string_bytes out.old ++ encode_utf8_all (flat_map spelled_out (chars text.now))) }
     ensures grown { BytesGrown (string_bytes out.old) (string_bytes out.new) }

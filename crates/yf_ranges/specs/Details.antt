@@ -1,5 +1,5 @@
--- The details of a finding, by its rule: at which offset the fault ends, and what the message says. The fault begins
--- at the finding's offset.
+-- The details of a finding, by its rule: the end of the fault, and the message. The fault begins at the finding's
+-- offset.
 use Rattle.std.specs.Prelude.{◌≡◌, ℕ, ◌+◌, ◌-◌, ◌<◌, ◌≤◌, ◌==◌, Bool, false, List, Option, length, MatchBool, MatchOption}
 use Rattle.std.specs.List.{Contains}
 use Rattle.std.specs.Str.{IsCharBoundary}
@@ -18,7 +18,7 @@ use Rattle.yf_rule_sets.specs.RuleSets.Whites.{WhitesEnd}
 use Rattle.yf_rule_sets.specs.declared.rules.StyleRule.{StyleRule}
 use Rattle.yf_rule_sets.specs.declared.rules.StyleRule.TheVariants.{TrailingBlanks, Indentation, Quoting, DocumentStart, FinalBreak, LineBreaks, ByteOrderMark, BlankLines, FlowLayout, CommentSpace, LineLength, RepeatedKeys, KeyMark, HiddenCharacter}
 
--- the fault ends at an offset of which this holds, and the message is this one
+-- `Ends` holds of the fault's span, and the message is this one
 pub record EndsBy (Ends : ℕ → ℕ → Type 0) (message : Message) (d : Detail) : Type 0 where
   pub end : Ends d.span.start d.span.end
   pub says : d.message ≡ message
@@ -27,7 +27,7 @@ pub record EndsBy (Ends : ℕ → ℕ → Type 0) (message : Message) (d : Detai
 abbrev pub IsEmpty : ℕ → ℕ → Type 0
 IsEmpty start end = end ≡ start
 
--- document-start: the marker, if text is after it; else a marker is missing
+-- document-start: the marker, if text is after it; otherwise a marker is missing
 pub data MarkerDetail (t : List ℕ) (d : Detail) : Type 0 where
   text_after : ForbiddenLine t d.span.start → d.span.end ≡ d.span.start + 3 → d.message ≡ Says.TextAfterMarker → MarkerDetail t d
   no_marker : (ForbiddenLine t d.span.start → ⊥) → d.span.end ≡ d.span.start → d.message ≡ Says.NoMarker → MarkerDetail t d
@@ -53,7 +53,7 @@ pub record CommentDetail (t : List ℕ) (d : Detail) : Type 0 where
   pub tab : MatchBool has_tab (HasTab t white d.span.start) (HasTab t white d.span.start → ⊥)
   pub message : d.message ≡ Says.CommentSpace (d.span.start - white) has_tab
 
--- line-length: the rest of the line, and how many characters it has
+-- line-length: the rest of the line, and its number of characters
 pub record LengthDetail (t : List ℕ) (max_line : ℕ) (d : Detail) : Type 0 where
   pub count : ℕ
   pub rest : LineRest t d.span.start d.span.end count
@@ -64,7 +64,7 @@ pub data HiddenDetail (t : List ℕ) (d : Detail) : Type 0 where
   one : {c : ℕ} → CharAt t d.span.start c d.span.end → d.message ≡ Says.HiddenCharacter c → HiddenDetail t d
   none : code t d.span.start ≡ no_char → d.span.end ≡ d.span.start → d.message ≡ Says.HiddenCharacter 0 → HiddenDetail t d
 
--- of a rule with a span of its own, that; of the others so far the character at the finding's offset
+-- the detail of a rule with its own span; for the other rules so far the character at the finding's offset
 abbrev pub DetailOf : StyleRule → List ℕ → Style → Detail → Type 0
 DetailOf TrailingBlanks t style = EndsBy (WhiteSpan t) Says.TrailingBlanks
 DetailOf Indentation t style = EndsBy (CharacterSpan t) Says.Indentation

@@ -16,8 +16,8 @@ use Rattle.yf_ranges.specs.declared.detail.Message.{Message}
 use Rattle.yf_ranges.specs.declared.detail.Message.TheVariants as Says
 use Rattle.yf_rule_sets.specs.RuleSets.Scalars.{IsScalar}
 
--- where a part of the text ends: at its end, or with the text if the text doesn't hold the part. A reading's parts
--- are held by its text
+-- the end of a part of the text, or the end of the text if the text doesn't contain the part; a reading's parts are in
+-- its text
 pub data PartEnd (t : List ℕ) (start end : ℕ) : ℕ → Type 0 where
   held : start < end → end ≤ length t → PartEnd t start end end
   not_held : (start < end → end ≤ length t → ⊥) → PartEnd t start end (length t)
@@ -36,7 +36,7 @@ pub data QuotingDetail (t : List ℕ) (r : Lists) (house : Style) (i : ℕ) (d :
       → NodeDetail t (content_start t s props) s.end (Says.Quotes style (wanted_of_event (scalar_node props style text) house)) d
       → QuotingDetail t r house i d
 
--- the detail of one event: that of the offset at fault, if one is and has a position; P says which offset is at fault
+-- the detail of an event with an offset at fault that has a position; P says which offset that is
 abbrev pub IsDetailAt : (ℕ → Type 0) → (Detail → Type 0) → List ℕ → Option Detail → Type 0
 IsDetailAt P Exact t result =
     MatchOption result ((o : ℕ) → P o → IsCharBoundary t o → ⊥)

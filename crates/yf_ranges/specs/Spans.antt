@@ -1,4 +1,4 @@
--- Where a part of a text ends that begins at an offset. Offsets count bytes.
+-- The ends of parts of a text that begin at an offset. Offsets count bytes.
 use Rattle.std.specs.Prelude.{◌≡◌, ℕ, ◌⊎◌, true, false, List, length}
 use Rattle.yf_chars.specs.Chain.{Many}
 use Rattle.yf_chars.specs.Class.{is_break_char, is_white}
@@ -26,7 +26,7 @@ pub data BreakSpan (t : List ℕ) (start : ℕ) : ℕ → Type 0 where
 pub data BlankSpan (t : List ℕ) (start : ℕ) : ℕ → Type 0 where
   blank : {middle end : ℕ} → WhiteSpan t start middle → BreakSpan t middle end → BlankSpan t start end
 
--- the rest of a line, up to its break or to the end of the text, has that many characters
+-- the rest of a line, up to its break or the end of the text, has the given number of characters
 pub record LineRest (t : List ℕ) (start end count : ℕ) : Type 0 where
   pub unbroken : NoBreakIn t start end
   pub stops : (is_break_char (code t end) ≡ true) ⊎ (end ≡ length t)

@@ -32,7 +32,7 @@ pub fn details_by(
     Ok(details)
 }
 
-// The details at an offset, if a character begins there or the text ends there.
+// Returns the detail at an offset at which a character begins or the text ends.
 fn known_detail(rule: StyleRule, text: &str, style: &Style, offset: usize) -> Option<Detail>
     ensures { IsDetailOf rule text.now style.now offset result }
 {

@@ -1,8 +1,8 @@
-//! What a report says of a finding besides its rule and its position.
+//! The details of a finding besides its rule and its position.
 
 pub use yf_events::event::{ScalarStyle, Span};
 
-/// What the message of a finding says, with its values.
+/// The message of a finding, with its values.
 #[derive(Clone, Copy)]
 pub enum Message {
     /// White space ends the line.
@@ -37,7 +37,7 @@ pub enum Message {
         found: usize,
         has_tab: bool,
     },
-    /// The line is longer than the limit, by that many characters.
+    /// The line is longer than the limit by the given number of characters.
     LineLength {
         limit: usize,
         over: usize,

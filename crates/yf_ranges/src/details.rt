@@ -36,7 +36,7 @@ pub fn detail_at(rule: StyleRule, text: &str, style: &Style, offset: usize) -> D
     }
 }
 
-// The white space from the offset on.
+// Returns the white space from the offset on.
 fn trailing_blanks(text: &str, offset: usize) -> Detail
     requires { IsCharBoundary text.now offset }
     ensures { DetailAt (EndsBy (WhiteSpan text.now) Message.TrailingBlanks) text.now offset result }
@@ -50,7 +50,7 @@ fn trailing_blanks(text: &str, offset: usize) -> Detail
     }
 }
 
-// The character at the offset, with a message.
+// Returns the character at the offset, with a message.
 fn character(text: &str, offset: usize, message: Message) -> Detail
     requires { IsCharBoundary text.now offset }
     ensures { DetailAt (EndsBy (CharacterSpan text.now) message) text.now offset result }
@@ -64,7 +64,7 @@ fn character(text: &str, offset: usize, message: Message) -> Detail
     }
 }
 
-// The marker at the offset, or nothing.
+// Returns the marker at the offset, or an empty span.
 fn document_start(text: &str, offset: usize) -> Detail
     requires { IsCharBoundary text.now offset }
     ensures { DetailAt (MarkerDetail text.now) text.now offset result }
@@ -87,7 +87,7 @@ fn document_start(text: &str, offset: usize) -> Detail
     }
 }
 
-// Nothing at the offset.
+// Returns an empty span at the offset.
 fn final_break(text: &str, offset: usize) -> Detail
     requires { IsCharBoundary text.now offset }
     ensures { DetailAt (EndsBy IsEmpty Message.NoFinalBreak) text.now offset result }
@@ -101,7 +101,7 @@ fn final_break(text: &str, offset: usize) -> Detail
     }
 }
 
-// The line break at the offset.
+// Returns the line break at the offset.
 fn line_breaks(text: &str, offset: usize) -> Detail
     requires { IsCharBoundary text.now offset }
     ensures { DetailAt (BreakDetail text.now) text.now offset result }
@@ -114,7 +114,7 @@ fn line_breaks(text: &str, offset: usize) -> Detail
     }
 }
 
-// The blank line that begins at the offset.
+// Returns the blank line that begins at the offset.
 fn blank_lines(text: &str, offset: usize) -> Detail
     requires { IsCharBoundary text.now offset }
     ensures { DetailAt (EndsBy (BlankSpan text.now) Message.BlankLine) text.now offset result }
@@ -128,7 +128,7 @@ fn blank_lines(text: &str, offset: usize) -> Detail
     }
 }
 
-// The character at the offset, and how much white space is before it.
+// Returns the character at the offset, and the amount of white space before it.
 fn comment_space(text: &str, offset: usize) -> Detail
     requires { IsCharBoundary text.now offset }
     ensures { DetailAt (CommentDetail text.now) text.now offset result }
@@ -147,7 +147,7 @@ fn comment_space(text: &str, offset: usize) -> Detail
     }
 }
 
-// The rest of the line from the offset on.
+// Returns the rest of the line from the offset on.
 fn line_length(text: &str, offset: usize, limit: usize) -> Detail
     requires { IsCharBoundary text.now offset }
     ensures { DetailAt (LengthDetail text.now limit) text.now offset result }
@@ -165,7 +165,7 @@ fn line_length(text: &str, offset: usize, limit: usize) -> Detail
     }
 }
 
-// The character at the offset, by its number.
+// Returns the character at the offset, by its number.
 fn hidden_character(text: &str, offset: usize) -> Detail
     requires { IsCharBoundary text.now offset }
     ensures { DetailAt (HiddenDetail text.now) text.now offset result }

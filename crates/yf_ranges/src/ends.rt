@@ -1,4 +1,4 @@
-//! Where a part of a text ends that begins at a byte offset.
+//! The ends of parts of a text that begin at a byte offset.
 ghost use Rattle.std.specs.Prelude.{◌≤◌, length};
 ghost use Rattle.std.specs.Str.{IsCharBoundary};
 ghost use Rattle.yf_ranges.specs.Spans.{BlankSpan, BreakSpan, CharacterSpan, LineRest, WhiteSpan};

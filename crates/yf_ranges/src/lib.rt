@@ -1,11 +1,11 @@
-//! The details of a finding: which span of the text is at fault, and what the message says with which values.
+//! The details of a finding: the span of the text at fault, and the message with its values.
 //!
-//! The span begins at the finding's position. Ten rules find their faults in the text, and `by_rule::details_by`
-//! gives their spans: the white space (trailing-blanks), the marker (document-start), the break (line-breaks), the
-//! blank line (blank-lines), the rest of the line (line-length), and the character (byte-order-mark, comment-space,
-//! key-mark, hidden-character). The span of final-break is empty, and so is that of document-start if the marker is
-//! missing. `quoting::details` gives the scalar. For indentation, flow-layout and repeated-keys `details_by` gives
-//! the character at the position so far, and no values.
+//! The span begins at the finding's position. Ten rules find their faults in the text, and `by_rule::details_by` gives
+//! their spans: the white space (trailing-blanks), the marker (document-start), the break (line-breaks), the blank line
+//! (blank-lines), the rest of the line (line-length), and the character (byte-order-mark, comment-space, key-mark,
+//! hidden-character). The span of final-break is empty, and so is that of document-start if the marker is missing.
+//! `quoting::details` gives the scalar. For indentation, flow-layout and repeated-keys `details_by` gives the character
+//! at the position so far, and no values.
 #![tactic(auto)]
 
 pub mod by_rule;

@@ -33,7 +33,7 @@ pub fn details(
     Ok(details)
 }
 
-// The detail of the scalar that the event is, if its style is not the one that the house style gives it.
+// Returns the detail of the event's scalar, if its style differs from that of the house style.
 fn misquoted(src: &Src, reading: &Reading, i: usize, style: &Style) -> Option<Detail>
     requires { i < length reading.now.events }
     ensures { IsDetailAt (QuotingFault src.now.text reading.now style.now i)

@@ -6,7 +6,7 @@ use crate::detail::{Message, ScalarStyle};
 use itoa::Buffer;
 use std::alloc::AllocError;
 
-/// Appends the words of a message: what was found, and what the house style expects.
+/// Appends the words of a message: what is wrong, and what the house style expects.
 ///
 /// # Errors
 ///
@@ -24,7 +24,7 @@ pub fn write_message(out: &mut String, message: &Message) -> Result<(), AllocErr
     }
 }
 
-// The words of a message without values.
+// Returns the words of a message without values.
 fn fixed_words(message: &Message) -> &'static str
     ensures { result.now ≡ spec.fixed_words message.now }
 {

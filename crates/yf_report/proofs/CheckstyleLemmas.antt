@@ -127,7 +127,7 @@ checkstyle_back fs {a} {b} {c} {e} {g} p q r s t =
 
 -- ---- the text
 
--- the tag of a problem, with its severity as it was passed
+-- the tag of a problem, with a name equal to its severity's
 pub error_tag_is : (f : Finding) (name : List ℕ) → name ≡ severity_name f.severity →
     empty_tag (codes "error")
     (attribute (codes "line") (decimal f.range.line)
@@ -145,7 +145,7 @@ error_tag_is f name e =
     ∷ attribute (codes "source") (allowed f.rule) ∷ []))
     (ap allowed e ∙ severity_allowed f.severity)
 
--- a list after three parts, the last of which is taken together with what follows
+-- a list after three parts; the last of them is taken together with the list
 three_parts : (a x y z : List ℕ) {b c : List ℕ} → b ≡ a ++ x → c ≡ b ++ y → c ++ z ≡ a ++ (x ++ (y ++ z))
 three_parts a x y z p q = rw (q, p) (simp append_assoc)
 

@@ -1,4 +1,4 @@
--- What is written as workflow commands is read as these commands.
+-- Written workflow commands are read as these commands.
 use Rattle.std.proofs.Common.{◌≡◌, ℕ, ◌<◌, List, [], ◌∷◌, ◌++◌}
 use Rattle.std.proofs.Common.{length, map, Bool, true, false, ◌||◌, ◌==◌}
 use Rattle.std.proofs.Common.{Option, None, Some, option_map, option_and_then, flat_map, codes, refl}
@@ -81,13 +81,13 @@ unfolding unescape
 value_back [] = refl
 value_back (x ∷ s) = value_step x (value_text s) ∙ ap (λ l. x ∷ l) (value_back s)
 
--- ---- no byte that ends what it is in
+-- ---- no byte ends the part that contains it
 
--- what ends a value
+-- a byte that ends a value
 abbrev is_mark : ℕ → Bool
 is_mark b = is_line_end b || (b == 44 || b == 58)
 
--- what ends a name
+-- a byte that ends a name
 abbrev is_sign : ℕ → Bool
 is_sign b = is_mark b || (b == 61 || b == 32)
 
@@ -171,7 +171,7 @@ property_free p named =
     free-append is_mark p.name (61 ∷ value_text p.value) (free_weaker is_sign is_mark no_mark p.name named)
     (refl, free-flat_map is_mark value_byte value_byte_free p.value)
 
--- what a comma does not end
+-- text that no comma ends
 comma_free : (p : Property) → NamedProperty p → All (λ b. (b == 44) ≡ false) (property_text p)
 comma_free p named = all_free (λ b. b == 44) (property_text p)
     (free_weaker is_mark (λ b. b == 44) no_comma _ (property_free p named))
@@ -337,7 +337,7 @@ all_named : (fs : List Finding) → AreNamed (map command_of fs)
 all_named [] = tt
 all_named (f ∷ fs) = (named f, all_named fs)
 
--- the lines of the errors, or of the others, are those of their commands
+-- the lines of the errors, or of the others, are the lines of their commands
 lines_as : (errors : Bool) (fs : List Finding) →
     lines_text errors fs ≡ flat_map line_text (map command_of (filter (λ f. is_among errors f.severity) fs))
 lines_as errors [] = refl
@@ -350,7 +350,7 @@ lines_as errors (f ∷ fs) =
       | false ↦ lines_as errors fs
     ]
 
--- what is read from the lines of the errors and the lines of the others
+-- the commands read from the lines of the errors and the lines of the others
 pub report_back : (fs : List Finding) (text : List ℕ) → text ≡ lines_text true fs ++ lines_text false fs →
     commands_in text ≡ Some (map command_of (errors_first fs))
 report_back fs text e =
@@ -378,7 +378,7 @@ line_glue : (a p sev q title files ranges message n : List ℕ) {b c d e g h i j
 line_glue a p sev q title files ranges message n p1 p2 p3 p4 p5 p6 p7 p8 p9 =
     rw (p9, p8, p7, p6, p5, p4, p3, p2, p1) (simp append_assoc)
 
--- the parts of the line of a problem are written one after another
+-- the parts of a problem's line are written one after another
 pub line_written : (f : Finding) (a : List ℕ) {b c d e g h i j k : List ℕ} → b ≡ a ++ codes "::" →
     c ≡ b ++ severity_name f.severity → d ≡ c ++ codes " title=" → e ≡ d ++ value_text f.rule →
     g ≡ e ++ more_text (file_properties f.file) → h ≡ g ++ more_text (range_properties f.range) →

@@ -1,4 +1,4 @@
--- Lists in which no element passes a test.
+-- Lists without an element that passes a test.
 use Rattle.std.proofs.Common.{◌≡◌, ℕ, List, [], ◌∷◌, ◌++◌, Bool, true, false, not, ◌&&◌, ◌==◌, Some, flat_map, refl}
 use Rattle.std.specs.Prelude.{All, ⊤}
 use Rattle.std.proofs.lemmas.Bool.{and_parts, not-true}
@@ -38,7 +38,7 @@ free_by_test p (x ∷ xs) h =
     let parts = and_parts (not (p x)) (none_pass p xs) h in
     (not-true (p x) parts.0, free_by_test p xs parts.1)
 
--- ---- what is before the first element of a kind
+-- ---- the elements before the first one of a kind
 
 pub split_once_at : (c : ℕ) (xs ys : List ℕ) → (c == c) ≡ true → Free (λ b. b == c) xs →
     split_once c (xs ++ c ∷ ys) ≡ Some (xs, ys)

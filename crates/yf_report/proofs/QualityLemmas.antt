@@ -22,7 +22,7 @@ use Rattle.yf_report.proofs.JsonLemmas.{adds_more}
 
 -- ---- counts
 
--- a digest whose count was set to one more is counted once more
+-- a digest is counted once more if its count is set to one more
 pub counts_one_more : {Y S : Type 0} (old new : HashMap (String Y) ℕ S) (digest : List ℕ) (next : ℕ) →
     next ≡ count_of old digest + 1 →
     ((other : List ℕ) → get_by_text new other ≡ update bytes_eq (get_by_text old) digest (Some next) other) →
@@ -102,7 +102,7 @@ so_far_more old new m n i ps d so_far within h counted = record {
       (so_far.counted (digest_at ps i d)) h so_far.tokens;
 }
 
--- a digest came at most as often as there were problems before
+-- a digest occurred at most once for each problem before
 pub room_for_one : {Y S : Type 0} (out : Written) (counts : HashMap (String Y) ℕ S) (i : ℕ) (ps : List Problem)
     (digest : List ℕ) → WrittenSoFar out counts i ps → i + 1 < 2 ^ 64 → count_of counts digest + 1 < 2 ^ 64
 room_for_one out counts i ps digest so_far small =

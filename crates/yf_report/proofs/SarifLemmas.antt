@@ -44,7 +44,7 @@ results_more i ps d within h before =
     (ap left_results (drop_more ps i d within)) h
     before
 
--- a list whose values are all written, with its closing bracket
+-- a list with all values written, and its closing bracket
 list_end : (old w v : Written) (left items : List Token) → left ≡ Token.end_array ∷ [] →
     w.before ≡ old.before → w.tokens ++ left ≡ old.tokens ++ items → Adds w v (Token.end_array ∷ []) → Adds old v items
 list_end old w v left items none before written h = record {

@@ -1,4 +1,4 @@
--- The tags that are written are read as these tags.
+-- The written tags are read as these tags.
 use Rattle.std.proofs.Common.{◌≡◌, ℕ, ◌<◌, List, [], ◌∷◌, ◌++◌}
 use Rattle.std.proofs.Common.{length, Bool, true, false, ◌||◌, ◌==◌}
 use Rattle.std.proofs.Common.{None, Some, option_map, option_and_then, flat_map, refl, sym}
@@ -54,16 +54,16 @@ unfolding value_in
 value_back [] = refl
 value_back (x ∷ s) = value_step x (xml_text s) ∙ ap (option_map (λ l. x ∷ l)) (value_back s)
 
--- ---- no byte that ends what it is in
+-- ---- no byte ends the part that contains it
 
 abbrev pub is_angle : ℕ → Bool
 is_angle b = b == 60 || b == 62
 
--- what ends a value
+-- a byte that ends a value
 abbrev pub is_mark : ℕ → Bool
 is_mark b = is_angle b || b == 34
 
--- what ends a name
+-- a byte that ends a name
 abbrev pub is_sign : ℕ → Bool
 is_sign b = is_mark b || (b == 61 || (b == 32 || b == 47))
 
@@ -207,7 +207,7 @@ IsPlain (open_tag name list) = PlainName name × SomePlain list
 IsPlain (close_tag name) = PlainName name
 IsPlain (empty_tag name list) = PlainName name × SomePlain list
 
--- a name, attributes and what is after these
+-- a name, its attributes and the rest of the tag
 element_back : (name : List ℕ) (list : List Attribute) (tail : List ℕ) (empty : Bool) → PlainName name →
     SomePlain list → Free is_quote tail → attributes_in (tail ∷ []) ≡ Some ([], empty) →
     tag_from (name ++ (flat_map attribute_text list ++ tail)) ≡ Some (tag_with name (list, empty))

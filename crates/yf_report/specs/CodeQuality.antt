@@ -22,19 +22,19 @@ entry_of p = record { finding = finding_of p; line = p.line_text.now }
 
 -- ---- fingerprints
 
--- what stays when lines are added before: the file, the rule and the text of the line
+-- the parts of a problem that stay if lines are added before it: the file, the rule and the text of the line
 abbrev pub place_text : Entry → List ℕ
 place_text e = (((name_or_stdin e.finding.file ++ 0 ∷ []) ++ e.finding.rule) ++ 0 ∷ []) ++ e.line
 
 unfoldable pub place_digest : Entry → List ℕ
 place_digest e = encode_lower (sha256 (place_text e))
 
--- of earlier digests, how many are this one
+-- the number of earlier digests equal to this one
 abbrev pub occurrences : List ℕ → List (List ℕ) → ℕ
 occurrences digest [] = 0
 occurrences digest (other ∷ more) = (if bytes_eq digest other then 1 else 0) + occurrences digest more
 
--- the fingerprint of the problem after n others of one place
+-- the fingerprint of a problem after n others with its digest
 unfoldable pub fingerprint : List ℕ → ℕ → List ℕ
 fingerprint digest n = encode_lower (sha256 (digest ++ decimal n))
 
@@ -84,7 +84,7 @@ module _ {Y S : Type 0} where
   abbrev pub count_of : HashMap (String Y) ℕ S → List ℕ → ℕ
   count_of m digest = unwrap_or (get_by_text m digest) 0
 
-  -- the map counts one digest once more, and every other one as often
+  -- the map counts one digest once more, and no other one differently
   abbrev pub CountsOneMore : HashMap (String Y) ℕ S → HashMap (String Y) ℕ S → List ℕ → Type 0
   CountsOneMore old new digest =
       (other : List ℕ) → count_of new other ≡ (if bytes_eq other digest then 1 else 0) + count_of old other

@@ -34,7 +34,7 @@ command_of f = record {
   message = f.message;
 }
 
--- whether a problem is one of the errors, or one of the others
+-- whether a problem is an error, or another one
 abbrev pub is_among : Bool → Severity → Bool
 is_among errors Error = errors
 is_among errors Warning = not errors

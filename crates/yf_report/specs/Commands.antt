@@ -21,14 +21,14 @@ all_some (o ∷ rest) = option_and_then (λ a. option_map (λ list. a ∷ list) 
 
 -- ---- escapes
 
--- the character that two characters stand for after a `%` in a message
+-- the character that two characters after a `%` mean in a message
 abbrev pub message_escape : ℕ → ℕ → Option ℕ
 message_escape y z =
     if y == 50 && z == 53 then Some 37 else
     (if y == 48 && z == 68 then Some 13 else
     (if y == 48 && z == 65 then Some 10 else None))
 
--- the same in a value
+-- the character that two characters after a `%` mean in a value
 abbrev pub value_escape : ℕ → ℕ → Option ℕ
 value_escape y z =
     if y == 51 && z == 65 then Some 58 else
@@ -48,12 +48,12 @@ unescape escape (x ∷ y ∷ z ∷ rest) = if x == 37 then
 
 -- ---- the parts of a line
 
--- what is before the first c, and what is after it
+-- the parts before and after the first c
 unfoldable pub split_once : ℕ → List ℕ → Option (List ℕ × List ℕ)
 split_once c [] = None
 split_once c (x ∷ xs) = if x == c then Some ([], xs) else option_map (λ p. (x ∷ p.0, p.1)) (split_once c xs)
 
--- what is before the first `::`, and what is after it
+-- the parts before and after the first `::`
 unfoldable pub split_colons : List ℕ → Option (List ℕ × List ℕ)
 split_colons [] = None
 split_colons (x ∷ []) = None
@@ -93,7 +93,7 @@ abbrev pub if_empty : List ℕ → Option (List Command)
 if_empty [] = Some []
 if_empty (x ∷ xs) = None
 
--- the commands of lines, the last of which is empty
+-- the commands of lines; the last line is empty
 abbrev pub commands_of_lines : List (List ℕ) → Option (List Command)
 commands_of_lines [] = None
 commands_of_lines (line ∷ []) = if_empty line

@@ -12,7 +12,7 @@ abbrev pub is_error : Severity → Bool
 is_error Error = true
 is_error Warning = false
 
--- how many of the problems are errors
+-- the number of errors among the problems
 abbrev pub errors : List Finding → ℕ
 errors [] = 0
 errors (f ∷ fs) = (if is_error f.severity then 1 else 0) + errors fs

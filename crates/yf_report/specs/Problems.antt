@@ -1,4 +1,4 @@
--- What a problem is, apart from where its texts are kept.
+-- Problems, without the addresses of their texts.
 use Rattle.std.specs.Prelude.{ℕ, ◌^◌, ◌<◌, List, [], ◌∷◌, codes, Bool, Option, None, Some, option_map, ⊤}
 use Rattle.yf_report.specs.declared.problem.Range.{Range}
 use Rattle.yf_report.specs.declared.problem.Severity.{Severity}
@@ -11,7 +11,7 @@ abbrev pub severity_name : Severity → List ℕ
 severity_name Error = codes "error"
 severity_name Warning = codes "warning"
 
--- another place, and what it is
+-- another range, and what is there
 pub record Note : Type 0 where
   pub range : Range
   pub message : List ℕ

@@ -73,7 +73,7 @@ string_or_null_in (string s) = Some (Some s)
 string_or_null_in (array js) = None
 string_or_null_in (object ms) = None
 
--- the number that decimal digits stand for
+-- the number that decimal digits write
 abbrev pub number_in : Json → Option ℕ
 number_in null = None
 number_in (boolean b) = None
@@ -117,7 +117,7 @@ note_in (object ms) =
     option_and_then (λ range. option_map (λ message. record { range = range; message = message })
     (in_member string_in (codes "message") ms)) (range_in ms)
 
--- None only where the member is there and is no place
+-- None only if the member is present but no place
 abbrev pub related_in : Option Json → Option (Option Note)
 related_in None = Some None
 related_in (Some j) = option_map (λ n. Some n) (note_in j)

@@ -1,4 +1,4 @@
--- What a report is in each format.
+-- The report in each format.
 use Rattle.std.specs.Prelude.{◌≡◌, ℕ, List, map, Some}
 use Rattle.json.specs.Json.{document}
 use Rattle.yf_report.specs.declared.problem.Problem.{Problem}
@@ -14,7 +14,7 @@ use Rattle.yf_report.specs.Xml.{tags_in}
 use Rattle.yf_report.specs.Junit.{junit_tags}
 use Rattle.yf_report.specs.Checkstyle.{checkstyle_tags}
 
--- the bytes read as what the format says of the problems
+-- the bytes read as the value that the format gives to the problems
 abbrev pub IsReport : Format → List Described → List Problem → List ℕ → Type 0
 IsReport Json rs ps b = document b ≡ Some (report_json (map finding_of ps))
 IsReport Github rs ps b = commands_in b ≡ Some (map command_of (errors_first (map finding_of ps)))

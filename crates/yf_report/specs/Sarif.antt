@@ -10,7 +10,7 @@ use Rattle.yf_report.specs.declared.sarif.TheConstants.{ESCAPED}
 use Rattle.yf_report.specs.Members.{member_tokens}
 use Rattle.yf_report.specs.Problems.{Note, Finding, severity_name}
 
--- a rule's id, a sentence on it, and what it wants
+-- a rule's id, a sentence about it, and what it requires
 pub record Described : Type 0 where
   pub id : List ℕ
   pub summary : List ℕ

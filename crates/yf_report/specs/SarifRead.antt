@@ -1,4 +1,4 @@
--- The problems that a SARIF log holds.
+-- The problems in a SARIF log.
 use Rattle.std.specs.Prelude.{ℕ, List, [], ◌∷◌, codes, Bool, Option, None, Some, option_map, option_and_then}
 use Rattle.json.specs.Json.{Json, null, boolean, number, string, array, object, Items, no_items, item, Members}
 use Rattle.yf_report.specs.declared.problem.Range.{Range}
@@ -30,11 +30,11 @@ abbrev pub first_in : Items → Option Json
 first_in no_items = None
 first_in (item j js) = Some j
 
--- what f reads from the members of the object that has a name
+-- the result of f on the members of the object with a name
 abbrev pub in_object : {A : Type 0} → (Members → Option A) → List ℕ → Members → Option A
 in_object f k ms = option_and_then f (in_member members_in k ms)
 
--- what f reads from the members of the first object of the list that has a name
+-- the result of f on the members of the first object of a list
 abbrev pub in_first : {A : Type 0} → (Members → Option A) → Json → Option A
 in_first f j = option_and_then f (option_and_then members_in (option_and_then first_in (items_in j)))
 
@@ -64,7 +64,7 @@ note_in ms =
     option_and_then (λ place. option_map (λ message. record { range = place.1; message = message })
     (in_object text_in (codes "message") ms)) (place_in ms)
 
--- None only if the member is there and holds no place
+-- None only if the member is present but no place
 abbrev pub notes_in : Option Json → Option (Option Note)
 notes_in None = Some None
 notes_in (Some j) = option_map (λ n. Some n) (in_first note_in j)

@@ -50,7 +50,7 @@ abbrev pub attribute_in : List ℕ → List ℕ → Option Attribute
 attribute_in name value =
     option_and_then (λ n. option_map (λ v. record { name = n; value = v }) (value_in None value)) (name_in name)
 
--- the attributes in the parts between the quotes, and whether the tag is one of an empty element
+-- the attributes in the parts between the quotes, and whether the tag is an empty element
 abbrev pub attributes_in : List (List ℕ) → Option (List Attribute × Bool)
 attributes_in [] = None
 attributes_in (last ∷ []) = if bytes_eq last [] then

@@ -15,7 +15,7 @@ use sha2::{Digest, Sha256};
 use std::alloc::{AllocError, Global};
 use std::collections::HashMap;
 
-/// How often each digest came.
+/// The number of occurrences of each digest.
 type Counts = HashMap<String, u64>;
 
 /// Returns the report as a JSON array of issues, in the order of the problems.

@@ -36,7 +36,7 @@ pub fn junit_report(alloc: Global, problems: &[Problem<'_>]) -> Result<Vec<u8>, 
     Ok(out)
 }
 
-// Counts the errors.
+// Returns the number of errors.
 fn errors(problems: &[Problem<'_>]) -> usize
     ensures { result ≡ spec.errors (map finding_of problems.now) }
 {

@@ -1,4 +1,4 @@
-//! What a report says of each problem.
+//! The parts of a problem that a report needs.
 ghost use Rattle.std.specs.Prelude.{◌≡◌};
 ghost use Rattle.yf_report.specs.Problems.{severity_name};
 
@@ -15,7 +15,7 @@ pub struct Range {
     pub end_column: usize,
 }
 
-/// How much a problem matters.
+/// The severity of a problem.
 #[derive(Clone, Copy)]
 pub enum Severity {
     /// A refusal: the text was not read to its end.
@@ -28,7 +28,7 @@ pub enum Severity {
 #[derive(Clone, Copy)]
 pub struct Related<'a> {
     pub range: Range,
-    /// What the place is.
+    /// What is there.
     pub message: &'a str,
 }
 
@@ -41,9 +41,9 @@ pub struct Problem<'a> {
     /// A rule's id or a refusal's kind.
     pub rule: &'a str,
     pub severity: Severity,
-    /// What was found and what is expected.
+    /// What is wrong, and what is expected.
     pub message: &'a str,
-    /// Whether `fmt` mends it.
+    /// Whether `fmt` fixes it.
     pub fixable: bool,
     pub related: Option<Related<'a>>,
     /// The line of the text on which the range begins, without its line break.
@@ -51,7 +51,7 @@ pub struct Problem<'a> {
 }
 
 impl Severity {
-    /// The severity as JSON and most other formats write it.
+    /// Returns the severity as JSON and most other formats write it.
     pub fn name(self) -> &'static str
         ensures { result.now ≡ severity_name self }
     {

@@ -85,7 +85,7 @@ fn write_related(out: &mut Writer, related: Option<Related<'_>>) -> Result<(), A
     }
 }
 
-// Adds the member of another place.
+// Adds the member for the other place.
 fn write_place(out: &mut Writer, place: &Related<'_>) -> Result<(), AllocError>
     ensures { OnOk result (Adds out.old out.new (member_tokens (codes "related") (note_json (note_of place.now)))) }
 {

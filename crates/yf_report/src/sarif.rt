@@ -14,7 +14,7 @@ use json::Writer;
 use percent_encoding::{AsciiSet, NON_ALPHANUMERIC, ascii_set, utf8_percent_encode};
 use std::alloc::{AllocError, Global};
 
-/// The bytes that a URI has only as escapes (RFC 3986, section 2.3), except `/`.
+/// The bytes that a URI contains only as escapes (RFC 3986, section 2.3), except `/`.
 const ESCAPED: AsciiSet = ascii_set!(
     NON_ALPHANUMERIC
         .remove(b'-')
@@ -24,20 +24,20 @@ const ESCAPED: AsciiSet = ascii_set!(
         .remove(b'/')
 );
 
-/// A rule that may be named by a problem.
+/// A rule that a problem may name.
 #[derive(Clone, Copy)]
 pub struct Rule<'a> {
     pub id: &'a str,
-    /// A sentence on the rule.
+    /// A sentence about the rule.
     pub summary: &'a str,
-    /// What the rule wants, and how to reach it.
+    /// What the rule requires, and how to satisfy it.
     pub help: &'a str,
 }
 
 /// Returns the report as a SARIF log with one run, whose tool has the given rules.
 ///
 /// Columns count characters (`columnKind` is `unicodeCodePoints`). The name of a file is a URI with percent escapes,
-/// and standard input has the URI `stdin`. Whether `fmt` mends a problem is the property `fixable`.
+/// and standard input has the URI `stdin`. The property `fixable` says whether `fmt` fixes a problem.
 ///
 /// # Errors
 ///
@@ -64,7 +64,7 @@ pub fn sarif_report(
     Ok(out.into_inner())
 }
 
-// Adds what is before the run's members.
+// Adds the tokens before the run's members.
 fn write_head(out: &mut Writer) -> Result<(), AllocError>
     ensures { OnOk result (Adds out.old out.new spec.head_tokens) }
 {

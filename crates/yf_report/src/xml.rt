@@ -131,7 +131,7 @@ fn push_text(out: &mut Vec<u8>, text: &str) -> Result<(), AllocError>
     Ok(())
 }
 
-// Adds the bytes for a byte of a text after two others.
+// Adds the bytes for a byte of a text; `before` and `last` are the two bytes before it.
 fn push_allowed(out: &mut Vec<u8>, before: u8, last: u8, byte: u8) -> Result<(), AllocError>
     ensures { OnOk result (out.new.items ≡ out.old.items ++ spec.xml_text (spec.allowed_byte before last byte)) }
 {
@@ -144,14 +144,14 @@ fn push_allowed(out: &mut Vec<u8>, before: u8, last: u8, byte: u8) -> Result<(),
     push_byte(out, byte)
 }
 
-// Whether XML 1.0 does not allow a character below U+0080.
+// Returns whether XML 1.0 does not allow the character below U+0080.
 fn is_refused(byte: u8) -> bool
     ensures { result ≡ spec.is_refused byte }
 {
     byte < 32 && !(byte == b'\t' || byte == b'\n' || byte == b'\r')
 }
 
-// Whether the bytes are those of U+FFFE or U+FFFF.
+// Returns whether the bytes are those of U+FFFE or U+FFFF.
 fn is_no_character(before: u8, last: u8, byte: u8) -> bool
     ensures { result ≡ spec.ends_refused before last byte }
 {

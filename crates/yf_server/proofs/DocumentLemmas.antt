@@ -39,7 +39,7 @@ first_here u xs i x l is e h = record {
   before = h;
 }
 
--- what the first document with a URI is, and a list around it
+-- the first document with a URI, and a list around it
 find_around : (u : List ℕ) (front back : List OpenDocument) (x : OpenDocument) → find u front ≡ None
     → bytes_eq u (string_bytes x.uri) ≡ true → find u (front ++ x ∷ back) ≡ Some (text_of x)
 find_around u front back x none e =
@@ -149,7 +149,7 @@ pub updates_to : (before after : List OpenDocument) (u : List ℕ) (now same : O
     → Updates before after u now → Updates before after u same
 updates_to before after u now same e h = subst (Updates before after u) e h
 
--- a change that is too old, one that is reversed, and one that is made
+-- a change that is too old, a reversed one, and one that is made
 pub too_old : (e : Encoding) (was : Option OpenText) (x : OpenDocument) (version : ℤ) (changes : List TextChange)
     → was ≡ Some (text_of x) → int_lt x.version version ≡ false
     → (was ≡ changed_by e was version changes) × (OldVersion ≡ change_outcome e was version changes)

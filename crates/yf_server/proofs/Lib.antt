@@ -6,5 +6,5 @@ pub mod DocumentLemmas
 pub mod ParameterLemmas
 -- a step of a server, and a run of steps
 pub mod StepLemmas
--- answers to requests
+-- responses to requests
 pub mod RespondLemmas

@@ -1,4 +1,4 @@
--- Exactly those messages are answered that want an answer.
+-- Exactly the messages that want a response get one.
 use Rattle.std.proofs.Common.{◌≡◌, ℕ, List, true, false, ⊎_elim, codes, refl}
 use Rattle.std.specs.Prelude.{bytes_eq}
 use Rattle.std.proofs.lemmas.Bool.{cases_Bool}

@@ -1,4 +1,4 @@
--- Answers to requests.
+-- Responses to requests.
 use Rattle.std.proofs.Common.{◌≡◌, ℕ, List, [], ◌∷◌, Bool, true, false, MatchBool, Option, None, Some, Result, Ok, Err, IfOk, option_to_list, refl, ap}
 use Rattle.std.specs.Prelude.{bytes_eq, codes}
 use Rattle.std.specs.declared.alloc.AllocError.{AllocError}
@@ -15,7 +15,7 @@ use Rattle.yf_server.specs.Documents.{OpenText, find, text_of}
 use Rattle.yf_server.specs.Edits.{AnswersFor, AnswersRequest, AnswersUri, FailsWith, IsFormatting, named_uri}
 use Rattle.yf_server.specs.Steps.{response_ids}
 
--- the answer for an open document
+-- the response for an open document
 answer_open : (claim : TextClaim) (e : Encoding) (id : Data) (was : Option OpenText) (x : OpenDocument)
     (value answer : Data) → was ≡ Some (text_of x) → IsFormatting claim e x.document value
     → answer ≡ reply id value → AnswersFor claim e id was (Some answer)
@@ -28,7 +28,7 @@ pub answers_open : (claim : TextClaim) (e : Encoding) (id : Data) (was : Option 
 answers_open claim e id was x value (Ok answer) is h a = answer_open claim e id was x value (view answer) is h a
 answers_open claim e id was x value (Err refused) is h a = tt
 
--- each answer is one response with the id
+-- each response is one, with the id
 failed_once : (id : Data) (code : ErrorCode) (sent : Option Data) → FailsWith id code sent
     → response_ids (option_to_list sent) ≡ id ∷ []
 failed_once id code sent h = rw h.is refl

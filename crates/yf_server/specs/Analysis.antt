@@ -1,10 +1,10 @@
--- What a server knows of texts.
+-- The claims of a server about texts.
 use Rattle.std.specs.Prelude.{ℕ, List, Option, string_bytes}
 use Rattle.yf_server.specs.declared.analysis.Problem.{Problem}
 use Rattle.yf_server.specs.declared.analysis.Severity.{Severity}
 use Rattle.yf_server.specs.declared.analysis.Severity.TheVariants.{Error, Warning, Information, Hint}
 
--- a problem of a text: its span in bytes, how severe it is, and what it is called and described by
+-- a problem of a text: its span in bytes, its severity, its name and its message
 pub record Found : Type 0 where
   pub start : ℕ
   pub end : ℕ
@@ -29,7 +29,7 @@ severity_number Information = 3
 severity_number Hint = 4
 
 pub record TextClaim : Type 1 where
-  -- what the formatting of a text gives: the new text, or none if the text cannot be formatted
+  -- the formatting of a text, or none if the text cannot be formatted
   pub Formats : List ℕ → Option (List ℕ) → Type 0
   -- the problems of a text, in order
   pub Finds : List ℕ → List Found → Type 0

@@ -1,4 +1,4 @@
--- The open documents of a server, by their URIs, and what a client does with them.
+-- The open documents of a server, by their URIs, and the actions of a client on them.
 use Rattle.std.specs.Prelude.{◌≡◌, ℕ, ℤ, ◌+◌, ◌<◌, List, [], ◌∷◌, length, take, drop, true, ⊤, bytes_eq, int_lt, string_bytes, Option, None, Some, if◌then◌else◌}
 use Rattle.yf_positions.specs.declared.encoding.Encoding.{Encoding}
 use Rattle.yf_positions.specs.Changes.{TextChange, all_changed}
@@ -35,7 +35,7 @@ abbrev pub Updates : List OpenDocument → List OpenDocument → List ℕ → Op
 Updates before after uri now = (other : List ℕ)
     → find other after ≡ (if bytes_eq other uri then now else find other before)
 
--- what a client does with a document: it opens it with a version and a text, changes it, or closes it
+-- an action of a client on a document: it opens it with a version and a text, changes it, or closes it
 pub data Act : Type 0 where
   open_text : ℤ → List ℕ → Act
   change : ℤ → List TextChange → Act
@@ -53,7 +53,7 @@ act_read Read.Close = close
 abbrev pub event_read : DocumentEvent → Event
 event_read event = record { uri = event.uri.now; act = act_read event.act }
 
--- a document with the text that changes left; as it was if a range was reversed
+-- a document with the text after changes; it is unchanged if a range was reversed
 abbrev pub with_text : OpenText → ℤ → Option (List ℕ) → OpenText
 with_text was version None = was
 with_text was version (Some text) = record { version = version; text = text }
@@ -64,7 +64,7 @@ changed_by e None version changes = None
 changed_by e (Some was) version changes =
     if int_lt was.version version then Some (with_text was version (all_changed e was.text changes)) else Some was
 
--- a document after what the client does with it
+-- a document after an action
 abbrev pub acted : Encoding → Option OpenText → Act → Option OpenText
 acted e was (open_text version text) = Some (record { version = version; text = text })
 acted e was (change version changes) = changed_by e was version changes
@@ -74,7 +74,7 @@ acted e was close = None
 abbrev pub after_event : Encoding → List ℕ → Option OpenText → Event → Option OpenText
 after_event e uri was event = if bytes_eq uri event.uri then acted e was event.act else was
 
--- each document is what the event makes of it
+-- the event changes each document as its action says
 abbrev pub FollowsEvent : Encoding → List OpenDocument → List OpenDocument → Event → Type 0
 FollowsEvent e before after event = (uri : List ℕ) → find uri after ≡ after_event e uri (find uri before) event
 
@@ -91,13 +91,13 @@ abbrev pub close_outcome : Option OpenText → Outcome
 close_outcome None = NotOpen
 close_outcome (Some was) = Done
 
--- what becomes of an act
+-- the outcome of an action
 abbrev pub outcome_of : Encoding → Option OpenText → Act → Outcome
 outcome_of e was (open_text version text) = Done
 outcome_of e was (change version changes) = change_outcome e was version changes
 outcome_of e was close = close_outcome was
 
--- only what was done changes documents
+-- documents change only if the outcome is `Done`
 abbrev pub StaysAt : Outcome → List OpenDocument → List OpenDocument → Type 0
 StaysAt Done before after = ⊤
 StaysAt NotOpen before after = after ≡ before

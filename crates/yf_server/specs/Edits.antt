@@ -1,4 +1,4 @@
--- Text edits as JSON (`TextEdit` of the Language Server Protocol 3.17), and the answers that carry them.
+-- Text edits as JSON (`TextEdit` of the Language Server Protocol 3.17), and the responses with them.
 use Rattle.std.specs.Prelude.{◌≡◌, ℕ, List, map, codes, bytes_eq, true, MatchBool, Option, None, Some, option_and_then}
 use Rattle.serde_json.specs.Data.{Data, null, number, string, array, object, no_members, member, unsigned}
 use Rattle.serde_json.specs.Find.{get}
@@ -48,7 +48,7 @@ pub record AreEditsTo (e : Encoding) (old new : List ℕ) (value : Data) : Type 
   pub text : edited e old 0 edits ≡ new
   pub script : EditsOfScript e old new edits
 
--- the edits that lead from an old text to what its formatting gave; null if it gave nothing
+-- the edits from an old text to its formatting, or null if it has none
 abbrev pub AreEditsFor : Encoding → List ℕ → Option (List ℕ) → Data → Type 0
 AreEditsFor e old None value = value ≡ null
 AreEditsFor e old (Some new) value = AreEditsTo e old new value
@@ -65,12 +65,12 @@ pub record Replies (P : Data → Type 0) (id : Data) (sent : Option Data) : Type
   pub is : sent ≡ Some (reply id value)
   pub holds : P value
 
--- the answer for a document: that of its formatting, or an error if it is not open
+-- the response for a document: the edits that format it, or an error if it is not open
 abbrev pub AnswersFor : TextClaim → Encoding → Data → Option OpenText → Option Data → Type 0
 AnswersFor claim e id None sent = FailsWith id InvalidParams sent
 AnswersFor claim e id (Some was) sent = Replies (IsFormatting claim e was.text) id sent
 
--- the answer for the document of a URI, or an error if the parameters have none
+-- the response for the document with a URI, or an error if the parameters have no URI
 abbrev pub AnswersUri : TextClaim → Encoding → List OpenDocument → Data → Option (List ℕ)
     → Option Data → Type 0
 AnswersUri claim e documents id None sent = FailsWith id InvalidParams sent
@@ -81,7 +81,7 @@ abbrev pub named_uri : Data → Option (List ℕ)
 named_uri d = option_and_then (string_in (codes "uri"))
     (option_and_then (get (codes "textDocument")) (get (codes "params") d))
 
--- the answer to a request that is not of the life cycle
+-- the response to a request that is not of the life cycle
 abbrev pub AnswersRequest : TextClaim → Encoding → List OpenDocument → Data → List ℕ → Data
     → Option Data → Type 0
 AnswersRequest claim e documents id method d sent = MatchBool (bytes_eq method (codes "textDocument/formatting"))

@@ -1,4 +1,4 @@
--- What client and server agree on at `initialize`.
+-- The result of `initialize`, on which client and server agree.
 use Rattle.std.specs.Prelude.{ℕ, List, codes, bytes_eq, Option, None, Some, option_and_then, if◌then◌else◌}
 use Rattle.serde_json.specs.Data.{Data, Items, no_items, item}
 use Rattle.serde_json.specs.Find.{as_array, as_str, get}

@@ -7,7 +7,7 @@ use Rattle.yf_server.specs.declared.lifecycle.Phase.TheVariants.{Fresh, Running,
 use Rattle.yf_server.specs.declared.lifecycle.Step.{Step}
 use Rattle.yf_server.specs.declared.lifecycle.Task.TheVariants as Task
 
--- what is done with a request
+-- the step for a request
 abbrev pub request_step : Phase → List ℕ → Step
 request_step Fresh method =
     if bytes_eq method (codes "initialize") then record { phase = Running; task = Task.Initialize }
@@ -23,7 +23,7 @@ is_shut_down Fresh = false
 is_shut_down Running = false
 is_shut_down ShutDown = true
 
--- what is done with a notification but `exit`
+-- the step for a notification other than `exit`
 abbrev pub other_step : Phase → Step
 other_step Fresh = record { phase = Fresh; task = Task.Ignore }
 other_step Running = record { phase = Running; task = Task.Notification }
@@ -34,7 +34,7 @@ notification_step phase method =
     if bytes_eq method (codes "exit") then record { phase = phase; task = Task.Exit (is_shut_down phase) }
     else other_step phase
 
--- what is done with a message
+-- the step for a message
 abbrev pub step_of : Phase → Kind → Step
 step_of phase (request id method) = request_step phase method
 step_of phase (notification method) = notification_step phase method

@@ -54,7 +54,7 @@ change_by (Some (Some range)) (Some text) = Some (record { range = Some range; t
 abbrev pub change_of : Data → Option TextChange
 change_of d = change_by (option_map range_of (get (codes "range") d)) (string_in (codes "text") d)
 
--- all changes of an array, in order; none if one of them is no change
+-- all changes of an array, in order, or none if one of them is not a change
 abbrev pub changes_by : Option TextChange → Option (List TextChange) → Option (List TextChange)
 changes_by None rest = None
 changes_by (Some x) None = None

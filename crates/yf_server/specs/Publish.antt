@@ -49,7 +49,7 @@ pub record Publishes (claim : TextClaim) (e : Encoding) (uri : List ℕ) (was : 
     pub finds : claim.Finds was.text found
     pub is : sent ≡ Some (publication (published uri was.version (diagnostics e was.text found)))
 
--- what is published of the document with a URI: no problems if it is not open
+-- the publication for the document with a URI: no problems if it is not open
 abbrev pub PublishesFor : TextClaim → Encoding → List ℕ → Option OpenText → Option Data → Type 0
 PublishesFor claim e uri None sent = sent ≡ Some (publication (cleared uri))
 PublishesFor claim e uri (Some was) sent = Publishes claim e uri was sent
@@ -58,8 +58,8 @@ abbrev pub PublishesUri : TextClaim → Encoding → List OpenDocument → Optio
 PublishesUri claim e documents None sent = sent ≡ None
 PublishesUri claim e documents (Some uri) sent = PublishesFor claim e uri (find uri documents) sent
 
--- What is published after a message: after a notification on a document, what the server knows of it then. (server: the
--- server after the message; task: its task with the message)
+-- The publication after a message: after a notification on a document, the state of that document then. (server: the
+-- server after the message; task: its task for the message)
 abbrev pub IsPublished : TextClaim → Server → Task → Data → Option Data → Type 0
 IsPublished claim server task d sent = MatchBool (is_notification task)
     (MatchBool (is_of_document (method_of (kind_of d)))

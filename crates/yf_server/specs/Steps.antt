@@ -1,4 +1,4 @@
--- What a server does with a message: what it knows then, and what it sends.
+-- The step of a server for a message: its knowledge after it, and the message that it sends.
 use Rattle.std.specs.Prelude.{◌≡◌, ◌||◌, ℕ, List, [], ◌∷◌, ◌++◌, codes, bytes_eq, Bool, true, false, MatchBool, Option, None, Some, option_and_then, option_map, option_to_list, if◌then◌else◌}
 use Rattle.serde_json.specs.Data.{Data, null, boolean, number, string, object, no_members, member, unsigned}
 use Rattle.serde_json.specs.Find.{get}
@@ -21,7 +21,7 @@ use Rattle.yf_server.specs.Handshake.{name_of, negotiated}
 use Rattle.yf_server.specs.Lifecycle.{step_of}
 use Rattle.yf_server.specs.Parameters.{changed, closed, opened}
 
--- the id of an answer: that of the request, and null for a message that is none
+-- the id of a response: the id of the request, or null for an invalid message
 abbrev pub id_of : Kind → Data
 id_of (request id method) = id
 id_of (notification method) = null
@@ -89,7 +89,7 @@ abbrev pub after_any : Encoding → List ℕ → Option OpenText → Option Even
 after_any e uri was None = was
 after_any e uri was (Some event) = after_event e uri was event
 
--- what a server knows that matters for the document with one URI
+-- the knowledge of a server that matters for the document with one URI
 pub record Knows : Type 0 where
   pub phase : Phase
   pub encoding : Encoding
@@ -126,7 +126,7 @@ initialize_result e = object (member (codes "capabilities") (object
     (member (codes "change") (number (unsigned 2)) (member (codes "openClose") (boolean true) no_members)))
     no_members)))) no_members)
 
--- what is sent for a task, if anything
+-- the message that is sent for a task, if any
 abbrev pub IsAnswer : Data → Encoding → Task → Option Data → Type 0
 IsAnswer id e Initialize sent = sent ≡ Some (reply id (initialize_result e))
 IsAnswer id e Shutdown sent = sent ≡ Some (reply id null)
@@ -148,19 +148,19 @@ pub record IsLogged (sent : Option Data) : Type 0 where
   pub text : List ℕ
   pub is : sent ≡ Some (log_message text)
 
--- a client hears of what could not be done
+-- the warning to the client if an action failed
 abbrev pub IsNote : Outcome → Option Data → Type 0
 IsNote Outcome.Done sent = sent ≡ None
 IsNote Outcome.NotOpen sent = IsLogged sent
 IsNote Outcome.OldVersion sent = IsLogged sent
 IsNote Outcome.ReversedRange sent = IsLogged sent
 
--- a client hears of what could not be done with a notification, and of one on a document whose parameters are malformed
+-- the warning to the client if a notification could not be handled, or if one on a document has malformed parameters
 abbrev pub IsNoteOf : Encoding → List OpenDocument → List ℕ → Option Event → Option Data → Type 0
 IsNoteOf e documents method None sent = MatchBool (is_of_document method) (IsLogged sent) (sent ≡ None)
 IsNoteOf e documents method (Some event) sent = IsNote (outcome_of e (find event.uri documents) event.act) sent
 
--- what is sent, by what the formatting of a text gives
+-- the message that is sent, by the formatting of a text
 abbrev pub Sends : TextClaim → Server → Data → Option Data → Type 0
 Sends claim server d sent = MatchBool (is_notification (step_of server.phase (kind_of d)).task)
     (IsNoteOf server.encoding server.documents.items (method_of (kind_of d)) (event_of (method_of (kind_of d)) d) sent)
@@ -180,7 +180,7 @@ abbrev pub response_ids : List Data → List Data
 response_ids [] = []
 response_ids (d ∷ rest) = response_id (kind_of d) ++ response_ids rest
 
--- the ids of the answers that messages want
+-- the ids of the responses that messages want
 abbrev pub wanted_id : Kind → List Data
 wanted_id (request id method) = id ∷ []
 wanted_id (notification method) = []
@@ -191,8 +191,8 @@ abbrev pub wanted_ids : List Data → List Data
 wanted_ids [] = []
 wanted_ids (d ∷ rest) = wanted_id (kind_of d) ++ wanted_ids rest
 
--- what a server does with one message: what it knows of each document is what the message makes of it, one answer is
--- sent to a request and none to a notification, and no answer has another id
+-- one step of a server with a message: its knowledge of each document changes as the message says, one response is sent
+-- to a request and none to a notification, and no response has another id
 pub record StepsTo (claim : TextClaim) (before after : Server) (d : Data) (reaction : Reaction)
     : Type 0 where
   pub task : reaction.task ≡ (step_of before.phase (kind_of d)).task
@@ -206,14 +206,14 @@ pub record IsSame (before after : Server) : Type 0 where
   pub encoding : after.encoding ≡ before.encoding
   pub documents : after.documents.items ≡ before.documents.items
 
--- what a server sends for messages, and what it is then: one step for each message, in order
+-- the messages that a server sends, and the server after them: one step for each message, in order
 pub data Steps (claim : TextClaim) : Server → List Data → List Data → Server → Type 0 where
   no_step : {server : Server} → Steps claim server [] [] server
   one_step : {before middle after : Server} {d : Data} {rest sent : List Data} (reaction : Reaction)
       → StepsTo claim before middle d reaction → Steps claim middle rest sent after
       → Steps claim before (d ∷ rest) (option_to_list (option_map view reaction.message) ++ sent) after
 
--- what a server does with messages
+-- the run of a server over messages
 pub record RunsTo (claim : TextClaim) (before after : Server) (received sent : List Data)
     : Type 0 where
   pub steps : Steps claim before received sent after

@@ -1,4 +1,4 @@
-//! What a server asks about the text of a document.
+//! The questions of a server about the text of a document.
 ghost use Rattle.std.specs.Prelude.{◌≡◌, IfOk, map, option_map, string_bytes};
 ghost use Rattle.yf_server.specs.Analysis.{TextClaim, problem_read, severity_number};
 
@@ -14,7 +14,7 @@ pub enum Severity {
 }
 
 impl Severity {
-    /// The number that the protocol gives it.
+    /// Returns the number that the protocol gives the severity.
     pub fn number(self) -> u64
         ensures { result ≡ severity_number self }
     {
@@ -35,22 +35,22 @@ pub struct Problem {
     /// The byte offset at which it ends.
     pub end: usize,
     pub severity: Severity,
-    /// What it is called, for example the name of a rule.
+    /// Its name, for example that of a rule.
     pub code: &'static str,
-    /// What a client shows of it.
+    /// The text that a client shows.
     pub message: String,
 }
 
-/// What is known of texts: how they are formatted, and which problems they have.
+/// An analysis of texts: their formattings and their problems.
 pub trait Analysis {
-    /// What is known of texts.
+    /// The claim about texts.
     ghost claim: { Self → TextClaim };
 
-    /// Returns what the formatting of a text gives; `None` if the text cannot be formatted.
+    /// Returns the formatting of a text, or `None` if the text cannot be formatted.
     ///
     /// # Errors
     ///
-    /// `AllocError` if memory was refused.
+    /// `AllocError` if memory is refused.
     fn formatted(&self, alloc: Global, text: &str) -> Result<Option<String>, AllocError>
         ensures { IfOk result (λ new. (claim self.now).Formats text.now (option_map string_bytes new)) };
 
@@ -58,7 +58,7 @@ pub trait Analysis {
     ///
     /// # Errors
     ///
-    /// `AllocError` if memory was refused.
+    /// `AllocError` if memory is refused.
     fn problems(&self, alloc: Global, text: &str) -> Result<Vec<Problem>, AllocError>
         ensures { IfOk result (λ problems. (claim self.now).Finds text.now (map problem_read problems.items)) };
 }

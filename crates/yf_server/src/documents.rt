@@ -17,7 +17,7 @@ pub struct OpenDocument {
     pub document: Document,
 }
 
-/// What a client does with a document.
+/// An action of a client on a document.
 #[derive(Drop)]
 pub enum DocumentAct<'v> {
     /// It opens the document (`textDocument/didOpen`).
@@ -34,14 +34,14 @@ pub enum DocumentAct<'v> {
     Close,
 }
 
-/// What a client does with the document of a URI.
+/// An action of a client on the document with a URI.
 #[derive(Drop)]
 pub struct DocumentEvent<'v> {
     pub uri: &'v str,
     pub act: DocumentAct<'v>,
 }
 
-/// What became of an event.
+/// The outcome of an event.
 #[derive(Clone, Copy)]
 pub enum Outcome {
     /// The document was opened, changed or closed.
@@ -186,14 +186,14 @@ fn open(
     )
 }
 
-/// Does what a client asks for with a document, and returns what became of it.
+/// Handles a client's event for a document, and returns the outcome.
 ///
-/// A document that is opened while it is open gets the new version and text. A document that cannot be changed stays as
-/// it was.
+/// A document that is opened while it is open gets the new version and text. A document that cannot be changed is
+/// unchanged.
 ///
 /// # Errors
 ///
-/// `AllocError` if memory was refused; every document is as it was before then.
+/// `AllocError` if memory is refused; every document is then unchanged.
 pub fn act(
     alloc: Global,
     documents: &mut Vec<OpenDocument>,

@@ -75,7 +75,7 @@ fn edits_value(alloc: Global, edits: &[TextEdit<'_>]) -> Result<Value, AllocErro
 ///
 /// # Errors
 ///
-/// `AllocError` if memory was refused.
+/// `AllocError` if memory is refused.
 pub fn edits_to(
     alloc: Global,
     document: &Document,

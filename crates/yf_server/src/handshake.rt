@@ -1,4 +1,4 @@
-//! What client and server agree on at `initialize`.
+//! The result of `initialize`, on which client and server agree.
 ghost use Rattle.std.specs.Prelude.{◌≡◌, map};
 ghost use Rattle.std.specs.Option.{unwrap_or};
 ghost use Rattle.serde_json.specs.Find.{as_str};

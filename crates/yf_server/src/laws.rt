@@ -1,7 +1,7 @@
-//! What follows from the definitions.
+//! Consequences of the definitions.
 ghost use Rattle.yf_server.specs.Laws.{EachIsAnswered};
 
-/// In every phase exactly those messages are answered that want an answer: requests, and messages that are none.
+/// In every phase, the server answers exactly the messages that want an answer: requests, and invalid messages.
 pub fn each_is_answered()
     ensures { EachIsAnswered }
 {}

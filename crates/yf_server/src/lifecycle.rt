@@ -1,4 +1,4 @@
-//! What a server does with each message, by how far it is.
+//! The steps of a server for each message, by its phase.
 ghost use Rattle.std.specs.Prelude.{◌≡◌};
 ghost use Rattle.yf_json_rpc.specs.Messages.{kind_read};
 ghost use Rattle.yf_server.specs.Lifecycle.{notification_step, request_step, step_of};
@@ -6,7 +6,7 @@ ghost use Rattle.yf_server.specs.Lifecycle.{notification_step, request_step, ste
 use yf_json_rpc::error_code::ErrorCode;
 use yf_json_rpc::message::Message;
 
-/// How far a server is.
+/// The phase of a server.
 #[derive(Clone, Copy)]
 pub enum Phase {
     /// No request `initialize` has come.
@@ -17,33 +17,33 @@ pub enum Phase {
     ShutDown,
 }
 
-/// What a server does with a message.
+/// The task of a server for a message.
 #[derive(Clone, Copy)]
 pub enum Task {
-    /// It answers `initialize` with its capabilities.
+    /// It responds to `initialize` with its capabilities.
     Initialize,
-    /// It answers `shutdown` with null.
+    /// It responds to `shutdown` with null.
     Shutdown,
-    /// It answers a request that is not of the life cycle.
+    /// It responds to a request that is not of the life cycle.
     Request,
-    /// It answers with an error.
+    /// It responds with an error.
     Fail(ErrorCode),
-    /// It acts on a notification that is not of the life cycle, and answers nothing.
+    /// It handles a notification that is not of the life cycle, without a response.
     Notification,
     /// It does nothing.
     Ignore,
-    /// It ends, after `shutdown` with success.
+    /// It ends, with success if `shutdown` has come.
     Exit { is_success: bool },
 }
 
-/// How far a server is after a message, and what it does with it.
+/// The phase of a server after a message, and its task for the message.
 #[derive(Clone, Copy)]
 pub struct Step {
     pub phase: Phase,
     pub task: Task,
 }
 
-/// Returns what a server does with a request.
+/// Returns the step of a server for a request.
 fn request_step(phase: Phase, method: &str) -> Step
     ensures { result ≡ request_step phase method.now }
 {
@@ -85,7 +85,7 @@ fn request_step(phase: Phase, method: &str) -> Step
     }
 }
 
-/// Returns what a server does with a notification.
+/// Returns the step of a server for a notification.
 fn notification_step(phase: Phase, method: &str) -> Step
     ensures { result ≡ notification_step phase method.now }
 {
@@ -116,7 +116,7 @@ fn notification_step(phase: Phase, method: &str) -> Step
     }
 }
 
-/// Returns what a server does with a message, and how far it is then.
+/// Returns the step of a server for a message, with the phase after it.
 pub fn next_step(phase: Phase, message: Message<'_>) -> Step
     ensures { result ≡ step_of phase (kind_read message.entry) }
 {

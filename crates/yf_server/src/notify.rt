@@ -1,4 +1,4 @@
-//! What a server does with notifications on documents.
+//! Notifications on documents.
 ghost use Rattle.std.specs.Prelude.{◌≡◌, ◌≢◌, ℕ, List, None, MatchBool, IfOk, OnErr, OnOk, option_map};
 ghost use Rattle.serde_json.specs.View.{view};
 ghost use Rattle.yf_server.specs.Documents.{FollowsEvent, act_read, event_read, find, outcome_of};
@@ -45,7 +45,7 @@ fn event_of<'v>(
     }
 }
 
-/// Returns what the client's log shows of an outcome.
+/// Returns the text for an outcome in the client's log.
 fn warning(outcome: Outcome) -> &'static str {
     match outcome {
         Outcome::Done => "the document was changed",
@@ -95,7 +95,7 @@ fn note_of(alloc: Global, outcome: Outcome) -> Result<Option<Value>, AllocError>
     }
 }
 
-/// Does what an event asks for, and returns the warning if it could not be done.
+/// Handles an event, and returns the warning if it failed.
 fn act_on(
     alloc: Global,
     documents: &mut Vec<OpenDocument>,
@@ -121,7 +121,8 @@ pub fn is_of_document(method: &str) -> bool
         || method == "textDocument/didClose"
 }
 
-/// Returns the warning for a notification on a document whose parameters are malformed; `None` for any other method.
+/// Returns the warning for a notification on a document if its parameters are malformed, or `None` for any other
+/// method.
 fn malformed(alloc: Global, method: &str) -> Result<Option<Value>, AllocError>
     ensures { IfOk result (λ note. MatchBool (is_of_document method.now) (IsLogged (option_map view note))
         (option_map view note ≡ None)) }

@@ -102,7 +102,7 @@ fn push_change<'v>(
     Ok(())
 }
 
-/// Returns the changes that values are, in order; `None` if one of them is no change.
+/// Returns the changes that the values describe, in order, or `None` if one of them is not a change.
 fn changes_of<'v>(
     alloc: Global,
     values: &'v [Value],
@@ -181,7 +181,7 @@ fn changed_document<'v>(
 ///
 /// # Errors
 ///
-/// `AllocError` if memory was refused.
+/// `AllocError` if memory is refused.
 pub fn changed(alloc: Global, params: &Value) -> Result<Option<DocumentEvent<'_>>, AllocError>
     ensures { IfOk result (λ event. option_map event_read event ≡ changed (view params.now)) }
 {

@@ -1,4 +1,4 @@
-//! What a server publishes of documents.
+//! Publications for documents.
 ghost use Rattle.std.specs.Prelude.{◌≡◌, ◌++◌, ◌∷◌, [], Some, IfOk, OnOk, map, option_map};
 ghost use Rattle.serde_json.specs.View.{view};
 ghost use Rattle.yf_json_rpc.specs.Messages.{kind_read};
@@ -84,7 +84,7 @@ fn diagnostics(
     Ok(Value::Array(values))
 }
 
-/// Returns what is published of a document, by its problems as JSON.
+/// Returns the publication for a document, from its problems as JSON.
 fn published(
     alloc: Global,
     uri: &str,
@@ -97,7 +97,7 @@ fn published(
     json!(in alloc; {"uri": uri, "version": version, "diagnostics": listed})
 }
 
-/// Returns what is published of a document that is not open.
+/// Returns the publication for a document that is not open.
 fn cleared(alloc: Global, uri: &str) -> Result<Value, AllocError>
     ensures { IfOk result (λ value. view value ≡ cleared uri.now) }
 {
@@ -112,7 +112,7 @@ fn publication(alloc: Global, params: &Value) -> Result<Value, AllocError>
     notification(alloc, "textDocument/publishDiagnostics", params)
 }
 
-/// Returns what is published of an open document.
+/// Returns the publication for an open document.
 fn publish_open<A: Analysis>(
     alloc: Global,
     analysis: &A,
@@ -130,7 +130,7 @@ fn publish_open<A: Analysis>(
     publication(alloc, &params)
 }
 
-/// Returns what is published of the document with a URI.
+/// Returns the publication for the document with a URI.
 fn publish_uri<A: Analysis>(
     alloc: Global,
     analysis: &A,
@@ -153,12 +153,12 @@ fn publish_uri<A: Analysis>(
     }
 }
 
-/// Returns what a server publishes after a message: after a notification on a document, the problems of the document
-/// as it is then, with its version, or no problems if it is not open.
+/// Returns the publication of a server after a message: after a notification on a document, the problems of the
+/// document then, with its version, or no problems if it is not open.
 ///
 /// # Errors
 ///
-/// `AllocError` if memory was refused.
+/// `AllocError` if memory is refused.
 pub fn publish<A: Analysis>(
     alloc: Global,
     analysis: &A,

@@ -1,4 +1,4 @@
-//! The answers to requests that are not of the life cycle.
+//! Responses to requests that are not of the life cycle.
 ghost use Rattle.std.specs.Prelude.{◌≡◌, List, ℕ, Option, Some, IfOk, option_map};
 ghost use Rattle.serde_json.specs.View.{view};
 ghost use Rattle.yf_json_rpc.specs.Messages.{reply};
@@ -16,7 +16,7 @@ use yf_json_rpc::message::{failure, reply};
 use yf_positions::document::Document;
 use yf_positions::encoding::Encoding;
 
-/// Returns what a client shows of an error.
+/// Returns the text that a client shows for an error.
 fn text_of(code: ErrorCode) -> &'static str {
     match code {
         ErrorCode::ParseError => "the message is no JSON",
@@ -66,7 +66,7 @@ fn formatting<A: Analysis>(
     }
 }
 
-/// Returns the answer for the document of a URI.
+/// Returns the response for the document with a URI.
 fn answer_for<A: Analysis>(
     alloc: Global,
     analysis: &A,
@@ -88,14 +88,14 @@ fn answer_for<A: Analysis>(
     }
 }
 
-/// Returns the answer to a request that is not of the life cycle.
+/// Returns the response to a request that is not of the life cycle.
 ///
 /// `textDocument/formatting` gets the edits that format an open document, or null if it cannot be formatted. Any other
 /// method gets the error -32601, and a document that is not open the error -32602.
 ///
 /// # Errors
 ///
-/// `AllocError` if memory was refused.
+/// `AllocError` if memory is refused.
 pub fn respond<A: Analysis>(
     alloc: Global,
     analysis: &A,

@@ -1,4 +1,4 @@
-//! What a server does with each message.
+//! The steps of a server for messages.
 ghost use Rattle.std.specs.Prelude.{◌≡◌, [], ◌++◌, Some, IfOk, OnErr, OnOk, map, option_map, option_to_list};
 ghost use Rattle.serde_json.specs.View.{view};
 ghost use Rattle.yf_json_rpc.specs.Messages.{kind_read, reply};
@@ -17,7 +17,7 @@ use yf_json_rpc::error_code::ErrorCode;
 use yf_json_rpc::message::{Message, message_of, reply};
 use yf_positions::encoding::Encoding;
 
-/// A server: how far it is, the encoding of positions, and the open documents.
+/// A server: its phase, the encoding of positions, and the open documents.
 #[derive(Drop)]
 pub struct Server {
     pub phase: Phase,
@@ -25,7 +25,7 @@ pub struct Server {
     pub documents: Vec<OpenDocument>,
 }
 
-/// What a server does with a message: its task, and the message that it sends, if it sends one.
+/// The reaction of a server to a message: its task, and the message that it sends, if any.
 #[derive(Drop)]
 pub struct Reaction {
     pub task: Task,
@@ -59,7 +59,7 @@ pub fn is_notification(task: Task) -> bool
     }
 }
 
-/// Returns whether a task is to answer a request that is not of the life cycle.
+/// Returns whether the task is a response to a request that is not of the life cycle.
 fn is_request(task: Task) -> bool
     ensures { result ≡ is_request task }
 {
@@ -130,7 +130,7 @@ fn failure_to(alloc: Global, message: Message<'_>, code: ErrorCode) -> Result<Va
     }
 }
 
-/// Returns the answer to a message, if it gets one.
+/// Returns the response to a message, if it gets one.
 fn answer_to(
     alloc: Global,
     message: Message<'_>,
@@ -165,7 +165,7 @@ fn answer_to(
     }
 }
 
-/// Returns the answer to a request that is not of the life cycle.
+/// Returns the response to a request that is not of the life cycle.
 fn respond_to<A: Analysis>(
     alloc: Global,
     analysis: &A,
@@ -195,7 +195,7 @@ fn respond_to<A: Analysis>(
 }
 
 impl Server {
-    /// A server that no message has reached.
+    /// Returns a server that has received no message.
     pub fn new(alloc: Global) -> Server
         ensures phase { result.phase ≡ Phase.Fresh }
         ensures encoding { result.encoding ≡ Encoding.Utf16 }
@@ -209,11 +209,11 @@ impl Server {
     }
 }
 
-/// Does what a message asks for, and returns the task and the message that the server sends.
+/// Handles a message, and returns the task and the message that the server sends.
 ///
 /// # Errors
 ///
-/// `AllocError` if memory was refused; the server is as it was before then.
+/// `AllocError` if memory is refused; the server is then unchanged.
 pub fn step<A: Analysis>(
     alloc: Global,
     analysis: &A,
@@ -275,11 +275,11 @@ fn push_any(sent: &mut Vec<Value>, message: Option<Value>) -> Result<(), AllocEr
     }
 }
 
-/// Does what messages ask for, in order, and returns the messages that the server sends.
+/// Handles messages in order, and returns the messages that the server sends.
 ///
 /// # Errors
 ///
-/// `AllocError` if memory was refused.
+/// `AllocError` if memory is refused.
 pub fn run<A: Analysis>(
     alloc: Global,
     analysis: &A,

@@ -1,4 +1,4 @@
--- what is read
+-- reading
 pub mod ReceiveLemmas
 -- sessions, message by message
 pub mod SessionLemmas

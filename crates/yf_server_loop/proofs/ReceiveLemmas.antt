@@ -1,4 +1,4 @@
--- What is read before a message is found.
+-- The bytes that are read before a message is found.
 use Rattle.std.proofs.Common.{◌≡◌, ◌⊎◌, ◌∙◌, ◌≤◌, ◌++◌, List, [], ℕ, Option, ap, append-nil, append_assoc, inl, inr, length, refl, sym}
 use Rattle.std.specs.Io.KnownBytes.{Consumes}
 use Rattle.std.proofs.KnownBytes.{Consumes-nil, Consumes-trans}

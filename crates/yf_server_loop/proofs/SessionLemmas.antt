@@ -18,7 +18,7 @@ use Rattle.yf_server_loop.specs.Received.{Grows, IsNoMessage, Reads}
 use Rattle.yf_server_loop.specs.Sessions.{Advances, BreaksOff, Ends, IsFresh, Moment, Session, SessionRuns, Stays, Turns, Writes}
 use Rattle.yf_server_loop.specs.Sessions.Serves.{none_served, one_more}
 
--- the message at the front of bytes, without what follows it
+-- the message at the front of bytes, without the bytes after it
 pub record FrontFrame (bytes body rest : List ℕ) : Type 0 where
   pub message : List ℕ
   pub split : bytes ≡ message ++ rest
@@ -61,7 +61,7 @@ pub frames_push : (limit : ℕ) (a message body : List ℕ) (xs : List (List ℕ
     → IsFrame message limit body [] → AreFrames limit (a ++ message) (xs ++ body ∷ [])
 frames_push limit a message body xs h f = frames_join limit a message xs (body ∷ []) h (one_frame f no_frame)
 
--- what was written, one after the other
+-- outputs, one after another
 pub writes_nothing : (now : Moment) (input : Option (List ℕ)) (failed : Bool)
     → Writes now (record now { input = input; input_failed = failed }) []
 writes_nothing now input failed = record { appended = Appends-nil now.output; same = refl }
@@ -114,7 +114,7 @@ module _ (claim : TextClaim) (first : Moment) where
         serves = s.serves;
       }
 
-  -- the session goes on, and so many messages were handled
+  -- the session goes on, and `count` messages were handled
   pub record InSession (now : Moment) (server : Server) (inbox : List ℕ) (count : ℕ) : Type 0 where
     pub bodies : List (List ℕ)
     pub sent : List ℕ
@@ -248,7 +248,7 @@ module _ (claim : TextClaim) (first : Moment) where
     ends = (s.session, s.writes, s.works, subst (λ n. 2 ^ 64 - 1 ≤ n) (sym s.counts) many);
   }
 
--- a turn in which no message was handled
+-- a turn that handled no message
 pub turn_ended : (claim : TextClaim) (input left output : Option (List ℕ)) (failed fails broken : Bool)
     (server next : Server) (inbox rest : List ℕ) (why : Ended) → Grows input left inbox rest (Err why)
     → IsNoMessage left failed fails rest why
@@ -279,7 +279,7 @@ turn_ended claim input left output failed fails broken server next inbox rest en
   e,
 )
 
--- a turn in which a message was handled
+-- a turn that handled a message
 pub advances_by : (claim : TextClaim) (before after : Moment) (server next : Server) (inbox grown rest answer : List ℕ)
     (exit : Option Bool) (content : Content) → Reads before.input after.input inbox grown
     → after.input_failed ≡ before.input_failed → IsFrameAt grown CONTENT_LIMIT content

@@ -1,4 +1,4 @@
--- What is done with the content of a message, and what is written for it.
+-- The handling of a message's content, and the output for it.
 use Rattle.std.specs.Prelude.{◌≡◌, ◌⊎◌, ℕ, List, [], Bool, Option, None, Some, option_map}
 use Rattle.std.specs.Str.{IsUtf8}
 use Rattle.serde_json.specs.Data.{Data, null}
@@ -15,12 +15,12 @@ use Rattle.yf_server.specs.Edits.{FailsWith}
 use Rattle.yf_server.specs.Publish.{IsPublished}
 use Rattle.yf_server.specs.Steps.{IsSame, StepsTo}
 
--- the JSON value that a content is, or none if it is no JSON
+-- the JSON value of a content, or none if it is not JSON
 abbrev pub Parses : List ℕ → Option Data → Type 0
 Parses body None = IsUtf8 body → read body ≡ None
 Parses body (Some value) = IsUtf8 body × (read body ≡ Some value)
 
--- a message is written after bytes, or nothing if there is none
+-- a message is written after bytes, or nothing if there is no message
 abbrev pub Adds : List ℕ → List ℕ → Option Data → Type 0
 Adds before after None = after ≡ before
 Adds before after (Some value) = AddsMessage before after value
@@ -29,7 +29,7 @@ Adds before after (Some value) = AddsMessage before after value
 abbrev pub IsWritten : List ℕ → Data → Type 0
 IsWritten bytes value = AddsMessage [] bytes value
 
--- two messages are written, one after the other, if they are there
+-- up to two messages are written, one after the other
 pub record AreWritten (bytes : List ℕ) (first second : Option Data) : Type 0 where
   pub front : List ℕ
   pub before : Adds [] front first
@@ -45,7 +45,7 @@ exit_of Notification = None
 exit_of Ignore = None
 exit_of (Exit is_success) = Some is_success
 
--- what is no JSON gets an error with the id null, and the server is as it was
+-- a content that is not JSON gets an error with the id null, and the server is unchanged
 pub record IsRefused (before : Server) (answer : List ℕ) (after : Server) (exit : Option Bool) : Type 0 where
   pub same : after ≡ before
   pub goes_on : exit ≡ None
@@ -53,7 +53,7 @@ pub record IsRefused (before : Server) (answer : List ℕ) (after : Server) (exi
   pub fails : FailsWith null ParseError (Some sent)
   pub written : IsWritten answer sent
 
--- memory for a request was refused: it gets an error, and the server is as it was
+-- memory for a request was refused: it gets an error, and the server is unchanged
 pub record IsUndone (before : Server) (value : Data) (answer : List ℕ) (after : Server) (exit : Option Bool) : Type 0
   where
     pub same : IsSame before after
@@ -65,7 +65,7 @@ pub record IsUndone (before : Server) (value : Data) (answer : List ℕ) (after 
     pub fails : FailsWith id RequestFailed (Some sent)
     pub written : IsWritten answer sent
 
--- the server takes one step with a message, and what it sends is written, and then what it publishes
+-- the server takes one step with a message; first its response is written, and then its publication
 pub record IsStep (claim : TextClaim) (before : Server) (value : Data) (answer : List ℕ) (after : Server)
     (exit : Option Bool) : Type 0 where
   pub reaction : Reaction
@@ -80,7 +80,7 @@ Reacts claim before None answer after exit = IsRefused before answer after exit
 Reacts claim before (Some value) answer after exit =
     IsStep claim before value answer after exit ⊎ IsUndone before value answer after exit
 
--- What a server does with the content of a message, what is written for it, and whether the session ends with it.
+-- The effect of a message's content on a server, the output for it, and whether it ends the session.
 pub record Handles (claim : TextClaim) (before : Server) (body answer : List ℕ) (after : Server) (exit : Option Bool)
     : Type 0 where
   pub value : Option Data

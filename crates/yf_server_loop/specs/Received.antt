@@ -1,4 +1,4 @@
--- What is read before a message is found, and why none is found.
+-- The bytes that are read before a message is found, or the reason why none is found.
 use Rattle.std.specs.Prelude.{◌≡◌, ◌⊎◌, ℕ, ◌<◌, ◌≤◌, List, [], ◌++◌, length, Bool, true, Option, Result, Ok, Err}
 use Rattle.std.specs.Io.KnownBytes.{Consumes, IsAtEnd}
 use Rattle.yf_json_rpc.specs.declared.frame.Content.{Content}
@@ -15,8 +15,8 @@ BeginsWithNone bytes = (body rest : List ℕ) → IsFrame bytes CONTENT_LIMIT bo
 abbrev pub NeverBegins : List ℕ → Type 0
 NeverBegins bytes = (more : List ℕ) → BeginsWithNone (bytes ++ more)
 
--- What was read was added. If memory was refused, some of it may be missing.
--- (known, left: what the reader had to give, before and after; before, after: the bytes that are in no message yet)
+-- The bytes that were read were added. If memory was refused, some of them may be missing.
+-- (known, left: the rest of the reader's input, before and after; before, after: the bytes that are in no message yet)
 pub record Reads (known left : Option (List ℕ)) (before after : List ℕ) : Type 0 where
   pub more : List ℕ
   pub consumed : Consumes known left more

@@ -1,4 +1,4 @@
--- What a server does in a session: from the bytes that it reads to those that it writes.
+-- The session of a server: from the bytes that it reads to those that it writes.
 use Rattle.std.specs.Prelude.{◌≡◌, ℕ, ◌-◌, ◌≤◌, ◌^◌, List, [], ◌∷◌, ◌++◌, length, Bool, Option, None, Some}
 use Rattle.std.specs.Io.KnownBytes.{Consumes}
 use Rattle.yf_json_rpc.specs.Streams.{AreFrames}
@@ -14,8 +14,8 @@ use Rattle.yf_server_loop.specs.declared.receive.TheConstants.{CONTENT_LIMIT}
 use Rattle.yf_server_loop.specs.Handled.{Handles}
 use Rattle.yf_server_loop.specs.Received.{IsNoMessage}
 
--- The two streams at a moment: what the reader has still to give and what the writer was given, if that is known, and
--- whether a call of each has failed.
+-- The two streams at a moment: the rest of the reader's input and the writer's output, if known, and whether a call of
+-- each has failed.
 pub record Moment : Type 0 where
   pub input : Option (List ℕ)
   pub input_failed : Bool
@@ -31,7 +31,7 @@ moment_of remaining reader_failed contents writer_failed reader writer = record 
   output_failed = writer_failed writer;
 }
 
--- All of an answer was written; or the writer failed after a part of it.
+-- All of a response was written, or the writer failed after a part of it.
 abbrev pub Writes : Moment → Moment → List ℕ → Type 0
 Writes before after text = Wrote before.output after.output before.output_failed after.output_failed text
 
@@ -44,7 +44,7 @@ pub record IsFresh (server : Server) : Type 0 where
   pub encoding : server.encoding ≡ Utf16
   pub documents : server.documents.items ≡ []
 
--- What a server does with the contents of messages, in order, and what is written for them: the answer to each, in
+-- The effect of the contents of messages on a server, in order, and the output for them: the response to each, in
 -- order. The last one may end the session. (exit: whether it does, and if so whether with success)
 pub data Serves (claim : TextClaim) (start : Server) : List (List ℕ) → List ℕ → Server → Option Bool → Type 0 where
   none_served : Serves claim start [] [] start None
@@ -52,8 +52,8 @@ pub data Serves (claim : TextClaim) (start : Server) : List (List ℕ) → List 
       → Serves claim start bodies sent before None → Handles claim before body answer after exit
       → Serves claim start (bodies ++ body ∷ []) (sent ++ answer) after exit
 
--- The messages with these contents were read, and then some bytes of no whole message, and the server did what the
--- messages ask for. (rest: those bytes; sent: what is written for the messages)
+-- The messages with these contents were read and handled, and then some bytes of no whole message were read. (rest:
+-- those bytes; sent: the output for the messages)
 pub record Session (claim : TextClaim) (first now : Moment) (bodies : List (List ℕ)) (rest sent : List ℕ)
     (server : Server) (exit : Option Bool) : Type 0 where
   pub start : Server
@@ -117,8 +117,8 @@ SessionEnds claim first last bodies rest sent server ended.TooMany =
 SessionEnds claim first last bodies rest sent server why =
     Session claim first last bodies rest sent server None × Writes first last sent × Ends first last rest why
 
--- A session: of the bytes that were read, those of the messages that were handled, and the rest; what was written is the
--- answers to these messages, in order, and nothing else; and why the session ended.
+-- A session: the messages that were read and handled, and the rest of the bytes that were read. The output is exactly
+-- the responses to these messages, in order. `why` is why the session ended.
 pub record SessionRuns (claim : TextClaim) (first last : Moment) (why : Ended) : Type 0 where
   pub bodies : List (List ℕ)
   pub rest : List ℕ

@@ -9,7 +9,7 @@ pub enum Ended {
     Exit { is_success: bool },
     /// The input ended.
     EndOfInput,
-    /// The input goes on with no message.
+    /// The rest of the input begins with no message.
     Frame(FrameError),
     /// A read failed.
     ReadFailed,

@@ -1,4 +1,4 @@
-//! What is done with the content of a message.
+//! The handling of a message's content.
 ghost use Rattle.std.specs.Prelude.{◌≡◌, ◌≤◌, ℕ, List, None, Some, drop, length, slice_range, IfOk, OnOk, option_map};
 ghost use Rattle.serde_json.specs.Data.{Data};
 ghost use Rattle.serde_json.specs.View.{view};
@@ -18,7 +18,7 @@ use yf_server::publish::publish;
 use yf_server::respond::failure_of;
 use yf_server::step::{Server, step};
 
-/// What is done with the content of a message.
+/// The result of handling a message's content.
 #[derive(Drop)]
 pub struct Handled {
     /// The bytes that are sent.
@@ -27,7 +27,7 @@ pub struct Handled {
     pub exit: Option<bool>,
 }
 
-/// Returns the JSON value that a content is; `None` if it is no JSON.
+/// Returns the JSON value of a content, or `None` if it is not JSON.
 fn parse(alloc: Global, body: &[u8]) -> Result<Option<Value>, AllocError>
     ensures { IfOk result (λ found. Parses body.now (option_map view found)) }
 {
@@ -59,7 +59,7 @@ fn take_value(
     Ok(value)
 }
 
-/// Adds a message to what is written, if there is one.
+/// Adds a message to the output, if there is a message.
 fn add(alloc: Global, out: &mut Vec<u8>, message: &Option<Value>) -> Result<(), AllocError>
     ensures { OnOk result (Adds out.old.items out.new.items (option_map view message.now)) }
 {
@@ -69,7 +69,7 @@ fn add(alloc: Global, out: &mut Vec<u8>, message: &Option<Value>) -> Result<(), 
     }
 }
 
-/// Returns two messages as they are written, one after the other, if they are there.
+/// Returns up to two messages as they are written, one after the other.
 fn written(
     alloc: Global,
     first: &Option<Value>,
@@ -84,7 +84,7 @@ fn written(
     Ok(bytes)
 }
 
-/// Returns the response that a request failed, as it is written.
+/// Returns the bytes of the error response to a request that failed.
 fn failed(alloc: Global, id: &Value, code: ErrorCode) -> Result<Handled, AllocError>
     ensures answer { IfOk result (λ handled. (sent : Data) × FailsWith (view id.now) code (Some sent)
         × IsWritten handled.answer.items sent) }
@@ -111,7 +111,7 @@ fn exit_of(task: Task) -> Option<bool>
     }
 }
 
-/// Answers a request for which memory was refused. For any other message there is no answer.
+/// Returns the error response to a request for which memory was refused, and no bytes for any other message.
 fn undone(alloc: Global, value: &Value) -> Result<Handled, AllocError>
     ensures { IfOk result (λ handled. (id : Data) × (method : List ℕ) × (kind_of (view value.now) ≡ request id method)
         × (handled.exit ≡ None) × ((sent : Data) × FailsWith id RequestFailed (Some sent)
@@ -125,7 +125,7 @@ fn undone(alloc: Global, value: &Value) -> Result<Handled, AllocError>
     }
 }
 
-/// Does what a message asks for.
+/// Handles a message.
 fn take_step<A: Analysis>(
     alloc: Global,
     analysis: &A,
@@ -147,7 +147,7 @@ fn take_step<A: Analysis>(
     })
 }
 
-/// Does what a message asks for. What is no JSON gets an error.
+/// Handles a message. A content that is not JSON gets an error response.
 fn react<A: Analysis>(
     alloc: Global,
     analysis: &A,
@@ -163,11 +163,11 @@ fn react<A: Analysis>(
     }
 }
 
-/// Takes the first message out of the inbox, and does what it asks for.
+/// Takes the first message out of the inbox and handles it.
 ///
 /// # Errors
 ///
-/// `AllocError` if memory was refused; the message may be done then, and is not answered.
+/// `AllocError` if memory is refused. The message may have taken effect then, but has no response.
 pub fn handle<A: Analysis>(
     alloc: Global,
     analysis: &A,

@@ -10,18 +10,18 @@ use yf_lines::watched::Source;
 /// The most bytes that the content of a message may have: 1 GiB.
 pub const CONTENT_LIMIT: usize = 1_073_741_824;
 
-/// The bytes after which a message must be complete: those of a content, and 64 KiB for the header section.
+/// The number of bytes after which a message must be complete: a content's, and 64 KiB for the header section.
 pub const MESSAGE_LIMIT: usize = 1_073_807_360;
 
-/// How many bytes a read takes at most.
+/// The most bytes that a read takes.
 pub const CHUNK: usize = 8192;
 
-/// Reads until the inbox begins with a message, and returns where its content is. Reads nothing if the inbox begins with
-/// a message already, so no read waits while a message is complete.
+/// Reads until the inbox begins with a message, and returns the span of its content. Reads nothing if the inbox already
+/// begins with a message, so no read waits while a message is complete.
 ///
 /// # Errors
 ///
-/// Why there is no further message.
+/// The reason why there is no further message.
 pub fn receive<R: Source>(reader: &mut R, inbox: &mut Vec<u8>) -> Result<Content, Ended>
     ensures message { IfOk result (λ content. IsFrameAt inbox.new.items CONTENT_LIMIT content) }
     ensures grows { Grows (R.remaining reader.old) (R.remaining reader.new) inbox.old.items inbox.new.items result }

@@ -10,7 +10,7 @@ use yf_lines::watched::{Sink, Source};
 use yf_server::analysis::Analysis;
 use yf_server::step::Server;
 
-/// Reads one message and does what it asks for. Returns how the session ends, if it does.
+/// Reads one message and handles it. Returns how the session ends, if it does.
 fn turn<A: Analysis, R: Source, W: Sink>(
     alloc: Global,
     analysis: &A,
@@ -41,8 +41,8 @@ fn turn<A: Analysis, R: Source, W: Sink>(
     }
 }
 
-/// Serves a client: reads its messages, does what each asks for, and writes each answer before it reads on. Returns how
-/// the session ended.
+/// Serves a client: reads its messages, handles each, and writes each response before it reads on. Returns how the
+/// session ended.
 pub fn serve<A: Analysis, R: Source, W: Sink>(
     alloc: Global,
     analysis: &A,

@@ -1,4 +1,4 @@
--- What is written and the lines that are still to be written are all lines.
+-- The written lines and those still to be written are all lines.
 use Rattle.std.proofs.Common.{◌≡◌, ◌++◌, drop, false}
 use Rattle.yf_baseline.specs.Baselines.{lines_text}
 use Rattle.yf_baseline.proofs.baseline.push_lines.Given as goal

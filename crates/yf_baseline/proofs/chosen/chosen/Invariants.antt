@@ -1,4 +1,4 @@
--- The items so far, and those that are left, are all whose flags are set.
+-- The items so far and the remaining ones are all items with set flags.
 use Rattle.std.proofs.Common.{◌≡◌, ◌++◌, drop}
 use Rattle.yf_baseline.specs.Chosen.{chosen}
 use Rattle.yf_baseline.proofs.chosen.chosen.Given as goal

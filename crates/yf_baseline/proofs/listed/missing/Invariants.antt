@@ -1,4 +1,4 @@
--- The entries so far, and those that are left, are all that no longer occur.
+-- The entries so far and the remaining ones are all that no longer occur.
 use Rattle.std.proofs.Common.{◌≡◌, ◌++◌, drop, map, not, ◌&&◌}
 use Rattle.std.specs.Prelude.{filter}
 use Rattle.std.specs.BTreeSet.{contains_text}

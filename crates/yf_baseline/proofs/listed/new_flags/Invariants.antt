@@ -1,4 +1,4 @@
--- The flags so far, and those of the entries that are left, are all flags.
+-- The flags so far, and those of the remaining entries, are all flags.
 use Rattle.std.proofs.Common.{◌≡◌, ◌++◌, drop, map, not}
 use Rattle.std.specs.BTreeSet.{contains_text}
 use Rattle.yf_baseline.specs.Baselines.{entry_line}

@@ -1,4 +1,4 @@
--- The entries so far, and those of the values that are left, are all entries.
+-- The entries so far, and those of the remaining values, are all entries.
 use Rattle.std.proofs.Common.{◌≡◌, ◌++◌, drop, option_map}
 use Rattle.json.specs.Value.{items_view}
 use Rattle.yf_baseline.specs.Baselines.{entries_from}

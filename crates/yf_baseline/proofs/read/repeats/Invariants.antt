@@ -1,4 +1,4 @@
--- No line of the entries so far comes twice, and the set has these lines.
+-- No line of the entries so far occurs twice, and the set has these lines.
 use Rattle.yf_baseline.proofs.ListedLemmas.{Seen}
 use Rattle.yf_baseline.proofs.read.repeats.Given as goal
 

@@ -32,7 +32,7 @@ reached_still t w i p q xs ys (Some r) k l f none m =
     let longer : length ys ≡ length xs + length f.0 = ap length f.2 ∙ length-append xs f.0 in
     (subst (λ v. Chosen (Upto t (pos w) i q) r.end v) same (best_still k l f none m.0), omega (arith, m.1), m.2)
 
--- what the loop leaves
+-- the postcondition of the loop
 abbrev Left : List ℕ → ℕ → ℕ → List CommentValue → Option Reach → Type 0
 Left t w i xs o = (p : ℕ) × Chain (Row t) i p xs × Stuck (Row t p)
     × MatchOption o (Stuck (Upto t (pos w) i p)) (λ r. Chosen (Upto t (pos w) i p) r.end (take r.count xs))

@@ -1,4 +1,4 @@
--- Of one text nothing is written, and of two texts something.
+-- Nothing is written for equal texts, and something for different ones.
 use Rattle.std.proofs.Common.{rules}
 use Rattle.yf_diff.specs.Diff.{AddsDiff}
 use Rattle.yf_diff.proofs.ScriptsKept.{nothing_added}

@@ -1,4 +1,4 @@
--- The lines so far and those of the rest are all.
+-- The lines so far and those of the rest are all lines.
 use Rattle.std.proofs.Common.{◌≡◌, ◌++◌, length}
 use Rattle.yf_diff.specs.Texts.{lines_of}
 use Rattle.yf_diff.proofs.hashed_line.hashed_lines.Given as goal

@@ -1,4 +1,4 @@
--- What is counted, and what is left of the hunk, are all of it.
+-- The counted lines and the rest of the hunk are the whole hunk.
 use Rattle.std.proofs.Common.{◌≡◌, ◌+◌, ◌-◌, ◌≤◌, length, drop}
 use Rattle.yf_diff.specs.Script.{olds, news}
 use Rattle.yf_diff.specs.Unified.{hunk}

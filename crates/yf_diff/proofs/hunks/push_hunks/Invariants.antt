@@ -1,4 +1,4 @@
--- What is written, and what is left to write, are all.
+-- The written text and the text still to be written are the whole text.
 use Rattle.std.proofs.Common.{◌≡◌, ◌++◌, ◌-◌, ◌≤◌, length, drop}
 use Rattle.yf_diff.specs.Unified.{hunks}
 use Rattle.yf_diff.proofs.hunks.push_hunks.Given as goal

@@ -1,4 +1,4 @@
--- What has come and what is to come.
+-- The lines added so far and those still to be added.
 use Rattle.std.proofs.Common.{◌≡◌, ◌++◌, ◌-◌, ◌≤◌, drop}
 use Rattle.yf_diff.specs.Script.{olds, news, in_order}
 use Rattle.yf_diff.proofs.script.push_added.Given as goal

@@ -1,4 +1,4 @@
--- The script so far and what is left of both texts.
+-- The script so far and the rest of both texts.
 use Rattle.std.proofs.Common.{◌≡◌, true, false, ◌++◌, ◌+◌, ◌-◌, ◌≤◌, length, drop}
 use Rattle.yf_diff.specs.Script.{olds, news, in_order, came_last}
 use Rattle.yf_diff.proofs.script.script.Given as goal

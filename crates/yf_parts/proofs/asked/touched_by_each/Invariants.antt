@@ -1,4 +1,4 @@
--- The flags so far, and those of the hunks that are left.
+-- The flags so far, and those of the remaining hunks.
 use Rattle.std.proofs.Common.{◌≡◌, ◌++◌, drop}
 use Rattle.std.specs.Prelude.{map}
 use Rattle.yf_parts.specs.Asked.{touched_by}

@@ -1,4 +1,4 @@
--- The flags so far, and those that are left.
+-- The flags so far, and the remaining ones.
 use Rattle.std.proofs.Common.{◌≡◌, ◌-◌, ◌≤◌, ◌++◌, length, drop}
 use Rattle.yf_parts.specs.Tries.{near_all}
 use Rattle.yf_parts.proofs.candidates.chosen.Given as goal

@@ -1,4 +1,4 @@
--- The counts so far, and those that are left.
+-- The counts so far, and the remaining ones.
 use Rattle.std.proofs.Common.{◌≡◌, ◌≤◌, ◌++◌, drop}
 use Rattle.yf_parts.specs.Tries.{counts_from}
 use Rattle.yf_parts.proofs.candidates.counts.Given as goal

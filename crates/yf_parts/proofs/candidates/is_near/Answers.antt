@@ -1,4 +1,4 @@
--- The counts tell whether a flag is set between two indices.
+-- The counts decide whether a flag is set between two indices.
 use Rattle.std.proofs.Common.{arith}
 use Rattle.yf_parts.proofs.TryLemmas.{near_past, near_within}
 use Rattle.yf_parts.proofs.candidates.is_near.Goals as goal

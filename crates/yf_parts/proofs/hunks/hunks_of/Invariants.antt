@@ -1,4 +1,4 @@
--- The hunks so far, and those of the steps that are left.
+-- The hunks so far, and those of the remaining steps.
 use Rattle.std.proofs.Common.{◌≡◌, ◌+◌, ◌-◌, ◌≤◌, ◌++◌, length, drop}
 use Rattle.std.specs.List.{concat}
 use Rattle.std.specs.Prelude.{None}

@@ -1,4 +1,4 @@
--- The text was read, or was refused; what was shown of it.
+-- The text was read or refused; the output for it.
 use Rattle.std.proofs.Common.{◌≤◌, IfErr, length, refl, rules}
 use Rattle.std.proofs.lemmas.Result.{IfErr-weaker}
 use Rattle.yf_rules.specs.Runs.ByteStream.{stream_of}

@@ -1,4 +1,4 @@
--- The text so far, and what the hunks that are left make of the rest.
+-- The text so far, and the result of the remaining hunks on the rest.
 use Rattle.std.proofs.Common.{◌≡◌, ◌-◌, ◌≤◌, ◌++◌, length, drop}
 use Rattle.yf_parts.specs.Hunks.{Fits, spliced}
 use Rattle.yf_parts.proofs.splice.spliced.Given as goal

@@ -1,4 +1,4 @@
--- One more range is not touched, or none of those that are left.
+-- One more range is not touched, or none of the remaining ones.
 use Rattle.std.proofs.Common.{◌∙◌, sym, arith}
 use Rattle.yf_parts.proofs.TouchedLemmas.{order_next, touched_later, touches_none_later}
 use Rattle.yf_parts.proofs.touched.is_touched_from.Goals as goal

@@ -1,4 +1,4 @@
--- Between here and the offset is no start of a character.
+-- No character starts between here and the offset.
 use Rattle.std.proofs.Common.{◌≡◌, ◌≤◌}
 use Rattle.yf_positions.specs.Offsets.{character_start}
 use Rattle.yf_positions.proofs.columns.character_start.Given as goal

@@ -1,4 +1,4 @@
--- The bytes that are left in the line are those of the units that are left.
+-- The remaining bytes in the line are those of the remaining units.
 use Rattle.std.proofs.Common.{◌≡◌, ◌+◌, ◌-◌, ◌≤◌, length, drop}
 use Rattle.yf_positions.specs.Offsets.{bytes_within}
 use Rattle.yf_positions.proofs.columns.offset_in.Given as goal

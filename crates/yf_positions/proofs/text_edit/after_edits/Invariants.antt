@@ -1,4 +1,4 @@
--- What is made so far and what the edits that are left make of the rest.
+-- The text made so far, and the result of the remaining edits on the rest.
 use Rattle.std.proofs.Common.{◌≡◌, ◌++◌, drop, string_bytes}
 use Rattle.std.specs.Str.{IsCharBoundary}
 use Rattle.yf_positions.specs.Edits.{edited, in_order}

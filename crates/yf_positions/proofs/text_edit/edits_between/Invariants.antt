@@ -1,4 +1,4 @@
--- What is known between two steps of the script.
+-- The state between two steps of the script.
 use Rattle.std.proofs.Common.{drop}
 use Rattle.yf_positions.proofs.FollowLemmas.{Walk}
 use Rattle.yf_positions.proofs.text_edit.edits_between.Given as goal

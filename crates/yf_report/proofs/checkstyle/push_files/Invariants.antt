@@ -1,4 +1,4 @@
--- What is written and the tags that are still to be written are all tags.
+-- The written tags and those still to be written are all tags.
 use Rattle.std.proofs.Common.{◌≡◌, ◌++◌, drop, map, flat_map, None, option_map}
 use Rattle.yf_report.specs.Problems.{finding_of}
 use Rattle.yf_report.specs.XmlText.{tag_text}

@@ -1,4 +1,4 @@
--- The count, with the errors that are still to be counted, is that of all errors.
+-- The count and the errors still to be counted are all errors.
 use Rattle.std.proofs.Common.{◌≡◌, ◌+◌, ◌≤◌, drop, map}
 use Rattle.yf_report.specs.Problems.{finding_of}
 use Rattle.yf_report.specs.Junit.{errors}

@@ -1,4 +1,4 @@
--- What is written and the cases that are still to be written are all cases.
+-- The written cases and those still to be written are all cases.
 use Rattle.std.proofs.Common.{◌≡◌, ◌++◌, drop, map, flat_map}
 use Rattle.yf_report.specs.Problems.{finding_of}
 use Rattle.yf_report.specs.XmlText.{tag_text}

@@ -1,4 +1,4 @@
--- What is written and what is still to be written are the tokens of the report.
+-- The written tokens and those still to be written are the tokens of the report.
 use Rattle.std.proofs.Common.{◌≡◌, [], ◌++◌, drop, map}
 use Rattle.json.specs.Tree.{json_tokens}
 use Rattle.yf_report.specs.Problems.{finding_of}

@@ -1,4 +1,4 @@
--- What is written and what is still to be written are the tokens of the list.
+-- The written tokens and those still to be written are the tokens of the list.
 use Rattle.std.proofs.Common.{◌≡◌, ◌++◌, drop, map}
 use Rattle.json.specs.Json.{array}
 use Rattle.json.specs.Tree.{json_tokens}

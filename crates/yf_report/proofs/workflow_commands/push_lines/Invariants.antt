@@ -1,4 +1,4 @@
--- What is written and the lines that are still to be written are all lines.
+-- The written lines and those still to be written are all lines.
 use Rattle.std.proofs.Common.{◌≡◌, ◌++◌, drop, map}
 use Rattle.yf_report.specs.Problems.{finding_of}
 use Rattle.yf_report.specs.CommandText.{lines_text}

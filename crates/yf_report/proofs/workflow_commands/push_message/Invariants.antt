@@ -1,4 +1,4 @@
--- What is written and the bytes that are still to be written are the whole text.
+-- The written bytes and those still to be written are the whole text.
 use Rattle.std.proofs.Common.{◌≡◌, ◌++◌, drop}
 use Rattle.yf_report.specs.CommandText.{message_text}
 use Rattle.yf_report.proofs.workflow_commands.push_message.Given as goal

@@ -1,4 +1,4 @@
--- What is written and the attributes that are still to be written are all attributes.
+-- The written attributes and those still to be written are all attributes.
 use Rattle.std.proofs.Common.{◌≡◌, ◌++◌, drop, map, flat_map}
 use Rattle.yf_report.specs.XmlText.{attribute_text, attribute_of}
 use Rattle.yf_report.proofs.xml.push_attributes.Given as goal

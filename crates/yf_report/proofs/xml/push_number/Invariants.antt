@@ -1,4 +1,4 @@
--- What is written and the bytes that are still to be written are the whole number.
+-- The written bytes and those still to be written are the whole number.
 use Rattle.std.proofs.Common.{◌≡◌, ◌++◌, drop}
 use Rattle.yf_report.specs.XmlText.{xml_text}
 use Rattle.yf_report.proofs.xml.push_number.Given as goal

@@ -1,4 +1,4 @@
--- What is written and the bytes that are still to be written, after the last two, are the whole text.
+-- The written bytes and those still to be written, after the last two, are the whole text.
 use Rattle.std.proofs.Common.{◌≡◌, ◌++◌, drop}
 use Rattle.yf_report.specs.XmlText.{xml_text, allowed_after}
 use Rattle.yf_report.proofs.xml.push_text.Given as goal

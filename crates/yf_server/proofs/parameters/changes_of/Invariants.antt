@@ -1,4 +1,4 @@
--- The changes so far and those that are left are all changes.
+-- The changes so far and the remaining ones are all changes.
 use Rattle.std.proofs.Common.{◌≡◌, ◌++◌, drop, map, option_map}
 use Rattle.serde_json.specs.View.{items_of, view}
 use Rattle.yf_server.specs.Parameters.{changes_of}

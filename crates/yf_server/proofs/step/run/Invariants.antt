@@ -1,4 +1,4 @@
--- The messages that are left lead to what all lead to, and the answers so far and those that they want are all answers.
+-- The remaining messages lead to the result of all, and the responses so far and those still wanted are all responses.
 use Rattle.std.proofs.Common.{◌≡◌, ℕ, List, ◌++◌, drop, map, take}
 use Rattle.serde_json.specs.View.{view}
 use Rattle.yf_server.specs.Steps.{Steps, after_messages, knows, response_ids, wanted_ids}

@@ -1,4 +1,4 @@
--- What was read was added, each time because there was no whole message, and no read has failed.
+-- The bytes that were read were added, each time because there was no whole message, and no read has failed.
 use Rattle.std.proofs.Common.{◌≡◌, ◌+◌, ◌-◌, vec_len}
 use Rattle.yf_server_loop.specs.Received.{Reads, Waits}
 use Rattle.yf_server_loop.specs.declared.receive.TheConstants.{MESSAGE_LIMIT}

@@ -1,4 +1,4 @@
--- As many messages as the loop has turned were read and handled, and their answers were written.
+-- Each turn of the loop has read and handled one message and written its response.
 use Rattle.yf_server_loop.specs.Sessions.{moment_of}
 use Rattle.yf_server_loop.proofs.SessionLemmas.{InSession}
 use Rattle.yf_server_loop.proofs.serve.serve.Given as goal

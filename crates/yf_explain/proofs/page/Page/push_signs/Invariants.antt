@@ -1,4 +1,4 @@
--- The signs that are left are what is still to be added, and they are all shown as they are.
+-- The remaining signs are still to be added, and all of them are shown as they are.
 use Rattle.std.proofs.Common.{◌≡◌, ◌++◌, true, drop}
 use Rattle.std.specs.List.{list_all}
 use Rattle.yf_explain.specs.Shown.{is_written}

@@ -1,4 +1,4 @@
--- The rest of the changes leads from the document so far to where all lead.
+-- The remaining changes lead from the document so far to the result of all.
 use Rattle.std.proofs.Common.{◌≡◌, drop}
 use Rattle.yf_positions.specs.Changes.{all_changed}
 use Rattle.yf_positions.proofs.document.Document.after_changes.Given as goal
