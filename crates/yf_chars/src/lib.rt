@@ -1,5 +1,8 @@
-//! Characters: the classes of YAML 1.2.2, escapes, the check that bytes are UTF-8, and the functions by which all
-//! crates above read a character at a byte offset.
+//! Characters: the classes of YAML 1.2.2, escapes, the check that bytes are UTF-8, and the one way in which the crates
+//! above read a character at a byte offset.
+//!
+//! Each test is exact: it holds for the characters of its class and for no other. The crate knows no lines and no
+//! nodes.
 #![tactic(auto)]
 
 pub mod classes;

@@ -1,5 +1,7 @@
-//! Finds out, for people, at which offset and why a stream is refused: it reads the refused part again from a known
-//! offset.
+//! Finds at which offset and why a stream is refused: it reads the refused part again from a known offset.
+//!
+//! It never changes whether a text is refused. It returns an offset in the text and a cause, for people, and nothing
+//! depends on which cause it is.
 #![tactic(auto)]
 
 mod brackets;

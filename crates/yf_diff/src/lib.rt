@@ -1,7 +1,7 @@
 //! Unified diffs of two texts, with three lines of context.
 //!
-//! The output is the notation of an edit script from the lines of the old text to those of the new one. So, applied to
-//! the old text, it gives the new text, whichever script was chosen.
+//! The output is the notation of an edit script from the lines of one text to the lines of the other. So applying it
+//! to the old text gives the new one, whichever script was chosen. The crate knows no YAML.
 #![tactic(auto)]
 
 pub mod diff;

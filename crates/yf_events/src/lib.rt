@@ -1,4 +1,6 @@
 //! Readings: the flat list of events with their offsets, its notation and its content.
+//!
+//! Content and notation are functions of the events. The crate uses no reader of scalars and knows no style.
 #![tactic(auto)]
 
 pub mod comments;

@@ -1,4 +1,7 @@
-//! Files that a formatter rewrites. At any moment each holds its old text or its formatting, whole.
+//! Files that a formatter rewrites.
+//!
+//! At any moment, also after a stop of the machine, a file holds its old text or its formatting, whole. The crate
+//! knows no YAML: it gets the formatter and the file system from its caller.
 #![tactic(auto)]
 
 mod file_system;

@@ -1,5 +1,8 @@
 //! The problems of a text that a report lists: one for each finding of a check, with the range that is at fault and a
 //! message, or one for the refusal of the text.
+//!
+//! The list has exactly the findings of the check, in order, and each range lies in the text. The crate writes no
+//! format.
 #![tactic(auto)]
 
 mod columns;

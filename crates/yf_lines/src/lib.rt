@@ -1,5 +1,7 @@
 //! Lines and positions of a text, the faults that all crates return, texts that borrow from their source, and readers
 //! and writers that remember a failure.
+//!
+//! Positions are exact, counted in characters. The crate knows no production that spans a node.
 #![tactic(auto)]
 
 pub mod basic;

@@ -1,4 +1,7 @@
 //! Positions in a document as the Language Server Protocol 3.17 counts them, and changes of a document.
+//!
+//! A changed document has exactly the text that the protocol defines, in each encoding. The crate knows no YAML and no
+//! message.
 #![tactic(auto)]
 
 pub mod change;

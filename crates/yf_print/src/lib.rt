@@ -1,4 +1,6 @@
 //! Prints a normal reading in one pass over its events, from measures and forms of its nodes.
+//!
+//! The output is the layout of the reading, byte for byte. The crate decides nothing and knows no rule.
 #![tactic(auto)]
 
 pub(crate) mod bare;

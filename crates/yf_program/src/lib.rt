@@ -1,4 +1,7 @@
-//! The program as a library, from the words of a command line to the exit status. It works over any inputs and outputs.
+//! The program as a library, from the words of a command line to the exit status.
+//!
+//! `answer` does what the words ask for, and nothing else, over any inputs, files and outputs. Only `files`,
+//! `replacing` and `reserved` touch the system.
 #![tactic(auto)]
 
 pub mod answer;

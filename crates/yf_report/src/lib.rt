@@ -1,7 +1,7 @@
 //! Reports of the problems that a run found, in the formats that continuous integration and editors read.
 //!
-//! The crate knows no YAML and no rule. It turns a list of problems into the bytes of a report, and it fails only
-//! when memory runs out. docs/FORMATS.md describes each format for users.
+//! A report lists exactly the given problems, in order. The crate knows no YAML and no rule, and it fails only if
+//! memory is refused. docs/FORMATS.md describes each format for users.
 #![tactic(auto)]
 
 pub mod checkstyle;

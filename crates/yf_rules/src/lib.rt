@@ -1,5 +1,7 @@
-//! The rules of style, the check of a text by several of them, the formatting of a text, and the runs, which print
+//! The trait of rules, the check of a text by several rules, the formatting of a text, and the runs, which print
 //! events, findings and a formatted text.
+//!
+//! A run prints exactly what its relation says, or fails with a cause. The crate knows no command line and no file.
 #![tactic(auto)]
 
 pub mod action;

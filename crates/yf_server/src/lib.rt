@@ -1,4 +1,8 @@
-//! The part of an editor server that needs no YAML: the life cycle of the Language Server Protocol 3.17.
+//! The part of an editor server that needs no YAML: life cycle, documents and requests of the Language Server Protocol
+//! 3.17.
+//!
+//! `step` answers each request once, and the edits that it sends give the text that its analysis returns. The crate
+//! reads and writes no stream.
 #![tactic(auto)]
 
 pub mod analysis;

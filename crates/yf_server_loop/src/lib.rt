@@ -1,5 +1,7 @@
 //! The loop of an editor server: it reads messages of the base protocol of the Language Server Protocol 3.17, and
-//! writes the messages that `yf_server` sends.
+//! writes what `yf_server` sends.
+//!
+//! It handles the messages in order, and ends at `exit`, at the end of the input, or at a fault. It knows no method.
 #![tactic(auto)]
 
 pub mod ended;

@@ -1,4 +1,6 @@
 //! The settings file: the settings in its text, and the explanation of a text that is refused.
+//!
+//! A text sets exactly the settings that it names, or is refused with its first wrong key. The crate opens no file.
 #![tactic(auto)]
 
 pub mod file_settings;
