@@ -3,3 +3,4 @@ pub mod RewriteLemmas
 -- `MemoryFiles`: its logs and its calls
 pub mod LogLemmas
 pub mod MemoryLemmas
+pub mod LinkLemmas

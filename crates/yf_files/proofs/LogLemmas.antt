@@ -9,7 +9,7 @@ use Rattle.std.proofs.lemmas.Slice.Eq.{bytes_eq-Decides}
 use Rattle.std.proofs.lemmas.Option.{same_Some}
 use Rattle.std.proofs.Math.Nat.{eq-or-lt_of_le}
 use Rattle.std.proofs.Math.Seq.{take-length}
-use Rattle.yf_files.specs.Memory.{FoundAt, FoundSince, HoldsContent, IsWell, changed, entry_from, entry_of, now_of, state_of, text_from, text_of}
+use Rattle.yf_files.specs.Memory.{FoundAt, FoundSince, HoldsContent, IsWell, changed, entry_from, entry_of, node_from, node_in, node_of, now_of, state_of}
 use Rattle.yf_files.specs.Tree.{TimePasses, IsAt, Name, Node, regular}
 use Rattle.yf_files.specs.declared.logs.Change.{Change}
 use Rattle.yf_files.specs.declared.logs.FileContent.{FileContent}
@@ -22,10 +22,10 @@ pub entry_from-push : (before : Option ℕ) (q : Name) (xs : List Change) (c : C
 entry_from-push before q [] c = refl
 entry_from-push before q (x ∷ xs) c = entry_from-push (changed x q before) q xs c
 
-text_from-push : (before : List ℕ) (i : ℕ) (xs : List FileContent) (c : FileContent)
-    → text_from before i (xs ++ c ∷ []) ≡ (if c.inode == i then c.bytes.items else text_from before i xs)
-text_from-push before i [] c = refl
-text_from-push before i (x ∷ xs) c = text_from-push (if x.inode == i then x.bytes.items else before) i xs c
+node_from-push : (before : Node) (i : ℕ) (xs : List FileContent) (c : FileContent)
+    → node_from before i (xs ++ c ∷ []) ≡ (if c.inode == i then node_in c.held else node_from before i xs)
+node_from-push before i [] c = refl
+node_from-push before i (x ∷ xs) c = node_from-push (if x.inode == i then node_in x.held else before) i xs c
 
 -- a prefix of a log with one more item is a prefix of the log, or the whole new log
 fronts : {A : Type 0} (xs : List A) (x : A) (k : ℕ) → k ≤ length (xs ++ x ∷ []) → (k ≤ length xs) ⊎ (k ≡ length (xs ++ x ∷ []))
@@ -79,7 +79,7 @@ found ch dh co eo m a b q x (o, stood, has) =
     (o, (stood.0, stood.1, stood.2 ∙ ap (λ l. entry_of l q) (a stood.0 stood.1.1)), carried (HoldsContent co m) (HoldsContent eo m) o x held has)
   where
     held : (i : ℕ) (n : Node) → HoldsContent co m i n → HoldsContent eo m i n
-    held i n h = (h.0, h.1, h.2 ∙ ap (λ l. regular (text_of l i)) (b h.0 h.1.1))
+    held i n h = (h.0, h.1, h.2 ∙ ap (λ l. node_of l i) (b h.0 h.1.1))
 
 -- the logs have only grown
 pub record Grown (old new : Logs) : Type 0 where
@@ -147,11 +147,11 @@ grown_content old new c a b = record { changes = λ k le. ap (take k) a; content
 differs : (i j : ℕ) → i ≢ j → (j == i) ≡ false
 differs i j other = grind (arith, nat_tests)
 
-pub text_other : (old : Logs) (c : FileContent) (i : ℕ) → i ≢ c.inode → text_of (old.contents.items ++ c ∷ []) i ≡ text_of old.contents.items i
-text_other old c i other = text_from-push [] i old.contents.items c ∙ cond-false (c.inode == i) _ _ (differs i c.inode other)
+pub node_other : (old : Logs) (c : FileContent) (i : ℕ) → i ≢ c.inode → node_of (old.contents.items ++ c ∷ []) i ≡ node_of old.contents.items i
+node_other old c i other = node_from-push (regular []) i old.contents.items c ∙ cond-false (c.inode == i) _ _ (differs i c.inode other)
 
-pub text_given : (old : Logs) (c : FileContent) → text_of (old.contents.items ++ c ∷ []) c.inode ≡ c.bytes.items
-text_given old c = text_from-push [] c.inode old.contents.items c ∙ cond-true (c.inode == c.inode) _ _ (grind (arith, nat_tests))
+pub node_given : (old : Logs) (c : FileContent) → node_of (old.contents.items ++ c ∷ []) c.inode ≡ node_in c.held
+node_given old c = node_from-push (regular []) c.inode old.contents.items c ∙ cond-true (c.inode == c.inode) _ _ (grind (arith, nat_tests))
 
 pub is_at_same : (old new : Logs) → new.changes.items ≡ old.changes.items → old.stored_changes ≤ new.stored_changes → (q : Name) (o : Option ℕ)
     → (state_of new).is_there q o → (state_of old).is_there q o
@@ -159,7 +159,7 @@ is_at_same old new same stored q o h = (h.0, (omega (arith, stored, h.1.0), subs
 
 pub holds_same : (old new : Logs) → new.contents.items ≡ old.contents.items → old.stored_contents ≤ new.stored_contents → (i : ℕ) (n : Node)
     → (state_of new).holds i n → (state_of old).holds i n
-holds_same old new same stored i n h = (h.0, (omega (arith, stored, h.1.0), subst (λ (l : List FileContent). h.0 ≤ length l) same h.1.1), h.2 ∙ ap (λ l. regular (text_of (take h.0 l) i)) same)
+holds_same old new same stored i n h = (h.0, (omega (arith, stored, h.1.0), subst (λ (l : List FileContent). h.0 ≤ length l) same h.1.1), h.2 ∙ ap (λ l. node_of (take h.0 l) i) same)
 
 pub is_at_pushed : (old new : Logs) (c : Change) → new.changes.items ≡ old.changes.items ++ c ∷ [] → new.stored_changes ≡ old.stored_changes → (q : Name) (o : Option ℕ)
     → (state_of new).is_there q o → (state_of old).is_there q o ⊎ (o ≡ changed c q (entry_of old.changes.items q))
@@ -175,15 +175,15 @@ is_at_pushed old new c more stored q o h = ⊎_elim
 pub holds_pushed : (old new : Logs) (c : FileContent) → new.contents.items ≡ old.contents.items ++ c ∷ [] → new.stored_contents ≡ old.stored_contents → IsWell old → (i : ℕ) (n : Node) → i ≢ c.inode
     → (state_of new).holds i n → (state_of old).holds i n
 holds_pushed old new c more stored well i n other h = ⊎_elim
-    (λ le. (h.0, (omega (arith, stored, h.1.0), le), here ∙ ap (λ l. regular (text_of l i)) (take-append-le h.0 old.contents.items (c ∷ []) le)))
+    (λ le. (h.0, (omega (arith, stored, h.1.0), le), here ∙ ap (λ l. node_of l i) (take-append-le h.0 old.contents.items (c ∷ []) le)))
     (λ all. (
       length old.contents.items,
       (well.contents, omega arith),
-      here ∙ ap (λ k. regular (text_of (take k (old.contents.items ++ c ∷ [])) i)) all
-          ∙ ap (λ l. regular (text_of l i)) (take-length (old.contents.items ++ c ∷ [])) ∙ ap regular (text_other old c i other)
-          ∙ ap (λ l. regular (text_of l i)) (sym (take-length old.contents.items)),
+      here ∙ ap (λ k. node_of (take k (old.contents.items ++ c ∷ [])) i) all
+          ∙ ap (λ l. node_of l i) (take-length (old.contents.items ++ c ∷ [])) ∙ node_other old c i other
+          ∙ ap (λ l. node_of l i) (sym (take-length old.contents.items)),
     ))
     (fronts old.contents.items c h.0 (subst (λ (l : List FileContent). h.0 ≤ length l) more h.1.1))
   where
-    here : n ≡ regular (text_of (take h.0 (old.contents.items ++ c ∷ [])) i)
-    here = h.2 ∙ ap (λ l. regular (text_of (take h.0 l) i)) more
+    here : n ≡ node_of (take h.0 (old.contents.items ++ c ∷ [])) i
+    here = h.2 ∙ ap (λ l. node_of (take h.0 l) i) more

@@ -1,5 +1,5 @@
 -- Each call of a file system in memory does what its relation states.
-use Rattle.std.proofs.Common.{◌≡◌, ◌≢◌, ◌⊎◌, inl, inr, ⊎_elim, ℕ, ◌+◌, ◌<◌, ◌≤◌, Bool, true, false, List, [], ◌∷◌, ◌++◌, length, take, Option, Some, None, refl, sym, ◌∙◌, ap, subst, arith, length-append}
+use Rattle.std.proofs.Common.{◌≡◌, ◌≢◌, ◌⊎◌, inl, inr, ⊎_elim, ℕ, ◌+◌, ◌<◌, ◌≤◌, Bool, true, false, [], ◌∷◌, ◌++◌, length, take, Option, Some, None, refl, sym, ◌∙◌, ap, subst, arith, length-append}
 use Rattle.std.specs.Prelude.{if◌then◌else◌, string_bytes, slice_get, is_some, Result, Ok, Err, OnOk, OnErr}
 use Rattle.std.specs.Str.{bytes_eq}
 use Rattle.std.proofs.lemmas.Bool.{cases_lt}
@@ -8,12 +8,12 @@ use Rattle.std.proofs.lemmas.Slice.Eq.{bytes_eq-Decides}
 use Rattle.std.proofs.lemmas.Option.{none-some, same_Some}
 use Rattle.std.proofs.Math.Seq.{take-length}
 use Rattle.yf_files.specs.Calls.{FileMade, FileRemoved, RenameCall, Stays, WriteChanges}
-use Rattle.yf_files.specs.Memory.{LogChanged, CallFails, FoundAt, ContentAdded, IsWell, InodeMade, MomentPasses, changed, entry_of, now_of, state_of, text_of}
-use Rattle.yf_files.specs.Tree.{TimePasses, Name, Node, regular}
+use Rattle.yf_files.specs.Memory.{LogChanged, CallFails, FoundAt, ContentAdded, IsWell, InodeMade, MomentPasses, changed, entry_of, node_of, now_of, state_of}
+use Rattle.yf_files.specs.Tree.{TimePasses, Name, Node}
 use Rattle.yf_files.specs.declared.logs.Change.{Change}
 use Rattle.yf_files.specs.declared.logs.Logs.{Logs}
 use Rattle.yf_files.specs.declared.logs.Moment.{Moment}
-use Rattle.yf_files.proofs.LogLemmas.{entry_from-push, changed_name, changed_freed, changed_other, slice_get-push, found, time_by, grown_same, grown_change, grown_content, text_other, text_given, is_at_same, holds_same, is_at_pushed, holds_pushed, Grown}
+use Rattle.yf_files.proofs.LogLemmas.{entry_from-push, changed_name, changed_freed, changed_other, slice_get-push, found, time_by, grown_same, grown_change, grown_content, node_other, node_given, is_at_same, holds_same, is_at_pushed, holds_pushed, Grown}
 
 -- ---- a moment passes, and a call fails
 
@@ -21,7 +21,7 @@ stays_by : (old new : Logs) → new.changes.items ≡ old.changes.items → new.
     → old.stored_contents ≤ new.stored_contents → new.made ≡ old.made → Stays (state_of old) (state_of new)
 stays_by old new a b stored_a stored_b made = record {
   entry = λ q. ap (λ l. entry_of l q) a;
-  node = λ i. ap (λ l. regular (text_of l i)) b;
+  node = λ i. ap (λ l. node_of l i) b;
   is_there = is_at_same old new a stored_a;
   holds = holds_same old new b stored_b;
   made = made;
@@ -102,8 +102,8 @@ well_fails old new well p = well_by old new well (grown_same old new p.changes p
     (omega (arith, ap length p.changes, p.stored_changes, well.changes)) (omega (arith, ap length p.contents, p.stored_contents, well.contents))
     (same_moments old new p.moments) (same_used old new well p.changes (omega (arith, p.next)))
 
-pub well_gives : (old new : Logs) (i : ℕ) (text : List ℕ) → IsWell old → ContentAdded old new i text → IsWell new
-well_gives old new i text well p =
+pub well_gives : (old new : Logs) (i : ℕ) (node : Node) → IsWell old → ContentAdded old new i node → IsWell new
+well_gives old new i node well p =
     let more : length new.contents.items ≡ length old.contents.items + 1 = ap length p.contents ∙ length-append old.contents.items (p.content ∷ []) in
     well_by old new well (grown_content old new p.content p.changes p.contents) (omega (arith, ap length p.changes)) (omega (arith, more))
     (omega (arith, ap length p.changes, p.stored_changes, well.changes)) (omega (arith, more, p.stored_contents, well.contents))
@@ -179,7 +179,7 @@ pub removed : (old mid new : Logs) (n : Name) → IsWell old → MomentPasses ol
 removed old mid new n well p c = record {
   gone = entry_after old new c.change more n ∙ changed_name c.change n _ c.named ∙ c.inode_is;
   entry = λ q other. entry_after old new c.change more q ∙ kept q other;
-  node = λ i. ap (λ l. regular (text_of l i)) (c.contents ∙ p.contents);
+  node = λ i. ap (λ l. node_of l i) (c.contents ∙ p.contents);
   is_there = λ q o other h. is_at_other old new c.change well more (c.stored_changes ∙ p.stored_changes) q o (kept q other) h;
   holds = holds_same old new (c.contents ∙ p.contents) (omega (arith, c.stored_contents, p.stored_contents));
   made = c.made ∙ p.made;
@@ -197,7 +197,7 @@ made old mid new n well p c = record {
   is = entry_after old new c.change more n ∙ changed_name c.change n _ c.named ∙ c.inode_is ∙ ap Some (sym c.made);
   fresh = λ used. absurd (omega (arith, used, c.made, p.next));
   entry = λ q other. entry_after old new c.change more q ∙ kept q other;
-  node = λ i _. ap (λ l. regular (text_of l i)) (c.contents ∙ p.contents);
+  node = λ i _. ap (λ l. node_of l i) (c.contents ∙ p.contents);
   is_there = λ q o other h. is_at_other old new c.change well more (c.stored_changes ∙ p.stored_changes) q o (kept q other) h;
   holds = λ i x _ h. holds_same old new (c.contents ∙ p.contents) (omega (arith, c.stored_contents, p.stored_contents)) i x h;
 }
@@ -214,7 +214,7 @@ renamed old mid new from to o well p was c apart = record {
   gone = entry_after old new c.change more from ∙ changed_freed c.change from _ (λ is. apart (ap (entry_of old.changes.items) (sym is ∙ c.named))) c.frees;
   is = entry_after old new c.change more to ∙ moved to refl;
   entry = λ q a b. entry_after old new c.change more q ∙ kept q a b;
-  node = λ i. ap (λ l. regular (text_of l i)) (c.contents ∙ p.contents);
+  node = λ i. ap (λ l. node_of l i) (c.contents ∙ p.contents);
   is_there = λ q x a h. ⊎_elim (λ before. inl before) (λ now. by_name q x a h now (bytes_eq q to) refl)
       (is_at_pushed old new c.change more (c.stored_changes ∙ p.stored_changes) q x h);
   holds = holds_same old new (c.contents ∙ p.contents) (omega (arith, c.stored_contents, p.stored_contents));
@@ -237,10 +237,10 @@ renamed old mid new from to o well p was c apart = record {
 
 -- ---- a file is written and stored
 
-given : (old new : Logs) (i : ℕ) (text : List ℕ) → IsWell old → ContentAdded old new i text → i ≡ old.made → WriteChanges (state_of old) (state_of new)
-given old new i text well g is = record {
+pub given : (old new : Logs) (i : ℕ) (node : Node) → IsWell old → ContentAdded old new i node → i ≡ old.made → WriteChanges (state_of old) (state_of new)
+given old new i node well g is = record {
   entry = λ q. ap (λ l. entry_of l q) g.changes;
-  node = λ j other. ap (λ l. regular (text_of l j)) g.contents ∙ ap regular (text_other old g.content j (λ e. other (e ∙ g.inode_is ∙ is)));
+  node = λ j other. ap (λ l. node_of l j) g.contents ∙ node_other old g.content j (λ e. other (e ∙ g.inode_is ∙ is));
   is_there = is_at_same old new g.changes (omega (arith, g.stored_changes));
   holds = λ j n other h. holds_pushed old new g.content g.contents g.stored_contents well j n (λ e. other (e ∙ g.inode_is ∙ is)) h;
   made = g.made;
@@ -270,7 +270,7 @@ grown_trans old mid new a b changes contents = record {
   contents = λ k le. b.contents k (omega (arith, le, contents)) ∙ a.contents k le;
 }
 
-module _ (old mid half : Logs) (i : ℕ) (text : List ℕ) (well : IsWell old) (p : MomentPasses old mid) (g : ContentAdded mid half i text) where
+module _ (old mid half : Logs) (i : ℕ) (node : Node) (well : IsWell old) (p : MomentPasses old mid) (g : ContentAdded mid half i node) where
   more : half.contents.items ≡ old.contents.items ++ g.content ∷ []
   more = g.contents ∙ ap (λ l. l ++ g.content ∷ []) p.contents
 
@@ -278,10 +278,10 @@ module _ (old mid half : Logs) (i : ℕ) (text : List ℕ) (well : IsWell old) (
   half_grown = grown_content old half g.content (g.changes ∙ p.changes) more
 
   pub well_half : IsWell half
-  well_half = well_gives mid half i text (well_passes old mid well p) g
+  well_half = well_gives mid half i node (well_passes old mid well p) g
 
   half_written : i ≡ mid.made → WriteChanges (state_of old) (state_of half)
-  half_written is = stays_written old mid half (stays_passes old mid p) (given mid half i text (well_passes old mid well p) g is)
+  half_written is = stays_written old mid half (stays_passes old mid p) (given mid half i node (well_passes old mid well p) g is)
 
   -- the second step fails
   pub time_half : (new : Logs) → CallFails half new → TimePasses (state_of old) (state_of new)
@@ -302,7 +302,7 @@ module _ (old mid half : Logs) (i : ℕ) (text : List ℕ) (well : IsWell old) (
       }
 
   -- the second step succeeds
-  module _ (new : Logs) (whole : List ℕ) (w : ContentAdded half new i whole) where
+  module _ (new : Logs) (whole : Node) (w : ContentAdded half new i whole) where
     pub time_written : TimePasses (state_of old) (state_of new)
     time_written = time_by old new well
         (grown_trans old half new half_grown (grown_content half new w.content w.changes w.contents) (omega (arith, ap length g.changes, ap length p.changes))
@@ -315,9 +315,9 @@ module _ (old mid half : Logs) (i : ℕ) (text : List ℕ) (well : IsWell old) (
     pub written : i ≡ mid.made → WriteChanges (state_of old) (state_of new)
     written is = written_twice old half new (half_written is) (given half new i whole well_half w (is ∙ sym g.made))
 
-    pub holds_whole : i ≡ old.made → regular (text_of new.contents.items old.made) ≡ regular whole
-    holds_whole is = ap (λ j. regular (text_of new.contents.items j)) (sym is ∙ sym w.inode_is)
-        ∙ ap (λ l. regular (text_of l w.content.inode)) w.contents ∙ ap regular (text_given half w.content ∙ w.has)
+    pub holds_whole : i ≡ old.made → node_of new.contents.items old.made ≡ whole
+    holds_whole is = ap (node_of new.contents.items) (sym is ∙ sym w.inode_is)
+        ∙ ap (λ l. node_of l w.content.inode) w.contents ∙ node_given half w.content ∙ w.has
 
 -- after a store, only what was stored may be found
 pub time_stores : (old mid new : Logs) → IsWell old → MomentPasses old mid → new.changes.items ≡ mid.changes.items → new.contents.items ≡ mid.contents.items → new.moments.items ≡ mid.moments.items

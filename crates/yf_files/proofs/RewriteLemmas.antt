@@ -6,7 +6,7 @@ use Rattle.std.proofs.lemmas.Slice.Eq.{bytes_eq-Decides}
 use Rattle.yf_files.specs.Calls.{Stays}
 use Rattle.yf_files.specs.Replaced.{AtAnyMoment, IsText, FileReplaced}
 use Rattle.yf_files.specs.Rewritten.{HeldAlready, IsFormatting, IsUntouched, Rewrote, new_name_of}
-use Rattle.yf_files.specs.Tree.{TimePasses, MayBeFound, IsAt, IsSound, Name, Node, FilesState, at, folder_of, has_slash, regular}
+use Rattle.yf_files.specs.Tree.{TimePasses, MayBeFound, IsSound, Name, Node, FilesState, at, folder_of, has_slash, regular}
 use Rattle.yf_files.proofs.LogLemmas.{carried}
 
 -- if the file system stays as it was, each name has the node that it had

@@ -7,3 +7,4 @@ pub mod Replaced
 pub mod Rewritten
 pub mod Memory
 pub mod MemoryLaws
+pub mod Links

@@ -1,11 +1,14 @@
 -- The state of a file system in memory. It is a log of the names that were assigned and removed, and a log of the
--- contents that files were given. After a stop, a prefix of each log is found, at least as long as the stored part of
+-- contents that inodes were given. After a stop, a prefix of each log is found, at least as long as the stored part of
 -- the log.
-use Rattle.std.specs.Prelude.{◌≡◌, ◌⊎◌, ℕ, ◌+◌, ◌<◌, ◌≤◌, ◌==◌, if◌then◌else◌, List, [], ◌∷◌, ◌++◌, length, take, Option, Some, None, string_bytes, slice_get}
+use Rattle.std.specs.Prelude.{◌≡◌, ◌⊎◌, ℕ, ◌+◌, ◌<◌, ◌≤◌, ◌==◌, Bool, true, false, if◌then◌else◌, List, [], ◌∷◌, ◌++◌, length, take, Option, Some, None, string_bytes, slice_get}
+use Rattle.std.specs.Borrow.{Bor}
 use Rattle.std.specs.Str.{bytes_eq}
-use Rattle.yf_files.specs.Tree.{Name, Node, regular, FilesState, IsAt}
+use Rattle.yf_files.specs.Tree.{Name, Node, regular, other, FilesState, IsAt}
 use Rattle.yf_files.specs.declared.logs.Change.{Change}
 use Rattle.yf_files.specs.declared.logs.FileContent.{FileContent}
+use Rattle.yf_files.specs.declared.logs.Held.{Held}
+use Rattle.yf_files.specs.declared.logs.Held.TheVariants as held
 use Rattle.yf_files.specs.declared.logs.Logs.{Logs}
 use Rattle.yf_files.specs.declared.logs.Moment.{Moment}
 
@@ -21,13 +24,47 @@ entry_from before q (c ∷ changes) = entry_from (changed c q before) q changes
 abbrev pub entry_of : List Change → Name → Option ℕ
 entry_of changes q = entry_from None q changes
 
-abbrev pub text_from : List ℕ → ℕ → List FileContent → List ℕ
-text_from before i [] = before
-text_from before i (c ∷ contents) = text_from (if c.inode == i then c.bytes.items else before) i contents
+-- A link to a name.
+abbrev pub link_to : Name → Node
+link_to target = other (1 ∷ target)
 
--- the bytes of an inode after all contents that files were given; an inode is empty at first
-abbrev pub text_of : List FileContent → ℕ → List ℕ
-text_of contents i = text_from [] i contents
+-- A folder.
+abbrev pub folder : Node
+folder = other []
+
+-- The node of an inode that was given this content.
+abbrev pub node_in : Held → Node
+node_in (held.Text bytes) = regular bytes.items
+node_in (held.Link target) = link_to (string_bytes target)
+node_in held.Folder = folder
+
+abbrev pub node_from : Node → ℕ → List FileContent → Node
+node_from before i [] = before
+node_from before i (c ∷ contents) = node_from (if c.inode == i then node_in c.held else before) i contents
+
+-- The node of an inode after all contents that inodes were given. At first an inode is an empty regular file.
+abbrev pub node_of : List FileContent → ℕ → Node
+node_of contents i = node_from (regular []) i contents
+
+-- The node of an inode, by the last content that it was given.
+abbrev pub node_seen : Option (Bor Held) → Node
+node_seen None = regular []
+node_seen (Some held) = node_in held.now
+
+-- Whether this is a regular file.
+abbrev pub is_regular : Option Node → Bool
+is_regular (Some (regular bytes)) = true
+is_regular _ = false
+
+-- Whether this is a folder.
+abbrev pub is_folder : Option Node → Bool
+is_folder (Some (other [])) = true
+is_folder _ = false
+
+-- The name to which a link leads.
+abbrev pub target_of : Option Node → Option Name
+target_of (Some (other (kind ∷ target))) = Some target
+target_of _ = None
 
 -- a prefix of a log, at least as long as the stored part
 abbrev pub IsFront : ℕ → ℕ → ℕ → Type 0
@@ -37,7 +74,7 @@ abbrev pub IsFileAt : List Change → Moment → Name → Option ℕ → Type 0
 IsFileAt changes m q o = (k : ℕ) × IsFront m.stored_changes m.changes k × (o ≡ entry_of (take k changes) q)
 
 abbrev pub HoldsContent : List FileContent → Moment → ℕ → Node → Type 0
-HoldsContent contents m i n = (k : ℕ) × IsFront m.stored_contents m.contents k × (n ≡ regular (text_of (take k contents) i))
+HoldsContent contents m i n = (k : ℕ) × IsFront m.stored_contents m.contents k × (n ≡ node_of (take k contents) i)
 
 abbrev pub FoundAt : List Change → List FileContent → Moment → Name → Option Node → Type 0
 FoundAt changes contents m q x = (o : Option ℕ) × IsFileAt changes m q o × IsAt (HoldsContent contents m) o x
@@ -58,7 +95,7 @@ now_of l = record {
 abbrev pub state_of : Logs → FilesState
 state_of l = record {
   entry = entry_of l.changes.items;
-  node = λ i. regular (text_of l.contents.items i);
+  node = node_of l.contents.items;
   is_there = IsFileAt l.changes.items (now_of l);
   holds = HoldsContent l.contents.items (now_of l);
   used = λ i. i < l.next;
@@ -137,10 +174,10 @@ pub record InodeMade (old new : Logs) (name : Name) : Type 0 where
   pub uncounted : new.uncounted ≡ old.uncounted
 
 -- one more content
-pub record ContentAdded (old new : Logs) (i : ℕ) (text : List ℕ) : Type 0 where
+pub record ContentAdded (old new : Logs) (i : ℕ) (node : Node) : Type 0 where
   pub content : FileContent
   pub inode_is : content.inode ≡ i
-  pub has : content.bytes.items ≡ text
+  pub has : node_in content.held ≡ node
   pub changes : new.changes.items ≡ old.changes.items
   pub contents : new.contents.items ≡ old.contents.items ++ content ∷ []
   pub moments : new.moments.items ≡ old.moments.items

@@ -12,6 +12,6 @@ mod rewriting;
 
 pub use file_system::{Failed, FileSystem, ReadError};
 pub use logs::Moment;
-pub use memory::MemoryFiles;
+pub use memory::{LINKS, MemoryFiles};
 pub use replacing::ReplaceError;
 pub use rewriting::{Formatter, RewriteError, rewrite};

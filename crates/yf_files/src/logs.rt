@@ -1,6 +1,6 @@
-//! The state of a file system in memory: everything that happened to its names and files, in order.
-ghost use Rattle.std.specs.Prelude.{◌≡◌, ◌≤◌, length, take, IfSome, OnOk, OnErr, Some};
-ghost use Rattle.yf_files.specs.Memory.{LogChanged, CallFails, ContentAdded, IsWell, InodeMade, MomentPasses, changed, entry_of, now_of, state_of, text_of};
+//! The state of a file system in memory: everything that happened to its names and inodes, in order.
+ghost use Rattle.std.specs.Prelude.{◌≡◌, ◌≤◌, length, option_map, take, is_some, IfSome, OnOk, OnErr, Some};
+ghost use Rattle.yf_files.specs.Memory.{LogChanged, CallFails, ContentAdded, IsWell, InodeMade, MomentPasses, changed, entry_of, is_folder, is_regular, node_in, node_of, node_seen, now_of, state_of, target_of};
 ghost use Rattle.yf_files.specs.Tree.{at, regular};
 
 use crate::file_system::Failed;
@@ -29,11 +29,22 @@ impl Change {
     }
 }
 
-/// The bytes that a file was given.
+/// The content of an inode.
+#[derive(Drop)]
+pub enum Held {
+    /// A regular file with these bytes.
+    Text(Vec<u8>),
+    /// A link to this name.
+    Link(String),
+    /// A folder.
+    Folder,
+}
+
+/// The content that an inode was given.
 #[derive(Drop)]
 pub struct FileContent {
     pub inode: usize,
-    pub bytes: Vec<u8>,
+    pub held: Held,
 }
 
 /// The lengths of the two logs at a moment, and of their stored parts.
@@ -140,29 +151,90 @@ impl Logs {
         self.inode_at(name, self.changes.len())
     }
 
-    /// Returns the bytes that the file at a name holds now.
+    /// Returns the last content that an inode was given in the first `front` contents, or `None` if it was given none:
+    /// then it is an empty regular file.
+    fn held_by(&self, inode: usize, front: usize) -> Option<&Held>
+        requires { front ≤ length self.now.contents.items }
+        ensures { node_seen result ≡ node_of (take front self.now.contents.items) inode }
+    {
+        let contents = &self.contents.as_slice()[..front];
+        let mut held = None;
+        for content in contents {
+            if content.inode == inode {
+                held = Some(&content.held);
+            }
+        }
+        held
+    }
+
+    /// Returns the bytes that the regular file at a name holds now, or `None` if no regular file has the name.
     pub fn text_at(&self, name: &str) -> Option<&[u8]>
-        ensures { IfSome result (λ text. at (state_of self.now) name.now ≡ Some (regular text.now)) }
+        ensures text { IfSome result (λ text. at (state_of self.now) name.now ≡ Some (regular text.now)) }
+        ensures is { is_some result ≡ is_regular (at (state_of self.now) name.now) }
     {
         match self.inode_now(name) {
-            Some(inode) => Some(self.text_of(inode, self.contents.len())),
+            Some(inode) => self.text_of(inode, self.contents.len()),
             None => None,
         }
     }
 
-    /// Returns the bytes of a file after the first `front` contents.
-    pub fn text_of(&self, inode: usize, front: usize) -> &[u8]
+    /// Returns the bytes of a regular file after the first `front` contents, or `None` if the inode is no regular file.
+    pub fn text_of(&self, inode: usize, front: usize) -> Option<&[u8]>
         requires { front ≤ length self.now.contents.items }
-        ensures { result.now ≡ text_of (take front self.now.contents.items) inode }
+        ensures text { IfSome result (λ text. node_of (take front self.now.contents.items) inode ≡ regular text.now) }
+        ensures is { is_some result ≡ is_regular (Some (node_of (take front self.now.contents.items) inode)) }
     {
-        let contents = &self.contents.as_slice()[..front];
-        let mut text: &[u8] = &[];
-        for content in contents {
-            if content.inode == inode {
-                text = content.bytes.as_slice();
-            }
+        match self.held_by(inode, front) {
+            Some(Held::Text(bytes)) => Some(bytes.as_slice()),
+            Some(Held::Link(_)) => None,
+            Some(Held::Folder) => None,
+            None => Some(&[]),
         }
-        text
+    }
+
+    /// Returns the name to which the link at a name leads, or `None` if the name is no link.
+    pub fn target_at(&self, name: &str) -> Option<&str>
+        ensures { option_map (λ target. target.now) result ≡ target_of (at (state_of self.now) name.now) }
+    {
+        match self.inode_now(name) {
+            Some(inode) => self.target_of(inode),
+            None => None,
+        }
+    }
+
+    /// Returns whether a folder has the name now.
+    pub fn has_folder(&self, name: &str) -> bool
+        ensures { result ≡ is_folder (at (state_of self.now) name.now) }
+    {
+        match self.inode_now(name) {
+            Some(inode) => self.is_folder(inode),
+            None => false,
+        }
+    }
+
+    // Returns whether an inode is a folder.
+    fn is_folder(&self, inode: usize) -> bool
+        ensures { result ≡ is_folder (Some (node_of self.now.contents.items inode)) }
+    {
+        match self.held_by(inode, self.contents.len()) {
+            Some(Held::Folder) => true,
+            Some(Held::Text(_)) => false,
+            Some(Held::Link(_)) => false,
+            None => false,
+        }
+    }
+
+    // Returns the name to which an inode leads, or `None` if the inode is no link.
+    fn target_of(&self, inode: usize) -> Option<&str>
+        ensures { option_map (λ target. target.now) result
+            ≡ target_of (Some (node_of self.now.contents.items inode)) }
+    {
+        match self.held_by(inode, self.contents.len()) {
+            Some(Held::Link(target)) => Some(target.as_str()),
+            Some(Held::Text(_)) => None,
+            Some(Held::Folder) => None,
+            None => None,
+        }
     }
 
     /// Assigns a name to an inode or removes it, and removes the other name.
@@ -209,13 +281,21 @@ impl Logs {
 
     /// Gives a file its bytes.
     pub fn give(&mut self, alloc: Global, inode: usize, text: &[u8]) -> Result<(), Failed>
-        ensures ok { OnOk result (ContentAdded self.old self.new inode text.now) }
+        ensures ok { OnOk result (ContentAdded self.old self.new inode (regular text.now)) }
         ensures err { OnErr result (CallFails self.old self.new) }
     {
-        let Ok(bytes) = text.to_vec(alloc) else {
-            return Err(self.fail());
-        };
-        let content = FileContent { inode, bytes };
+        match text.to_vec(alloc) {
+            Ok(bytes) => self.be(inode, Held::Text(bytes)),
+            Err(_) => Err(self.fail()),
+        }
+    }
+
+    /// Gives an inode its content.
+    pub fn be(&mut self, inode: usize, held: Held) -> Result<(), Failed>
+        ensures ok { OnOk result (ContentAdded self.old self.new inode (node_in held)) }
+        ensures err { OnErr result (CallFails self.old self.new) }
+    {
+        let content = FileContent { inode, held };
         if self.contents.push(content).is_err() {
             return Err(self.fail());
         }

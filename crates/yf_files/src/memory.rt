@@ -1,14 +1,19 @@
 //! A file system in memory, which can be stopped at any moment.
-ghost use Rattle.std.specs.Prelude.{◌≡◌, ℕ, take, Some, IfOk, IfSome, IsErrOf, OnErr, OnOk, ⊤};
+ghost use Rattle.std.specs.Prelude.{◌≡◌, ℕ, option_map, take, Some, IfOk, IfSome, IsErrOf, OnErr, OnOk, ⊤};
 ghost use Rattle.yf_files.specs.Calls.{HasFailed, Stays};
-ghost use Rattle.yf_files.specs.Memory.{CallFails, IsWell, MomentPasses, entry_of, state_of, text_of};
-ghost use Rattle.yf_files.specs.Tree.{TimePasses};
+ghost use Rattle.yf_files.specs.Memory.{CallFails, IsWell, MomentPasses, entry_of, folder, is_regular, link_to, node_in, node_of, state_of};
+ghost use Rattle.yf_files.specs.Tree.{TimePasses, at, regular};
 
 use crate::file_system::{Failed, FileSystem, ReadError};
-use crate::logs::{Logs, Moment};
+use crate::logs::{Held, Logs, Moment};
 use std::alloc::Global;
 
-/// Files in memory, and everything that happened to them.
+/// The greatest number of links that are followed from one name, as on Linux.
+pub const LINKS: usize = 40;
+
+/// Files in memory, with folders and links, and everything that happened to them.
+///
+/// A name is a whole path. A link leads to a name, and there may be nothing at that name.
 ///
 /// At a stop it loses what a real file system may lose: the changes of names and of contents that were not stored, each
 /// from some step on. A write takes two steps.
@@ -21,6 +26,8 @@ pub struct MemoryFiles {
 }
 
 impl MemoryFiles {
+    ghost use Rattle.yf_files.specs.Links.{NodeMade, led, memory_state};
+
     /// Returns a file system without files. The call with the number `fails_at`, from 0, fails. No other call does.
     pub fn new(alloc: Global, fails_at: usize) -> MemoryFiles {
         MemoryFiles {
@@ -43,17 +50,80 @@ impl MemoryFiles {
         }
     }
 
-    /// Returns the bytes of the file at a name after a stop that leaves these prefixes of the logs.
+    /// Returns the bytes of the regular file at a name after a stop that leaves these prefixes of the logs.
     pub fn found(&self, name: &str, changes: usize, contents: usize) -> Option<&[u8]>
         ensures { IfSome result (λ text. (i : ℕ) × (entry_of (take changes self.now.logs.changes.items) name.now ≡ Some i)
-            × (text.now ≡ text_of (take contents self.now.logs.contents.items) i)) }
+            × (node_of (take contents self.now.logs.contents.items) i ≡ regular text.now)) }
     {
         if changes > self.logs.changes.len() || contents > self.logs.contents.len() {
             return None;
         }
         match self.logs.inode_at(name, changes) {
-            Some(inode) => Some(self.logs.text_of(inode, contents)),
+            Some(inode) => self.logs.text_of(inode, contents),
             None => None,
+        }
+    }
+
+    /// Returns whether a regular file has the name.
+    pub fn has_file(&self, name: &str) -> bool
+        ensures { result ≡ is_regular (at (memory_state self.now) name.now) }
+    {
+        self.logs.text_at(name).is_some()
+    }
+
+    /// Returns the name to which a name leads: the name itself if it is no link. Returns `None` if there are more than
+    /// `LINKS` links on the way.
+    pub fn led<'a>(&'a self, name: &'a str) -> Option<&'a str>
+        ensures { option_map (λ file. file.now) result ≡ led (memory_state self.now) LINKS name.now }
+    {
+        let mut at = name;
+        let mut left = LINKS;
+        while let Some(target) = self.logs.target_at(at) {
+            if left == 0 {
+                return None;
+            }
+            left -= 1;
+            at = target;
+        }
+        Some(at)
+    }
+
+    /// Makes a link at a free name. It leads to the other name, which may be free.
+    pub fn link(&mut self, name: &str, target: &str) -> Result<(), Failed>
+        ensures { OnOk result (NodeMade (memory_state self.old) (memory_state self.new) name.now (link_to target.now)) }
+    {
+        match String::from_str(self.alloc, target) {
+            Ok(target) => self.make_as(name, Held::Link(target)),
+            Err(_) => {
+                let Failed = self.logs.fail();
+                Err(Failed)
+            }
+        }
+    }
+
+    /// Makes a folder at a free name.
+    pub fn folder(&mut self, name: &str) -> Result<(), Failed>
+        ensures { OnOk result (NodeMade (memory_state self.old) (memory_state self.new) name.now folder) }
+    {
+        self.make_as(name, Held::Folder)
+    }
+
+    // Makes an inode with this content at a free name.
+    fn make_as(&mut self, name: &str, held: Held) -> Result<(), Failed>
+        ensures { OnOk result (NodeMade (memory_state self.old) (memory_state self.new) name.now (node_in held)) }
+    {
+        match self.begin() {
+            Ok(()) => {}
+            Err(Failed) => return Err(Failed),
+        }
+        match self.logs.make(self.alloc, name) {
+            Ok(()) => {}
+            Err(Failed) => return Err(Failed),
+        }
+        let made = self.logs.made;
+        match self.logs.be(made, held) {
+            Ok(()) => Ok(()),
+            Err(Failed) => Err(Failed),
         }
     }
 
@@ -120,6 +190,9 @@ impl FileSystem for MemoryFiles {
             Ok(()) => {}
             Err(Failed) => return Err(Failed),
         }
+        if self.logs.has_folder(name) {
+            return Err(self.logs.fail());
+        }
         match self.logs.change(self.alloc, name, None, name) {
             Ok(()) => Ok(()),
             Err(Failed) => Err(Failed),
@@ -170,6 +243,9 @@ impl FileSystem for MemoryFiles {
         match self.begin() {
             Ok(()) => {}
             Err(Failed) => return Err(Failed),
+        }
+        if self.logs.has_folder(to) {
+            return Err(self.logs.fail());
         }
         let inode = self.logs.inode_now(from);
         match self.logs.change(self.alloc, to, inode, from) {

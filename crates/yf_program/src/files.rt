@@ -44,12 +44,26 @@ pub trait Links: FileSystem {
             (IsUnfound (Self.tells → LeadsNowhere (Self.state self.now) (leads self.now name.now))) };
 }
 
-/// Files in memory. None of them is a link.
+/// Files in memory, with links among them.
 impl Links for MemoryFiles {
-    ghost leads = { λ _ name file. file ≡ name };
+    ghost use Rattle.yf_files.specs.Links.{LeadsTo};
 
-    fn followed(&self, _alloc: Global, _name: &str) -> Result<Option<String>, RewriteError<Fault>> {
-        Ok(None)
+    ghost leads = { λ files name file. LeadsTo files name file };
+
+    fn followed(&self, alloc: Global, name: &str) -> Result<Option<String>, RewriteError<Fault>> {
+        let Some(file) = self.led(name) else {
+            return Err(RewriteError::Unreadable);
+        };
+        if file == name {
+            return Ok(None);
+        }
+        if !self.has_file(file) {
+            return Err(RewriteError::Unreadable);
+        }
+        match String::from_str(alloc, file) {
+            Ok(file) => Ok(Some(file)),
+            Err(_) => Err(RewriteError::Memory),
+        }
     }
 }
 

@@ -4,7 +4,7 @@ use std::alloc::Global;
 use yf_files::{FileSystem, MemoryFiles, ReplaceError, RewriteError};
 use yf_forms::style::Style;
 use yf_lines::fault::Fault;
-use yf_program::files::rewrite_in;
+use yf_program::files::{rewrite, rewrite_in};
 
 const FILE: &str = "folder/a.yaml";
 
@@ -136,4 +136,36 @@ fn stops_leave_the_old_text_or_the_new_one(rt: HostRuntime) {
         assert!(rt; is_rewritten(rt.alloc(), call, false), "{call}");
         assert!(rt; is_rewritten(rt.alloc(), call, true), "{call}");
     }
+}
+
+/// Makes a folder with the file in it, and links to both, to nothing and to itself.
+fn put_links(files: &mut MemoryFiles) -> bool {
+    files.folder("folder").is_ok()
+        && put(files, FILE, OLD)
+        && files.link("first", "second").is_ok()
+        && files.link("second", FILE).is_ok()
+        && files.link("to folder", "folder").is_ok()
+        && files.link("to nothing", "nothing").is_ok()
+        && files.link("to itself", "to itself").is_ok()
+}
+
+/// Whether nothing is rewritten by a name.
+fn is_unreadable(alloc: Global, files: &mut MemoryFiles, name: &str) -> bool {
+    matches!(
+        rewrite(alloc, files, name, &Style::house()),
+        Err(RewriteError::Unreadable)
+    )
+}
+
+#[test]
+fn links_are_followed(rt: HostRuntime) {
+    let mut files = MemoryFiles::new(rt.alloc(), usize::MAX);
+    assert!(rt; put_links(&mut files));
+    for name in ["folder", "to folder", "to nothing", "to itself"] {
+        assert!(rt; is_unreadable(rt.alloc(), &mut files, name), "{name}");
+    }
+    assert!(rt; rewrite(rt.alloc(), &mut files, "first", &Style::house()).is_ok());
+    let now = files.at_moment(files.moment());
+    assert!(rt; files.found(FILE, now.changes, now.contents) == Some(NEW.as_bytes()));
+    assert!(rt; files.led("first") == Some(FILE));
 }

@@ -4,7 +4,10 @@ use Rattle.yf_files.proofs.MemoryLemmas.{either, removed, time_changes, time_fai
 use Rattle.yf_files.proofs.memory.MemoryFilesFileSystem.remove.Goals as goal
 
 pub invariant_of-self : goal.invariant_of-self
-invariant_of-self c = let mid = c.begin.new.self.logs in let new = c.change.new.self in let n = c.args.name.now in
+invariant_of-self c = record { well = well_fails c.begin.new.self.logs c.fail.new.self c.begin.new.self.well c.fail.ensures }
+
+pub invariant_of-self-2 : goal.invariant_of-self-2
+invariant_of-self-2 c = let mid = c.begin.new.self.logs in let new = c.change.new.self in let n = c.args.name.now in
     let well = c.begin.new.self.well in
     record { well = either c.change.result c.change.ensures.ok c.change.ensures.err (λ h. well_changes mid new n n None well h (λ i is. absurd (none-some i is))) (well_fails mid new well) }
 
@@ -17,3 +20,6 @@ returns-in-Ok-change-clause-time c told = time_changes c.args.self.now.logs c.be
 
 pub returns-in-Err-change-clause-time : goal.returns-in-Err-change-clause-time
 returns-in-Err-change-clause-time c told = time_failing c.args.self.now.logs c.begin.new.self.logs c.change.new.self c.args.self.now.well c.in-Ok.ensures.ok c.in-Err-change.ensures.err
+
+pub returns-then-has_folder-clause-time : goal.returns-then-has_folder-clause-time
+returns-then-has_folder-clause-time c told = time_failing c.args.self.now.logs c.begin.new.self.logs c.fail.new.self c.args.self.now.well c.in-Ok.ensures.ok c.fail.ensures
