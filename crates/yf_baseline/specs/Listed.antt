@@ -9,7 +9,7 @@ use Rattle.yf_baseline.specs.declared.entry.Entry.{Entry}
 abbrev pub is_new : List (List ℕ) → Entry → Bool
 is_new lines e = not (is_among lines (entry_line e))
 
--- the findings whose entries are new, in order; the first entry is that of the first finding, and so on
+-- the findings with new entries, in order; the first entry is that of the first finding, and so on
 abbrev pub unlisted : {F : Type 0} → List (List ℕ) → List F → List Entry → List F
 unlisted lines findings entries = chosen findings (map (λ e. is_new lines e) entries)
 

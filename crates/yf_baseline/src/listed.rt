@@ -46,7 +46,7 @@ pub fn names_of(alloc: Global, files: &[&str]) -> Result<Texts, AllocError>
     Ok(set)
 }
 
-/// Returns the findings whose entries a baseline doesn't list, in order. The first entry is that of the first finding,
+/// Returns the findings that a baseline doesn't list, in order. The first entry is that of the first finding,
 /// and so on. `listed` has the lines of the baseline's entries.
 ///
 /// # Errors

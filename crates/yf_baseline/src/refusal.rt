@@ -9,7 +9,7 @@ pub enum Refusal {
     Memory,
     /// The text is not JSON.
     NotJson,
-    /// It is not an object whose member `version` is 1.
+    /// It is not an object with a member `version` of 1.
     Version,
     /// The member `findings` is not an array of entries.
     Shape,

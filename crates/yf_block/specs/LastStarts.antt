@@ -1,4 +1,4 @@
--- The last offset before another at which a line begins, of the lines whose breaks begin at or after an offset.
+-- The last offset before another that begins a line, of the lines with breaks at or after an offset.
 use Rattle.std.specs.Prelude.{ℕ, ◌<◌, ◌≤◌, List, Option, Some, None}
 use Rattle.yf_lines.specs.Basic.{Break}
 

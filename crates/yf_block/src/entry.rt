@@ -94,7 +94,7 @@ pub(crate) fn start_with<'a>(
 }
 
 impl<'a> BlockReader<'a> {
-    /// Opens the collection whose first entry begins at the offset with its sign: `-`, `?` or `:` (l+block-sequence,
+    /// Opens the collection with its first entry at the offset, at its sign: `-`, `?` or `:` (l+block-sequence,
     /// production 183; l+block-mapping, production 187; compact forms: productions 186 and 195).
     #[inline(never)]
     pub(crate) fn open_collection(

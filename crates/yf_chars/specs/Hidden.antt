@@ -13,7 +13,7 @@ is_no_break_space c = (c == 0xA0) || (c == 0x2007) || (c == 0x202F)
 unfoldable pub is_other_break : ℕ → Bool
 is_other_break c = (c == 0x85) || (c == 0x2028) || (c == 0x2029)
 
--- characters of private use, whose look depends on the font (general category Co)
+-- characters of private use, which look as the font decides (general category Co)
 unfoldable pub is_private_use : ℕ → Bool
 is_private_use c = is_between 0xE000 0xF8FF c || is_between 0xF0000 0xFFFFD c || is_between 0x100000 0x10FFFD c
 

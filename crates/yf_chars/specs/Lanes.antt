@@ -2,7 +2,7 @@
 use Rattle.std.specs.Prelude.{◌≡◌, ℕ, ◌+◌, ◌<◌, ◌≤◌, ◌==◌, Bool, true, false, List, if◌then◌else◌, slice_index}
 use Rattle.std.specs.Int.{w64, trailing_zeros}
 
--- the number of lanes before the first one whose bit is set
+-- the number of lanes before the first one with its bit set
 abbrev pub lanes_before : ℕ → ℕ
 lanes_before mask = if mask == 0 then 16 else trailing_zeros w64 mask
 

@@ -8,7 +8,7 @@ pub mod LineOrder
 pub mod SeparateLemmas
 -- the common cases of `next_row`, `line_end` and `separate`
 mod SolidLemmas
--- `is_blank_before`, whose result is known for every text (`ReadingOf` of yf_stream)
+-- `is_blank_before`, with a result that is known for every text (`ReadingOf` of yf_stream)
 pub mod BlankLemmas
 mod VisibleLemmas
 pub mod NoteKnown

@@ -33,7 +33,7 @@ pub fn separate_in_line(s: &str, at: usize) -> Option<usize>
     in_line_from(s, at, end)
 }
 
-// Reads such a separation whose white space ends at `place`.
+// Reads such a separation with white space that ends at `place`.
 #[inline(always)]
 fn in_line_from(s: &str, at: usize, place: usize) -> Option<usize>
     requires boundary { IsCharBoundary s.now place }
@@ -175,7 +175,7 @@ pub fn separate_lines<'a>(
     lines_from(alloc, s, at, place, width)
 }
 
-// Reads such a separation whose first white space ends at `place`.
+// Reads such a separation with first white space that ends at `place`.
 fn lines_from<'a>(
     alloc: Global,
     s: &'a str,

@@ -107,7 +107,7 @@ searched ts i (Err k) rise within parted = absent ts i (λ j l same. elim (cases
   | inr least ↦ let above : i < event_at ts j = ranked _ i _ (sym ((parted (comparisons_rise ts i rise)).1 j no_tag least l)) in omega (arith, above, same)
 ])
 
--- an index between two tags, the first of which is just before it
+-- an index between two tags, and just after the first of them
 module _ (ts : List TaggedEvent) (i place : ℕ) (rise : RisesIn ts) (within : place ≤ length ts) (below : 0 < place → event_at ts (place - 1) < i) where
   before_place : (j : ℕ) → j < place → event_at ts j < i
   before_place j l = elim (cases_lt j (place - 1)) [

@@ -1,4 +1,4 @@
--- Paths whose names have equal texts are excluded alike, wherever the texts are lent from.
+-- Paths with names that have equal texts are excluded alike, from wherever the texts are lent.
 use Rattle.std.proofs.Common.{◌≡◌, ℕ, zero, suc, ◌+◌, ◌<◌, Bool, true, false, IsTrue, List, [], ◌∷◌, length, take, map, refl, sym, subst, ap, ◌∙◌}
 use Rattle.std.specs.Prelude.{nat_lt}
 use Rattle.yf_excludes.specs.declared.pattern.Pattern.{Pattern}

@@ -58,7 +58,7 @@ fn read_member(text: &[u8], at: usize) -> Option<(ByteRange, usize)>
     }
 }
 
-// Returns the range whose first byte and sign are read, and its end.
+// Returns the range after its first byte and sign, and its end.
 fn read_range(text: &[u8], at: usize, first: u8, sign: usize) -> Option<(ByteRange, usize)>
     requires first_read { ClassByte text.now at first sign }
     requires signed { IsRangeSign text.now sign }
@@ -103,7 +103,7 @@ fn read_members(
     Ok(Some((ranges, at + 1)))
 }
 
-// Returns whether the class whose first byte is at the offset is negated.
+// Returns whether the class with its first byte at the offset is negated.
 fn is_negated(text: &[u8], at: usize) -> bool
     ensures read { result ≡ negates text.now at }
     ensures within { IsTrue result → at < length text.now }

@@ -74,7 +74,7 @@ pub record IsSound (s : FilesState) : Type 0 where
   pub only_now : (name : Name) (x : Option Node) → s.since s.moment name x → MayBeFound s name x
   pub counts_now : (t : ℕ) (name : Name) (x : Option Node) → t ≤ s.moment → MayBeFound s name x → s.since t name x
 
--- the state of a system of which nothing is known
+-- the state of an unknown system
 abbrev pub unknown : FilesState
 unknown = record {
   entry = λ _. None;

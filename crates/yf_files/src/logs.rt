@@ -75,7 +75,7 @@ pub struct Logs {
 }
 
 impl Logs {
-    /// Returns a state in which nothing has happened.
+    /// Returns an empty state.
     pub fn new(alloc: Global) -> Logs
         ensures { IsWell result }
     {

@@ -19,14 +19,14 @@ pub enum DocumentStart {
 pub enum CommentColumns {
     /// The column of the next line.
     Next,
-    /// The column of the block in which the comment was written.
+    /// The column of the block around the comment in the text.
     Block,
 }
 
 /// The settings of the house style. Each value of this type is within the ranges of its fields.
 #[derive(Clone, Copy)]
 pub struct Style {
-    /// The number of columns by which an entry is to the right of the entry around it, 2 to 8.
+    /// The distance in columns between an entry and the entry around it, 2 to 8.
     pub indent: usize,
     /// The last column, from 1, for the closing bracket of a flow collection on one line, 40 to 1000.
     pub max_line: usize,
@@ -39,7 +39,7 @@ pub struct Style {
     pub document_start: DocumentStart,
     /// The columns of comments on lines of their own.
     pub comments: CommentColumns,
-    /// The way in which quoted scalars hold hidden characters.
+    /// How quoted scalars hold hidden characters.
     pub invisible: Invisible,
     pub ghost indent_from: { 2 ≤ indent },
     pub ghost indent_to: { indent ≤ 8 },

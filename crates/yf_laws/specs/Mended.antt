@@ -31,6 +31,6 @@ abbrev pub IsFreeOf : List ℕ → Style → RuleDefinition → Type 0
 IsFreeOf u s rule =
     (src : Table) (q : Lists) → src.text ≡ u → AreLines u src.lines → ReadingOf u q → (offsets : List ℕ) → rule.faults src q s offsets → offsets ≡ []
 
--- u has no finding of a rule whose findings the house style fixes
+-- u has no finding of a rule that the house style fixes
 abbrev pub IsMended : List ℕ → Style → Type 0
 IsMended u s = (rule : StyleRule) → (definition_of rule).fixable ≡ true → IsFreeOf u s (definition_of rule)

@@ -1,6 +1,6 @@
 //! Lines of a text by their numbers, and how a text writes them: `3-7,12`.
 //!
-//! A text of ranges is read exactly, or refused. The crate knows no text whose lines these are.
+//! A text of ranges is read exactly, or refused. The crate knows no text that has these lines.
 #![tactic(auto)]
 
 pub mod number;

@@ -54,7 +54,7 @@ abbrev pub unused_at : Option (List ℕ) → ℕ → (List ℕ → Bool) → Lis
 unused_at None start later = []
 unused_at (Some name) start later = if later name then [] else start ∷ []
 
--- the nodes whose anchors no alias uses
+-- the nodes with anchors that no alias uses
 abbrev pub unused : List EventInText → List ℕ
 unused [] = []
 unused (e ∷ es) = unused_at (anchor_of e.event) (start_of e.span) (is_used es) ++ unused es
@@ -85,7 +85,7 @@ abbrev pub repeated_at : List (List ℕ) → Option (List ℕ) → ℕ → List 
 repeated_at names None start = []
 repeated_at names (Some name) start = if has names name then start ∷ [] else []
 
--- the nodes whose anchors an earlier node of the document has too, after these names
+-- the nodes with anchors that an earlier node of the document has too, after these names
 abbrev pub repeated : List (List ℕ) → List EventInText → List ℕ
 repeated names [] = []
 repeated names (e ∷ es) = repeated_at names (anchor_of e.event) (start_of e.span) ++ repeated (names_after e.event names) es

@@ -158,7 +158,7 @@ fn pass_on<'r>(
     }
 }
 
-/// Returns the byte offsets of the nodes whose anchors an earlier node of their document has too.
+/// Returns the byte offsets of the nodes with anchors that an earlier node of their document has too.
 ///
 /// The time is linear, up to a logarithm, in the number of events.
 pub fn repeated_anchors(alloc: Global, reading: &Reading) -> Result<Vec<usize>, AllocError>

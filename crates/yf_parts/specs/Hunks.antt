@@ -1,4 +1,4 @@
--- The hunks by which a text and its formatting differ, and the text with some of them applied.
+-- The hunks between a text and its formatting, and the text with some of them applied.
 use Rattle.std.specs.Prelude.{◌≡◌, ℕ, ◌+◌, ◌≤◌, Bool, List, [], ◌∷◌, ◌++◌, length, drop, slice_range, Option, None}
 use Rattle.std.specs.Prelude.{Some, if◌then◌else◌}
 use Rattle.std.specs.List.{concat}

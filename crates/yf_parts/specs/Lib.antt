@@ -1,4 +1,4 @@
--- the hunks by which a text and its formatting differ, and the text with some of them applied
+-- the hunks between a text and its formatting, and the text with some of them applied
 pub mod Hunks
 -- the requested lines, and the hunks that touch them
 pub mod Asked

@@ -113,7 +113,7 @@ fn hunks_of(
     Ok(hunks)
 }
 
-/// Returns the hunks by which a text and its formatting differ, in order. They are the runs of changes of an edit
+/// Returns the hunks between a text and its formatting, in order. They are the runs of changes of an edit
 /// script between the two; the contract says only that the lines between them are equal.
 ///
 /// # Errors

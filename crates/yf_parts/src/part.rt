@@ -24,7 +24,7 @@ use yf_rules::format::format;
 pub struct FormattedPart {
     /// The text.
     pub text: String,
-    /// All hunks by which the text and its formatting differ, in order.
+    /// All hunks between the text and its formatting, in order.
     pub hunks: Vec<Hunk>,
     /// For each hunk whether it is applied.
     pub applied: Vec<bool>,
@@ -157,7 +157,7 @@ fn part_of(
     })
 }
 
-/// Returns a text whose requested lines are as in its formatting, with few other changes. `PartKept` has all that is
+/// Returns a text with its requested lines as in its formatting, and with few other changes. `PartKept` has all that is
 /// proved of it: it is the text with some hunks applied, and all other bytes are unchanged; it has the content and the
 /// comments of the text; its formatting is that of the text; every hunk that touches a requested line is applied; and
 /// if no hunk touches one, it is the text.

@@ -94,7 +94,7 @@ struct Lines {
     end: usize,
 }
 
-// Reads the plain scalar at the offset, whose first line ends at `first_end`.
+// Reads the plain scalar at the offset, with a first line that ends at `first_end`.
 fn plain_lines(
     alloc: Global,
     s: &str,

@@ -1,8 +1,8 @@
-//! The units by which a position counts the characters of a line.
+//! The units that a position counts on a line.
 ghost use Rattle.std.specs.Prelude.{◌≡◌};
 ghost use Rattle.yf_positions.specs.Units.{byte_units, is_break};
 
-/// The unit by which a position counts (`PositionEncodingKind` of LSP 3.17).
+/// The unit that a position counts (`PositionEncodingKind` of LSP 3.17).
 #[derive(Clone, Copy)]
 pub enum Encoding {
     /// Bytes.

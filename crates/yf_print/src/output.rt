@@ -66,7 +66,7 @@ pub struct Output {
     is_bodyless: bool,
 }
 
-/// Returns whether comments keep the blocks in which they were written.
+/// Returns whether comments keep their blocks.
 #[tactic(auto, unfolding(crate::specs::Layouts::KeptColumns::keeps_blocks))]
 fn keeps(style: &Style) -> bool
     ensures { result ≡ keeps_blocks style.now }

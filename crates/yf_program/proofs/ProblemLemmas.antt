@@ -19,7 +19,7 @@ module _ (src : Table) (reading : Lists) (style : Style) where
   pub none_found : (rules : List StyleRule) (found : List Found) → found ≡ [] → FoundBy src reading style (take 0 rules) found
   none_found rules found none = subst (λ (f : List Found). FoundBy src reading style [] f) (sym none) no_rule
 
-  -- one more rule, whose name was read
+  -- one more rule, after its name was read
   pub found_more : (rule : StyleRule) (details : List Detail) (id : List ℕ) (before after : List Found) → id ≡ (definition_of rule).id
       → RuleDetails rule src reading style details → after ≡ before ++ map (problem_named id) details
       → (rules : List StyleRule) → FoundBy src reading style rules before → FoundBy src reading style (rules ++ rule ∷ []) after

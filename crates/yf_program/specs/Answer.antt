@@ -1,4 +1,4 @@
--- What the program does, from the words of its command line to its status, in the order in which it works.
+-- What the program does, from the words of its command line to its status, in the order of its work.
 -- Its last definition, `ProgramRuns`, is the whole. Each one above it says what one step does.
 -- (before, after: the world, the streams or one stream before and after a step;
 -- reader, left: a reader before and after it was read)
@@ -181,7 +181,7 @@ RanFmtCheck task status reader left before after =
     ⊎ ((f : Fault) × RefusedCompare task.style reader left before.output after.output f
     × EndsOver task.explain reader.contents f status before.errors after.errors)
 
--- The name by which an input is reported.
+-- The name of an input in reports.
 abbrev pub name_of : Input → List ℕ
 name_of Standard = codes "-"
 name_of (File name) = name

@@ -15,10 +15,10 @@ use yf_rule_sets::facts::places::known_positions;
 use yf_rules::finding::Finding;
 use yf_stream::stream::read_stream;
 
-/// The rule whose findings have an earlier key elsewhere.
+/// The rule with findings that have an earlier key elsewhere.
 const REPEATED: &str = "repeated-keys";
 
-/// The rule whose findings have an expected column.
+/// The rule with findings that have an expected column.
 const INDENTATION: &str = "indentation";
 
 /// The rules, and what `fmt` does about a finding of each rule.

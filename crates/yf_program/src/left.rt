@@ -1,11 +1,11 @@
-//! Standard output whose reader may leave before the end of the output, as `head` does.
+//! Standard output with a reader that may leave before the end of the output, as `head` does.
 ghost use Rattle.std.specs.Prelude.{None};
 
 use std::cell::Cell;
 use std::io;
 use std::io::{ErrorKind, Write};
 
-/// The exit status that a shell reports for a program whose reader has left.
+/// The exit status that a shell reports for a program after its reader has left.
 pub const LEFT: u8 = 141;
 
 /// A writer that notes when its reader has left.

@@ -1,4 +1,4 @@
-//! Inputs in memory, whose contents are known.
+//! Inputs in memory, with known contents.
 ghost use Rattle.std.specs.Prelude.{◌≡◌, option_map};
 ghost use Rattle.yf_program.specs.MemoryInputs.{held};
 
@@ -68,7 +68,7 @@ fn found(files: &'static [Stored], name: &str) -> Option<&'static [u8]>
     None
 }
 
-/// Inputs in memory, whose contents are known. A file that is not among `files` can't be opened, and no read fails.
+/// Inputs in memory, with known contents. A file that is not among `files` can't be opened, and no read fails.
 #[derive(Drop)]
 pub struct MemoryInputs {
     /// The files.

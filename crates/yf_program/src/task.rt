@@ -25,7 +25,7 @@ pub enum Work {
 pub struct Task {
     /// What is done.
     pub work: Work,
-    /// The style in which it is done.
+    /// The style of the task.
     pub style: Style,
     /// Whether each fault and each finding is explained.
     pub explain: bool,

@@ -103,7 +103,7 @@ module _ {A : Type 0} {t : List ℕ} {put : List ℕ → List A} {C B : ℕ → 
   later_more : {e h k : ℕ} {x z y : List A} (l : Later t put C B quote e x k y) → Later t put C B quote h z k l.rest → Later t put C B quote h (x ++ z) k y
   later_more {x = x} {z = z} l m = record { rest = m.rest; body = m.body; text = l.text ∙ ap (λ w. x ++ w) m.text ∙ sym (append_assoc x z m.rest) }
 
-  -- a step whose character doesn't begin with a quote
+  -- a step with a character that doesn't begin with a quote
   pub best_more : {i e h : ℕ} {x z : List A} {best : Option (Closed A)} → Laws t put C B quote → Best t put C B quote i e x best → (s : Step t put C B e h z)
       → code t s.at ≢ quote → Best t put C B quote i h (x ++ z) best
   best_more {i} {e} {h} {x} {z} {best} l b s n = record {
@@ -117,7 +117,7 @@ module _ {A : Type 0} {t : List ℕ} {put : List ℕ → List A} {C B : ℕ → 
         (b.every k y d);
   }
 
-  -- a step whose character begins with a quote that closes a body
+  -- a step with a character that begins with a quote and closes a body
   pub best_mark : {i e h : ℕ} {x z : List A} {best : Option (Closed A)} → Laws t put C B quote → Chain (Step t put C B) i e x → Best t put C B quote i e x best
       → (s : Step t put C B e h z) → code t s.at ≡ quote → Best t put C B quote i h (x ++ z) (Some (record { close = s.at; text = x ++ s.front }))
   best_mark {i} {e} {h} {x} {z} {best} l a b s q = record {

@@ -1,4 +1,4 @@
--- Example texts in quotes, each of which is on one line.
+-- Example texts in quotes, each on one line.
 use Rattle.std.proofs.Common.{◌≡◌, [], ◌∷◌, codes, refl}
 use lib.Utf8.{encode}
 use Rattle.yf_chars.specs.Class.{is_between, is_printable, is_break_char, is_nb_char}
@@ -16,7 +16,7 @@ quote_is_at : IsLineText (codes "'it''s'")
 unfolding encode is_nb_char is_printable is_between is_break_char
 quote_is_at = single_line_text (codes "it's") refl
 
--- a, a line feed, a tab, and a character whose escape is a number
+-- a, a line feed, a tab, and a character that is escaped by a number
 breaks_spelled : double_bytes (97 ∷ 10 ∷ 9 ∷ 133 ∷ []) ≡ codes "\"a\\n\\t\\x85\""
 unfolding encode upper_digit two_digits is_by_two is_by_four spelled_long spelled_by spelled short_name is_between
 breaks_spelled = refl

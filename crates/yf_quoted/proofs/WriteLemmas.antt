@@ -329,7 +329,7 @@ single_back cs a = record { derived = derived; chosen = chosen } where
       let end = frame_length (encode_utf8_all (flat_map twice cs)) 39 i in
       subst (λ k. Chosen (SingleQuoted t n c i) k cs) end (line_chosen u w.1 f.opening f.inside f.clear f.closing (λ z. q (ap (code t) (sym end) ∙ z)))
 
--- a text in double quotes whose characters are each written in a way that is read again
+-- a text in double quotes with each character written so that it is read again
 pub double_back_by : (f : ℕ → List ℕ) → ((c : ℕ) → scalar c ≡ true → ReadsBack (encode_utf8_all (f c)) c) → (cs : List ℕ) → scalars cs ≡ true
     → DoubleBack (34 ∷ encode_utf8_all (flat_map f cs) ++ 34 ∷ []) cs
 double_back_by f back cs a = record { chosen = chosen } where

@@ -41,7 +41,7 @@ pub record Body {A : Type 0} (t : List ℕ) (put : List ℕ → List A) (C B : �
   pub closing : code t j ≡ quote
   pub text : x ≡ front ++ last
 
--- the breaks of a scalar whose lines are indented by a width; a scalar on one line has none
+-- the breaks of a scalar with lines that are indented by a width; a scalar on one line has none
 abbrev pub DoubleBreaks : List ℕ → Option ℕ → ℕ → ℕ → List Piece → Type 0
 DoubleBreaks t None i j x = ⊥
 DoubleBreaks t (Some w) i j x = DoubleBreak t (pos w) i j x
@@ -112,7 +112,7 @@ pub record DoubleRead (t : List ℕ) (o : Option ℕ) (i : ℕ) (bytes wrong : L
 pub record NoDoubleBody (t : List ℕ) (o : Option ℕ) (i : ℕ) : Type 0 where
   pub none : (k : ℕ) (y : List Piece) → Body t goods (DoubleChar t) (DoubleBreaks t o) 34 i k y → ⊥
 
--- the width by which the lines of a quoted scalar are indented; keys and negative indentations have none
+-- the indentation of the lines of a quoted scalar; keys and negative indentations have none
 pub data WidthOf (n : ℤ) (c : Ctx) : Option ℕ → Type 0 where
   of_key : is_key c ≡ true → WidthOf n c None
   of_lines : (w : ℕ) → is_flow c ≡ true → n ≡ pos w → WidthOf n c (Some w)

@@ -52,7 +52,7 @@ pub fn read_double<'a>(alloc: Global, src: &Src<'a>, at: usize, n: i32, ctx: Ctx
     }
 }
 
-/// Reads a double-quoted scalar as `read_double` does, but reads an escape whose number is not a character as U+FFFD.
+/// Reads a double-quoted scalar as `read_double` does, but reads an escape of a number that is no character as U+FFFD.
 /// Returns the text, the position of the first such escape, and the offset after the scalar.
 ///
 /// # Errors
@@ -159,7 +159,7 @@ fn simple_end(s: &str, at: usize) -> Option<usize>
     }
 }
 
-// A character and the offset after it; the value is `None` for an escape whose number is not a character.
+// A character and the offset after it; the value is `None` for an escape of a number that is no character.
 #[derive(Clone, Copy)]
 struct DoubleChar {
     value: Option<char>,

@@ -34,7 +34,7 @@ pub struct Rule<'a> {
     pub help: &'a str,
 }
 
-/// Returns the report as a SARIF log with one run, whose tool has the given rules.
+/// Returns the report as a SARIF log with one run and the given rules.
 ///
 /// Columns count characters (`columnKind` is `unicodeCodePoints`). The name of a file is a URI with percent escapes,
 /// and standard input has the URI `stdin`. The property `fixable` says whether `fmt` fixes a problem.

@@ -29,7 +29,7 @@ pub data WithoutFinalBreak (t : List ℕ) : List ℕ → Type 0 where
 abbrev pub final_break_at : Table → Lists → Style → List ℕ → Type 0
 final_break_at src reading style offsets = WithoutFinalBreak src.text offsets
 
--- line-breaks: the break of the first line whose break begins with a carriage return
+-- line-breaks: the first break that begins with a carriage return
 abbrev pub first_return : List ℕ → List Line → List ℕ
 first_return t [] = []
 first_return t (l ∷ ls) = if code t l.end == 13 then l.end ∷ [] else first_return t ls

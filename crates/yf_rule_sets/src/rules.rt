@@ -34,7 +34,7 @@ pub enum StyleRule {
     DocumentStart,
     /// The end of a text that is not empty and does not end with a line break.
     FinalBreak,
-    /// The break of the first line whose break is not a line feed.
+    /// The first break that is not a line feed.
     LineBreaks,
     /// Each byte order mark outside of scalars. Marks together at the start of a line have one position.
     ByteOrderMark,

@@ -8,6 +8,6 @@ use Rattle.yf_rule_sets.specs.Definition.{RuleDefinition}
 abbrev pub is_among : List (List ℕ) → List ℕ → Bool
 is_among names id = list_any (λ name. bytes_eq name id) names
 
--- the values, with their definitions, whose names are not among these, in order
+-- the values, with their definitions, that have none of these names, in order
 abbrev pub asked : {B : Type 0} → (B → RuleDefinition) → List (List ℕ) → List B → List B
 asked definition without bs = filter (λ b. not (is_among without (definition b).id)) bs

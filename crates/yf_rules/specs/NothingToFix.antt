@@ -1,4 +1,4 @@
--- Findings of which none is fixable.
+-- Findings that are all not fixable.
 use Rattle.std.specs.Prelude.{◌≡◌, false, List}
 use Rattle.std.specs.List.{Contains}
 use Rattle.yf_rules.specs.declared.finding.Finding.{Finding}

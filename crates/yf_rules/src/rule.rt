@@ -19,7 +19,7 @@ pub struct About {
 }
 
 impl About {
-    /// Describes a rule whose findings the house style fixes.
+    /// Describes a rule with findings that the house style fixes.
     pub fn fixable(number: usize, id: &'static str) -> About
         ensures number { result.number ≡ number }
         ensures id { result.id.now ≡ id.now }
@@ -32,7 +32,7 @@ impl About {
         }
     }
 
-    /// Describes a rule whose findings the house style doesn't fix.
+    /// Describes a rule with findings that the house style doesn't fix.
     pub fn unfixable(number: usize, id: &'static str) -> About
         ensures number { result.number ≡ number }
         ensures id { result.id.now ≡ id.now }

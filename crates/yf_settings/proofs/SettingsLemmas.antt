@@ -1,4 +1,4 @@
--- The first wrong key of members whose keys ascend is the least one.
+-- The first wrong key of members with ascending keys is the least one.
 use Rattle.std.proofs.Common.{◌≡◌, ◌⊎◌, ℕ, Bool, true, false, List, [], ◌∷◌, Option, Some, None, if◌then◌else◌}
 use Rattle.std.proofs.Common.{Ordering, Less, Equal, Greater, string_bytes, nat_cmp, is_eq}
 use Rattle.std.proofs.Common.{refl, sym, ap, subst, ◌∙◌, inl, inr}
@@ -19,7 +19,7 @@ use Rattle.toml.specs.View.{view, members_view}
 use Rattle.toml.proofs.Views.{Entry}
 use Rattle.yf_settings.specs.Settings.{is_right, IsRight, IsLeastWrong}
 
--- The first key whose value is wrong.
+-- The first key with a wrong value.
 abbrev pub first_wrong : Bool → Bool → Members → Option (List ℕ)
 first_wrong version patterns no_members = None
 first_wrong version patterns (member key value rest) =

@@ -80,7 +80,7 @@ is_right version patterns key value =
     else if bytes_eq key (codes "exclude") then patterns
     else false
 
--- A key that the table doesn't have, or whose value is right.
+-- A key that the table doesn't have, or that has a right value.
 abbrev pub IsRight : Bool → Bool → Members → List ℕ → Type 0
 IsRight version patterns table key =
     (value : Data) → get_member key table ≡ Some value → is_right version patterns key value ≡ true

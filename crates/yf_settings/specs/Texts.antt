@@ -1,4 +1,4 @@
--- The settings whose values are texts with their own grammar: `required_version` and `exclude`.
+-- The settings with values that have their own grammar: `required_version` and `exclude`.
 -- (d: the value of the key, if the table has it)
 use Rattle.std.specs.Prelude.{◌≡◌, ◌⊎◌, ℕ, Bool, true, false, List, [], ◌∷◌, Option, Some, None, Result, Ok, Err, map}
 use Rattle.semver.specs.EvalViews.{matches_views}

@@ -87,7 +87,7 @@ fn settings_of(alloc: Global, table: &Table) -> Result<FileSettings, Fault>
     }
 }
 
-// Returns the settings of a table whose values of `required_version` and `exclude` are right.
+// Returns the settings of a table with right values of `required_version` and `exclude`.
 fn settings_with(
     alloc: Global,
     table: &Table,
@@ -108,7 +108,7 @@ fn settings_with(
     }
 }
 
-// Returns the fault of a table whose value of `required_version` or `exclude` is wrong.
+// Returns the fault of a table with a wrong value of `required_version` or `exclude`.
 fn refusal(alloc: Global, table: &Table, version: bool, patterns: bool) -> Fault
     requires texts { TextsAreRight (table_view table.now) version patterns }
     requires wrong { (key : List ℕ) × IsWrong version patterns (table_view table.now) key }

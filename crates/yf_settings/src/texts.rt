@@ -1,4 +1,4 @@
-//! The settings whose values are texts with their own grammar: `required_version` and `exclude`.
+//! The settings with values that have their own grammar: `required_version` and `exclude`.
 ghost use Rattle.std.specs.Prelude.{◌≡◌, ◌≢◌, IfOk, MatchOption, None, Ok, OnErr, Some, codes, map};
 ghost use Rattle.semver.specs.Identifiers.{comparator_view};
 ghost use Rattle.semver.specs.Parse.{req_of};

@@ -94,7 +94,7 @@ blank_after : (s : Bool) (e m n : ℕ) (ls : List (List ℕ)) → e + m ≡ n �
 blank_after s e zero n ls q = let p : e ≡ n = omega (arith, q) in ap (λ z. folded_after s z ls) p
 blank_after s e (suc m) n ls q = blank_after s (e + 1) m n ls (omega (arith, q))
 
--- the text between two rows, one of which begins with white space if p is true
+-- the text between two rows; one of them begins with white space if p is true
 record GapMeans (t : List ℕ) (k : ℕ) (p : Bool) (h g : ℕ) (y : List Mark) : Type 0 where
   pub at : ℕ
   pub ends : Break t h at

@@ -1,4 +1,4 @@
--- The part of a text in which productions are read, and the relations of block scalars and documents in it.
+-- The part of a text that productions read, and the relations of block scalars and documents in it.
 use Rattle.std.proofs.Common.{◌≡◌, ℕ, ◌≤◌, ℤ, negsuc, Bool, true, false, List, length, refl, sym, subst, ◌⊎◌, inl, inr, arith, ◌+◌, ◌∙◌}
 use Rattle.std.specs.Str.{IsUtf8}
 use Rattle.yf_chars.specs.declared.context.Ctx.TheVariants.{BlockIn}

@@ -104,7 +104,7 @@ abbrev pub marks : List ℕ → List Mark
 marks [] = []
 marks (c ∷ cs) = char c ∷ marks cs
 
--- an escape whose number isn't a character's is bad; its offset
+-- an escape of a number that is no character's is bad; its offset
 unfoldable pub piece_of : ℕ → ℕ → Piece
 piece_of v i = if scalar v then good v else bad i
 

@@ -1,4 +1,4 @@
-//! Formatting with the setting that keeps comments in the blocks in which they were written.
+//! Formatting with the setting that keeps comments in their blocks.
 
 use crate::tests::answers::{Asked, is_run};
 

@@ -222,7 +222,7 @@ pub static FORMATTED: [(&str, &str, &str); 76] = [
         "...\n\u{FEFF} ...\n",
         "\"...\"\n",
     ),
-    // only a block scalar, whose tail is kept, and a second document
+    // only a block scalar with a kept tail, and a second document
     (
         "document_start = \"keep\"",
         "|+\n  a\n\n...\n# c\nb\n",

@@ -111,7 +111,7 @@ fn allowed_after(answer: &Result<(), RewriteError<Fault>>) -> Allowed {
     }
 }
 
-/// The number of calls of a run in which no call fails.
+/// The number of calls of a run without a failing call.
 const CALLS: usize = 11;
 
 /// Returns whether a file is rewritten as promised if the call with this number fails. `is_left` says whether another

@@ -190,7 +190,7 @@ fn is_for(alloc: Global, row: &(&str, &str, bool, usize)) -> bool {
     }
 }
 
-/// Settings files whose `exclude` or `required_version` is wrong, and the least wrong key.
+/// Settings files with a wrong `exclude` or `required_version`, and the least wrong key.
 static WRONG: [(&str, &str); 11] = [
     ("exclude = \"a\"", "exclude"),
     ("exclude = [\"a\", 1]", "exclude"),

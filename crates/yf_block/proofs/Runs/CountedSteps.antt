@@ -55,7 +55,7 @@ pub pushed_counted : (t : List ℕ) (limit total p : ℕ) (s : Step) (new old : 
 pushed_counted t limit total p s new old f e k q =
     subst (λ z. StepCounted t limit total (length new) z) (sym e) (let n = length-append old (f ∷ []) in let m = ap (λ z. length z) k in omega arith)
 
--- in a collection whose frame is on the stack
+-- in a collection with its frame on the stack
 pub within_counted : (t : List ℕ) (total i j : ℕ) (new old : List Frame) (f : Frame) → new ≡ old ++ f ∷ [] → j ≡ i → length old + 1 + openers_from t i ≤ total → length new + openers_from t j ≤ total
 within_counted t total i j new old f k e q = subst (λ (z : ℕ). length new + openers_from t z ≤ total) (sym e) (let n = length-append old (f ∷ []) in let m = ap (λ z. length z) k in omega arith)
 

@@ -1,4 +1,4 @@
--- A last call whose result is returned unchanged: properties of its success.
+-- A last call with a result that is returned unchanged: properties of its success.
 use Rattle.std.proofs.Common.{◌≡◌, refl, Result, Ok, Err, IfOk, is_ok, if◌then◌else◌}
 
 pub if_worked : {T E A : Type 0} (r : Result T E) {x : A} (y z : A) → x ≡ (if is_ok r then y else z) → IfOk r (λ _. x ≡ y)

@@ -79,7 +79,7 @@ all_within (one_within a r) l = one_within (omega arith) (all_within r l)
 no_indicator : {i : ℕ} → Indicator i ≡ Nothing → ⊥
 no_indicator e = cc
 
--- a node is awaited in the innermost collection, whose frame is on the stack
+-- a node is awaited in the innermost collection, which has its frame on the stack
 module _ {t : List ℕ} {d : ℕ} {root : BlockTask} {before part : Part} {old new : BlockCursor} {e p : ℕ} {l : Layer} {ls : List Layer} {h : Option ParsedNode} where
   pub node_there : {frames stack : List Frame} {top : Frame} (b : Bool) (c : Ctx) (entry : Option TheEntry.Entry) → NodeAt t d root (l ∷ ls) e [] (Awaited b (pos l.column) c (Indicator p) p) h → AllWithin l.column ls
       → l.column < p → new.floor ≤ p → AfterSign t p → FrameTied (length before.events) l ls top → StackTied (length before.events) ls frames old h → stack ≡ top ∷ frames → new.colons ≡ length (asked (l ∷ ls)) → new.halt ≡ old.halt

@@ -51,7 +51,7 @@ module _ {t : List ℕ} {before : Part} {x : Meaning} {progress : BlockCursor} {
   pub count_read : length old.events ≡ length before.events + length x.events
   count_read = ap (λ z. length z) r.written.added.events ∙ length-append before.events r.written.events ∙ ap (λ (k : ℕ). length before.events + k) (sym (noting_length r.written.noting))
 
-  -- events are added, none of which ends a block scalar
+  -- events are added, and none of them ends a block scalar
   pub read_events : {new : Part} (es fs : List EventInText) → Noting t progress.floor es fs → floor_after progress.floor es ≡ progress.floor → new.events ≡ old.events ++ fs → new.comments ≡ old.comments
       → new.escapes ≡ old.escapes → {y : Meaning} → x.events ++ es ≡ y.events → x.comments ≡ y.comments → x.escapes ≡ y.escapes → ReadTied t before y progress new
   read_events es fs n k a b c {y} p q s = record {

@@ -1,5 +1,5 @@
 -- A reader of block nodes with a stack, at the beginning of an entry: it awaits a node after `-`, `?`, `:` or a key, or
--- after the `:` of an entry whose key was read; or the entry is missing.
+-- after the `:` of an entry with a key that was read; or the entry is missing.
 use Rattle.std.proofs.Common.{◌≡◌, ℕ, ◌+◌, ◌≤◌, pos, true, false, List, [], ◌∷◌, Option, Some, None, refl, sym, ap, ◌∙◌, subst, true≢false}
 use Rattle.yf_chars.specs.declared.context.Ctx.TheVariants.{BlockOut, BlockIn, FlowOut}
 use Rattle.yf_grammar.specs.Productions.Grammar.{ColonLine}

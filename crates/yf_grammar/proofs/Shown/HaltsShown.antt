@@ -1,4 +1,4 @@
--- A small block node that is broken, and no part of which is left: it might end only at an offset at which no end is
+-- A small block node that is broken, and no part of it is left: it might end only at an offset at which no end is
 -- allowed.
 use Rattle.std.proofs.Common.{◌≡◌, ℕ, suc, zero, ◌+◌, ◌<◌, ℤ, pos, negsuc, true, false, List, [], ◌∷◌, Some, None, codes, refl, sym, subst, length, arith}
 use Rattle.std.specs.Str.{IsUtf8, chars}

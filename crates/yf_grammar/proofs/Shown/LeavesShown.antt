@@ -89,7 +89,7 @@ key_whole =
     (awaited_below (text_stops refl) (below_alone (text_stops refl) (no_node (text_ends refl)))))
     (no_entry (text_ends refl)))))
 
--- a plain scalar whose last line is a key's: the node that begins at it is broken, and ends with the line before the
+-- a plain scalar with a key on its last line: the node that begins at it is broken, and ends with the line before the
 -- key
 abbrev scalar_key : List ℕ
 scalar_key = codes "a\nb:"

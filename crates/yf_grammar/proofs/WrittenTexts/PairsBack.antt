@@ -24,7 +24,7 @@ pub characters_written : {t : List ℕ} (w r : List ℕ) {q : ℕ} → IsAt t q 
 unfolding characters_between
 characters_written w r s = ap (λ x. length (chars x)) (slice_back w r s)
 
--- implicit keys, whose limit counts the space before the colon
+-- implicit keys, with a limit that counts the space before the colon
 pub key_back : {t : List ℕ} {json : Bool} {c : Ctx} {w : List ℕ} {height : ℕ} {mean : ℕ → Meaning} (q : ℕ) (r : List ℕ) → IsUtf8 t → Back json true c w height mean
     → length (chars w) ≤ KEY_LIMIT → Follows is_after_text r → Rest t q (w ++ r) → Derives t height (KeyOf json c) q (q + length w) (mean q)
 key_back {t} {w = w} q r u b l f s =

@@ -96,12 +96,12 @@ pub data AllEnd (t : List ℕ) (at : ℕ) : List Layer → Type 0 where
   all_ended : AllEnd t at []
   one_ends : {l : Layer} {ls : List Layer} → EndsHere t at l → AllEnd t at ls → AllEnd t at (l ∷ ls)
 
--- collections whose columns are all greater than m
+-- collections with all columns greater than m
 pub data AllDeeper (m : ℕ) : List Layer → Type 0 where
   no_more : AllDeeper m []
   one_deeper : {l : Layer} {ls : List Layer} → m < l.column → AllDeeper m ls → AllDeeper m (l ∷ ls)
 
--- collections with no column greater than m; and collections none of which is less deep than one round it
+-- collections with no column greater than m; and collections that are all at least as deep as one round it
 pub data AllWithin (m : ℕ) : List Layer → Type 0 where
   none_within : AllWithin m []
   one_within : {l : Layer} {ls : List Layer} → l.column ≤ m → AllWithin m ls → AllWithin m (l ∷ ls)

@@ -1,5 +1,5 @@
 -- The results of the readers of nodes: a part that a production derives within a limit of open collections, that covers
--- no forbidden line, and whose entries note whether a blank line is before them.
+-- no forbidden line, and with entries that note whether a blank line is before them.
 use Rattle.std.specs.Prelude.{◌≡◌, ℕ, ◌≤◌, ℤ, pos, Bool, true, false, List, [], ◌∷◌, Option, Some, None}
 use Rattle.yf_chars.specs.declared.context.Ctx.{Ctx}
 use Rattle.yf_chars.specs.Text.{code, next}

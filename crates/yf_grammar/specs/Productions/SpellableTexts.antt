@@ -13,7 +13,7 @@ as_leaf (sequence_starts flow props) = scalar_node props Plain []
 as_leaf (mapping_starts flow props) = scalar_node props Plain []
 as_leaf e = e
 
--- the grammar derives a node of some text whose only event is this one, at some offsets
+-- the grammar derives a node of some text with this only event, at some offsets
 pub record IsSpelled (e : EventValue) (lines : List (List ℕ)) : Type 0 where
   pub text : List ℕ
   pub utf8 : IsUtf8 text

@@ -1,4 +1,4 @@
--- Trees whose block collections have their entries at the columns of the layout, as the trees of a layout have.
+-- Trees with the entries of block collections at the columns of the layout, as the trees of a layout have.
 use Rattle.std.proofs.Common.{◌≡◌, ℕ, ◌+◌, ◌<◌, ◌≤◌, Bool, true, false, true≢false, List, [], ◌∷◌, Some, refl, sym, ◌∙◌, subst}
 use Rattle.std.specs.Prelude.{◌&&◌, not, if◌then◌else◌}
 use Rattle.std.proofs.lemmas.Option.{same_Some}

@@ -1,4 +1,4 @@
--- Rows whose texts are not document markers cover no forbidden line, whatever they carry.
+-- Rows of texts that are not document markers cover no forbidden line, whatever they carry.
 use Rattle.std.proofs.Common.{◌≡◌, ◌≢◌, ℕ, zero, suc, ◌+◌, ◌<◌, List, [], ◌∷◌, ◌++◌, length, replicate, refl, sym, ap, ◌∙◌, subst, arith, append_assoc, append-nil, true, drop, length-drop}
 use Rattle.std.specs.Str.{IsUtf8}
 use Rattle.yf_lines.specs.Basic.{Clear}

@@ -195,7 +195,7 @@ same_in_documents {t} {u} {s} {es} utf8 f meant =
     documents_same t c (reading_meant utf8 f.reads n.of_reading)
     (subst (λ ds. DocumentsMeant (is_bare f.normal s) ds (map (normal_document t c) n.trees) es) documents (subst (λ xs. DocumentsMeant (is_bare f.normal s) f.normal.documents xs es) n.same meant))
 
--- the derivation has its leaves and comments in the order in which they were laid out
+-- the derivation has its leaves and comments in the order of the layout
 pub record FormattedLaid {t : List ℕ} {s : Style} {u : List ℕ} (f : IsFormatting t s u) : Type 0 where
   pub well : WellFormed f
   pub laid : DocumentsLaid 0 (length u) well.documents (steps_of (columns_of t s (rows_of f.normal s f.writes.trees)) f.normal (rows_of f.normal s f.writes.trees))

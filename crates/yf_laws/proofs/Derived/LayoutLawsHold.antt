@@ -23,7 +23,7 @@ layouts_are_texts t m s trees fit remarks trails =
     let fits = all_fit (columns_of t s (rows_of m s trees)) m (rows_of m s trees) trails remarks in
     subst (λ w. IsUtf8 w) (sym (layout_then t m s trees)) (layout_utf8 (setting_of m s) (is_bare m s) (first_gap (columns_of t s (rows_of m s trees)) m (rows_of m s trees)) (row_decos (columns_of t s (rows_of m s trees)) m (rows_of m s trees)) fit fits.0 fits.1)
 
--- the layout is derived again, with its leaves and comments in the order in which they were laid out
+-- the layout is derived again, with its leaves and comments in their order
 pub layouts_are_laid : (t : List ℕ) (m : Lists) (s : Style) (trees : List DocumentTree) → FitDocuments s m.documents trees → FitsBare (is_bare m s) m.documents trees → AreRemarks m.comments
     → TrailsFit (source_of m (rows_of m s trees)) (rows_of m s trees)
     → StreamLaid (layout t m s trees) (setting_of m s) (is_bare m s) m.documents trees (first_gap (columns_of t s (rows_of m s trees)) m (rows_of m s trees)) (rows_of m s trees) (row_decos (columns_of t s (rows_of m s trees)) m (rows_of m s trees))

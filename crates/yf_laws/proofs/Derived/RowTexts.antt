@@ -1,4 +1,4 @@
--- The rows of a tree whose one-line nodes read back are texts on lines of their own, and not markers.
+-- The rows of a tree with one-line nodes that read back are texts on lines of their own, and not markers.
 use Rattle.std.proofs.Common.{◌≡◌, ◌≢◌, ℕ, zero, suc, ◌+◌, ◌-◌, ◌<◌, ◌≤◌, Bool, true, false, List, [], ◌∷◌, ◌++◌, replicate, Option, Some, None, refl, sym, ap, ◌∙◌, subst, arith, ⊎_elim, eqb}
 use Rattle.std.specs.Prelude.{◌||◌}
 use Rattle.std.proofs.lemmas.Bool.{and_parts, or_cases, eqb-true}

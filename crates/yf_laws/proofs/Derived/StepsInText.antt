@@ -96,7 +96,7 @@ span_starts (Some s) = refl
 starts_join : (xs ys : List Span) (zs : List ℕ) → starts_of xs ++ (starts_of ys ++ zs) ≡ starts_of (xs ++ ys) ++ zs
 starts_join xs ys zs = sym (append_assoc (starts_of xs) (starts_of ys) zs) ∙ ap (λ w. w ++ zs) (sym (map-append (λ (s : Span). s.start) xs ys))
 
--- a collection with entries, whose events are given
+-- a collection with entries and given events
 collected : (o : Option Span) (es : List EventInText) (end : EventInText) (starts : List ℕ) (rest : List EventInText) → leaf_starts (end ∷ rest) ≡ leaf_starts rest
     → ends_next (es ++ (end ∷ rest)) ≡ false → leaf_starts (es ++ (end ∷ rest)) ≡ starts ++ leaf_starts (end ∷ rest)
     → start_in (ends_next ((es ++ (end ∷ [])) ++ rest)) o ++ leaf_starts ((es ++ (end ∷ [])) ++ rest) ≡ starts ++ leaf_starts rest
@@ -133,7 +133,7 @@ mutual
       ∙ (ap (λ w. starts_of (leaves v) ++ w) (pairs_starts ps rest) ∙ starts_join (leaves v) (leaves_of_pairs ps) (leaf_starts rest))))
       ∙ starts_join (leaves k) (leaves v ++ leaves_of_pairs ps) (leaf_starts rest)))
 
--- The meaning of a production, whose leaves and comments are between two offsets in the order of steps.
+-- The meaning of a production with its leaves and comments between two offsets, in the order of steps.
 pub record MeaningLaid (i j : ℕ) (m : Meaning) (steps : List Step) : Type 0 where
   pub starts : List ℕ
   pub begun : (rest : List EventInText) → ends_next (m.events ++ rest) ≡ false

@@ -60,7 +60,7 @@ pub laid_bare : {i j : ℕ} {m : Meaning} {a : List Step} (s : ℕ) → MeaningL
 unfolding document_of
 laid_bare s x = record { starts = x.starts; are = x.are; stand = x.stand }
 
--- documents, whose events are those of a reading
+-- documents with the events of a reading
 pub record DocumentsLaid (i j : ℕ) (x : Documents) (steps : List Step) : Type 0 where
   pub starts : List ℕ
   pub are : {u : List ℕ} {es : List EventInText} {tags : List (Option (List ℕ))} (rest : List EventInText) → DocumentEvents u x.documents es tags → leaf_starts (es ++ rest) ≡ starts ++ leaf_starts rest

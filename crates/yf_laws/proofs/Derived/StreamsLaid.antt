@@ -157,7 +157,7 @@ stream_made c true gap decos (fit_document {d = d} {x = x} f fit more) (fits_bar
     stream_from c {bare = true} {d = d} {x = x} (bare_rows c d x) gap decos (begins_bare_rows d.start (bare_row c x some fit)) more
     (λ r q l calm rest. bare_made c {d = d} x d.start decos r q none some fit u a l calm rest) u g a k w
 
--- the layout is derived again, with its leaves and comments in the order in which they were laid out
+-- the layout is derived again, with its leaves and comments in their order
 pub layout_derived : {t : List ℕ} (c : LayoutSetting) (bare : Bool) {ds : List Doc} {xs : List DocumentTree} (gap : List GapLine) (decos : List Deco) → FitDocuments c.style ds xs → FitsBare bare ds xs → IsUtf8 t → AreGapLines gap → AreDecos decos
     → Calm (all_rows c bare ds xs) decos [] → t ≡ gap_then gap (lines_then (all_rows c bare ds xs) decos [])
     → StreamLaid t c bare ds xs gap (all_rows c bare ds xs) decos

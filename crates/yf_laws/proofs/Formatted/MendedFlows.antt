@@ -54,7 +54,7 @@ pub record Fine (t : List ℕ) (c : LayoutSetting) (x : Node) : Type 0 where
   pub same : is_filled_flow x ≡ true → styled t c x ≡ x
   pub fit : is_filled_flow x ≡ true → fits c.style column x ≡ true
 
--- One event, or the events between two, none of which begins a flow collection.
+-- One event, or the events between two, and none of them begins a flow collection.
 
 module _ {es : List EventInText} {i : ℕ} {x : Node} (there : NodeAt es i x) (flow : is_flow x ≡ true) where
   not_begun : (e : EventInText) (ys : List EventInText) {k : ℕ} → starts_flow e.event ≡ false → Among es (e ∷ ys) k → k ≡ i → ⊥

@@ -1,4 +1,4 @@
--- In trees that are their own normal form, whose implicit keys are written without `?`, no mark is needless.
+-- In trees that are their own normal form, with implicit keys without `?`, no mark is needless.
 use Rattle.std.proofs.Common.{◌≡◌, ℕ, ◌+◌, ⊎_elim, Bool, true, false, true≢false, List, [], ◌∷◌, ◌++◌, Some, length, map, refl, sym, ap, ◌∙◌, subst}
 use Rattle.std.specs.List.{Contains}
 use Rattle.std.specs.Prelude.{slice_get, if◌then◌else◌}

@@ -91,7 +91,7 @@ module _ {t : List ℕ} (u : IsUtf8 t) {house : Style} {m : ℕ} {x : Node} (a :
       let w : length a.on.before ≡ m + width (written house x) = a.on.wide in
       omega (arith, long, count, w)
 
-  -- in a text whose lines all end with a break
+  -- in a text with a break at the end of each line
   module _ {ls : List Line} (lines : AreLines t ls) (broken : (k : ℕ) (l : Line) → slice_get ls k ≡ Some l → l.end < l.next) where
     column_held : {c : ℕ} (k : ℕ) (l : Line) → slice_get ls k ≡ Some l → LineHolds l last → ColumnOf t l.start last c → c ≤ m + width (written house x)
     column_held k l e (at_text_end f g) d = absurd (let b = broken k l e in omega (arith, f, b))

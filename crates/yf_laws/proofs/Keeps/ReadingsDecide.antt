@@ -1,4 +1,4 @@
--- Texts whose readings match have equal keys, so equal formattings.
+-- Texts with readings that match have equal keys, so equal formattings.
 use Rattle.std.proofs.Common.{◌≡◌, ℕ, Bool, true, false, true≢false, List, [], ◌∷◌, length, map, flat_map, Option, refl, sym, ap, ◌∙◌, subst, arith}
 use Rattle.std.specs.Prelude.{◌&&◌, ◌||◌, ◌==◌, if◌then◌else◌, nat_lt, not, option_map, option_to_list, zip}
 use Rattle.std.specs.List.{list_any}

@@ -81,7 +81,7 @@ module _ (indent limit : ℕ) where
     none_stepped : Stepped [] []
     row_stepped : {rest bs : List BlockScalar} {x : Row} {xs : List Row} → IsStep indent limit x.column → StartSteps x.starts → StepBody x.text rest bs x.body → Stepped rest xs → Stepped bs (x ∷ xs)
 
-  -- rows whose first may be at any column
+  -- rows with a first one at any column
   data Loose : List BlockScalar → List Row → Type 0 where
     no_loose : Loose [] []
     one_loose : {rest bs : List BlockScalar} {x : Row} {xs : List Row} → StartSteps x.starts → StepBody x.text rest bs x.body → Stepped rest xs → Loose bs (x ∷ xs)

@@ -1,4 +1,4 @@
--- Trees in which only the key, and not the value, of a pair begins an entry, as in those of texts.
+-- Trees with only the key, and not the value, of a pair at an entry's start, as in those of texts.
 use Rattle.std.specs.Prelude.{Bool, true, false, ◌&&◌, List, [], ◌∷◌, Option, Some, None}
 use Rattle.yf_events.specs.Tree.{Node, scalar, alias, sequence, mapping, Items, no_items, item, Pairs, no_pairs, pair, DocumentTree, standing}
 use Rattle.yf_events.specs.declared.event.Entry.{Entry}

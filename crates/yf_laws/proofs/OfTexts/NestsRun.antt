@@ -1,4 +1,4 @@
--- In a tree whose events pass the test of nesting, at most that many collections are open at once.
+-- In a tree with events that pass the test of nesting, at most that many collections are open at once.
 use Rattle.std.proofs.Common.{◌≡◌, ℕ, zero, suc, Bool, true, false, ◌&&◌, List, [], ◌∷◌, ◌++◌, map, flat_map, Option, Some, None, refl, sym, ap, ◌∙◌, append_assoc, true≢false}
 use Rattle.std.proofs.lemmas.Bool.{and_from}
 use Rattle.yf_events.specs.Event.{EventValue, EventInText, document_starts, document_ends, stream_starts, stream_ends, sequence_ends, mapping_ends, scalar_node, alias_node}
@@ -31,7 +31,7 @@ leaf_runs : (room : ℕ) (top : NestingState) (below : List NestingState) (e : E
 leaf_runs room top below e rest None q h = absurd (true≢false (sym h))
 leaf_runs room top below e rest (Some next) q h = record { next = next; is = q; follows = record { nested = refl; runs = h } }
 
--- a collection whose entries are expected next, within the remaining depth
+-- a collection that expects its entries next, within the remaining depth
 open_runs : (room : ℕ) (top within : NestingState) (below : List NestingState) (es rest : List EventInText) (nesting : ℕ → Bool) (o : Option NestingState) → after_node top ≡ o
     → ((r : ℕ) (next : NestingState) → Runs r within (next ∷ below) es → After (suc r) next below rest (nesting r))
     → follow (open_if o within) room below (λ r t b. run r t b (map (λ e. e.event) es)) ≡ true

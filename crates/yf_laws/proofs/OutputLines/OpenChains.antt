@@ -190,7 +190,7 @@ module _ (t : List ℕ) (w : ℕ) where
     chain_over : {bs : List OpenBlock} → Chained bs [] bs
     chain_row : {bs now : List OpenBlock} {x : Row} {xs : List Row} → InSteps w bs → NextIsAt x.column (beginning t x.starts x.leaves) → BodyRight x.body x.lines (after_row t x bs) → Chained (after_row t x bs) xs now → Chained bs (x ∷ xs) now
 
-  -- rows whose first row's text follows other text on its line
+  -- rows, the text of the first one after other text on its line
   pub data Inline : List OpenBlock → List Row → List OpenBlock → Type 0 where
     inline_over : {bs : List OpenBlock} → Inline bs [] bs
     inline_row : {bs now : List OpenBlock} {x : Row} {xs : List Row} → BodyRight x.body x.lines (after_starts t x.starts bs) → Chained (after_starts t x.starts bs) xs now → Inline bs (x ∷ xs) now

@@ -116,7 +116,7 @@ line_last {t} {l} c w a =
     ap (λ k. get_or t k 0) (sym place)
     ∙ (sym (get_or-drop l.start t (length w) 0) ∙ (ap (λ z. get_or z (length w) 0) a.there.bytes ∙ (first_bytes (c ∷ w) (10 ∷ a.follows) (length w) (omega arith) ∙ last_byte c w)))
 
--- a line whose text doesn't end with white space
+-- a line with text that doesn't end with white space
 pub line_tidy : {t : List ℕ} {l : Line} {x : List ℕ} → IsUtf8 t → LineIs t l x → x ≢ [] → is_white (last_or 0 x) ≡ false → is_white (code t (l.end - 1)) ≡ false
 line_tidy {x = []} u a some n = absurd (some refl)
 line_tidy {t} {l} {x = c ∷ w} u a some n =

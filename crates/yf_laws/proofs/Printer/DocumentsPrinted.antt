@@ -55,7 +55,7 @@ RootsLaid c false ds = Unit {0}
 RootsLaid c true [] = Unit {0}
 RootsLaid c true (d ∷ ds) = rows c (root_margins c.style) d.root ≡ [] → ⊥
 
--- documents whose events begin at an index
+-- documents with events that begin at an index
 record DocumentsAt (k : Known) (i n : ℕ) (ds : List DocumentTree) : Type 0 where
   are_placed : documents_are_placed ds ≡ true
   begin : keys_begin_in_documents ds ≡ true

@@ -19,7 +19,7 @@ use Rattle.yf_laws.proofs.Printer.LeafFed.{ColumnAt, put, put_value, row_met}
 use Rattle.yf_laws.proofs.Printer.NotedLemmas.{Known, met, met_nothing}
 use Rattle.yf_forms.proofs.Decide.FlagLemmas.{and_false as never}
 
--- rows, the first of which goes on the current line or on a line of its own
+-- rows that begin on the current line or on a line of their own
 abbrev pub begun : Known → Bool → List Row → Draft → Draft
 begun k true rows d = fed_on (remarks_of k.work) k.trail rows d
 begun k false rows d = fed (remarks_of k.work) k.trail rows d

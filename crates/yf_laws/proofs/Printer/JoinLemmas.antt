@@ -1,4 +1,4 @@
--- Rows on the current line, and rows whose first one is joined to a row.
+-- Rows on the current line, and rows with a first one that is joined to a row.
 use Rattle.std.proofs.Common.{◌≡◌, ℕ, Bool, true, false, ◌&&◌, List, [], ◌∷◌, ◌++◌, flat_map, replicate, Option, Some, None, refl, sym, ap, ◌∙◌, append_assoc, append-nil}
 use Rattle.std.proofs.lemmas.Grind.{flat_map-append}
 use Rattle.yf_comments.specs.Comment.{CommentValue}
@@ -15,7 +15,7 @@ use Rattle.yf_laws.proofs.Printer.ColumnsFed.{leaves_marked, starts_marked}
 use Rattle.yf_laws.proofs.Printer.FedLemmas.{all_past, fed, key_text, with_row}
 use Rattle.yf_forms.proofs.Measure.SumLemmas.{true_right}
 
--- rows, the first of which goes on the current line
+-- rows that begin on the current line
 abbrev pub fed_on : Remarks → (Span → List ℕ) → List Row → Draft → Draft
 fed_on r t [] d = d
 fed_on r t (row ∷ rows) d = fed r t rows (with_row r t row d)

@@ -82,7 +82,7 @@ filled_within k i last x e end ys d h a l f t s q n =
     (noted_same k (i + 1) (ys ++ (end ∷ [])) (items_in x ++ []) (items_in x) (leaves x ++ []) (leaves x) (append-nil (items_in x)) (append-nil (leaves x))
     (noted_append k (i + 1) ys (end ∷ []) (items_in x) [] (leaves x) [] n (end_noted k (i + 1 + length ys) end s q)))
 
--- past the content of a node whose entry is already passed
+-- past the content of a node after its entry
 pub node_within : (k : Known) (i last : ℕ) (x : Node) (d : Draft) → is_placed x ≡ true → keys_begin x ≡ true → Among k.work.reading.events (flat x) i
     → last + 1 ≡ i + length (flat x) → Printing.node_noted k.work i last (head_of x) d ≡ met k (items_in x) (leaves x) d
 node_within k i last (scalar at props style text lines) d h b a l =
@@ -186,7 +186,7 @@ colon_part x i Printer.Role.Key d h =
 
 -- Nodes.
 
--- a node of a normal form, whose events begin at an index
+-- a node of a normal form, with events that begin at an index
 pub record Laid (k : Known) (i : ℕ) (x : Node) : Type 0 where
   pub placed : is_placed x ≡ true
   pub begins : keys_begin x ≡ true

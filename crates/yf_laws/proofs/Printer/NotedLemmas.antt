@@ -73,7 +73,7 @@ leaf_there k i x h n = ap (λ w. Deciding.is_leaf_at i w.first_leaf) (measure_th
 
 -- Events.
 
--- past these events, the first of which has that index
+-- past these events, which begin at that index
 pub record EventsPrinted (k : Known) (j : ℕ) (ys : List EventInText) (items : List ℕ) (spans : List Span) : Type 0 where
   pub noted : (last : ℕ) (rest : List EventInText) (d : Draft) → j + length ys ≤ last + 1
       → events_noted k.work last j (ys ++ rest) d ≡ events_noted k.work last (j + length ys) rest (met k items spans d)

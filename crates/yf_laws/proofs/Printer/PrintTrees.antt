@@ -41,7 +41,7 @@ not_key k x (Printer.Role.After column) d e = refl
 not_key k x (Printer.Role.Value column) d e = refl
 not_key k x Printer.Role.Key d e = absurd (true≢false e)
 
--- the draft after a block collection whose entries have these rows
+-- the draft after a block collection with entries of these rows
 block_draft : (k : Known) (i n : ℕ) (site : Site) (x : Node) (levels : List PrintFrame) (xs : List Row) (d : Draft) → At k i n site x levels → is_block_collection x ≡ true
     → is_text x ≡ false → is_filled_flow x ≡ false → filled xs ≡ true → rows (setting_in k) site.margins x ≡ props_row site.margins.column (props_text (props_of x)) ++ xs
     → begun k (not (has_props (props_of x)) && is_after_sign (role_of k site x levels)) xs

@@ -145,7 +145,7 @@ stream_bare ds =
       first_of [] = unplaced stream_ends
       first_of (e ∷ es) = e
 
--- trees whose events differ only in notes
+-- trees with events that differ only in notes
 pub trees_bare : (q : Lists) (ds es : List DocumentTree) → length q.documents ≡ length ds → length q.documents ≡ length es → bared (flat_stream ds) ≡ bared (flat_stream es) → map bare_tree ds ≡ map bare_tree es
 trees_bare q ds es m n e =
     trees_unique (record q { events = bared (flat_stream ds) }) (map bare_tree ds) (map bare_tree es)

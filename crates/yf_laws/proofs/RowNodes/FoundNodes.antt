@@ -318,7 +318,7 @@ module _ {t : List ℕ} {s : LayoutSetting} {m : ℕ} where
     rows = pair_rows a.rows b.rows;
   }
 
-  -- a pair whose key is after a `?` at q, and whose value is after a `:` at colon
+  -- a pair with its key after a `?` at q and its value after a `:` at colon
   pub found_explicit : {k v : Node} {one two : Meaning} {ps hs qs gs : List PlacedRow} (q colon : ℕ) → is_implicit s.style m k ≡ false → FoundNode t s (key_margins s.style m k) k one ps → SignRows t (q ∷ []) ps hs
       → FoundNode t s (inner_margins s.style m) v two qs → SignRows t (colon ∷ []) qs gs → FoundPair t s m k v (entering q (Some colon) one ⊕ two) (hs ++ gs)
   unfolding entering ◌⊕◌

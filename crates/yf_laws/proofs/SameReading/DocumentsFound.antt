@@ -50,7 +50,7 @@ pub told_alike : (m n : ℕ → ℕ) (cs : List CommentValue) → ((o : ℕ) →
 told_alike m n [] e = refl
 told_alike m n (c ∷ cs) e = ap (λ z. (c.text, z) ∷ told_by m cs) (e c.offset) ∙ ap (λ z. (c.text, n c.offset) ∷ z) (told_alike m n cs e)
 
--- for a text whose documents and comments are in the order of steps
+-- for a text with documents and comments in the order of steps
 documents_counted : {t : List ℕ} {j : ℕ} {q : Lists} {steps : List Step} → IsUtf8 t → (a : ReadingOf t q) → Stand 0 (map (λ (d : Document). d.start) a.derived.documents) a.derived.comments steps j
     → told_by (documents_before q) q.comments ≡ comments_of 0 steps
 documents_counted {t} {j} {q} {steps} u a stand =

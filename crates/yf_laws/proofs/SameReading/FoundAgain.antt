@@ -112,7 +112,7 @@ starts_unsigned {t} (e ∷ es) a = go (begins_leaf e.event es) e.span refl (star
   go false (Some s) q u = u
   go false None q u = u
 
--- for a text whose documents have their leaves and comments in the order of steps
+-- for a text with the leaves and comments of its documents in the order of steps
 pub reading_told : {t : List ℕ} {j : ℕ} {q : Lists} {steps : List Step} → IsUtf8 t → (a : ReadingOf t q) → DocumentsLaid 0 j a.derived steps
     → told_by (leaves_before q) q.comments ≡ comments_of 0 steps
 reading_told {t} {j} {q} {steps} u a laid =

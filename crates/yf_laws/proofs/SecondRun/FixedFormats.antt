@@ -1,4 +1,4 @@
--- A laid-out text in which equal trees are found is its own formatting.
+-- A laid-out text with equal trees is its own formatting.
 use Rattle.std.proofs.Common.{◌≡◌, ℕ, List, [], ◌∷◌, map, refl, sym, ap, ◌∙◌}
 use Rattle.yf_comments.specs.Comment.{CommentValue}
 use Rattle.yf_events.specs.Tree.{DocumentTree, TreesOf, flat_stream}

@@ -106,7 +106,7 @@ first_picked start next (c ∷ cs) (b ∷ bs) a n l = by (nat_lt c.offset start)
       ∙ (h ∙ sym (pick_later start next c b cs bs l e))
   by false e h = ap (λ w. if w && is_before c.offset next then Some (c, b) else rest next) (after start c.offset e apart.0) ∙ here next
 
--- Leaves whose starts rise.
+-- Leaves with starts that rise.
 
 abbrev pub rising : List Span → Bool
 rising [] = true

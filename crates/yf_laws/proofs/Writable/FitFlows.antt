@@ -1,4 +1,4 @@
--- Flow collections on one line whose parts read back.
+-- Flow collections on one line with parts that read back.
 use Rattle.std.specs.Prelude.{◌≡◌, true, is_some}
 use Rattle.yf_chars.specs.declared.context.Ctx.{Ctx}
 use Rattle.yf_props.specs.Props.{PropsValue}

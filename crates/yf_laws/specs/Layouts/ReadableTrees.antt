@@ -1,4 +1,4 @@
--- Trees whose rows can be read again: each node that is written on one line reads back at any offset.
+-- Trees with rows that can be read again: each node that is written on one line reads back at any offset.
 use Rattle.std.specs.Prelude.{◌≡◌, ◌≢◌, ℕ, ◌≤◌, Bool, true, false, is_some, List, [], ◌∷◌, ◌++◌, ◌-◌}
 use Rattle.std.specs.Str.{IsUtf8}
 use Rattle.yf_chars.specs.declared.context.Ctx.{Ctx}
@@ -72,7 +72,7 @@ pub data FitProps : PropsValue → Type 0 where
   no_fit_props : FitProps no_props
   some_fit_props : {p : PropsValue} → IsProps p → p ≢ no_props → FitProps p
 
--- a scalar whose lines are those of its text, so it is read again from its lines at any column
+-- a scalar with the lines of its text, so it is read again from its lines at any column
 pub record FitScalar (style : ScalarStyle) (text : List ℕ) (lines : List (List ℕ)) : Type 0 where
   pub block : is_block_style style ≡ true
   pub content : (indent : ℕ) → content_of (header_of style indent text) (content_lines style text lines) (final_feeds text - 1) false ≡ text

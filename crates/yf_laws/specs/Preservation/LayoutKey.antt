@@ -20,7 +20,7 @@ pub data SameDocuments (s : Style) (cs es : List CommentValue) : List Doc → Li
   same_document : {d e : Doc} {ds fs : List Doc} {x y : DocumentTree} {xs ys : List DocumentTree} → words_of d.directives ≡ words_of e.directives
       → AlikeBlocks s cs es x.root y.root → SameDocuments s cs es ds xs fs ys → SameDocuments s cs es (d ∷ ds) (x ∷ xs) (e ∷ fs) (y ∷ ys)
 
--- Rows of two layouts, whose comments are compared.
+-- Rows of two layouts, with comments that are compared.
 
 -- c is before an item of a row if and only if d is before an item of the corresponding row
 pub data SamePlace (c d : CommentValue) : List Row → List Row → Type 0 where

@@ -80,7 +80,7 @@ pub record SameKeys (ps : PairedOffsets) (s : Style) (k l : Node) : Type 0 where
   pub begins : is_some (standing k).entry ≡ true
   pub colon : SameColons ps s k l
 
--- Nodes in the house style that differ only in offsets, and whose leaves and entries are on the same sides.
+-- Nodes in the house style that differ only in offsets, and have leaves and entries on the same sides.
 mutual
   pub data NodesMatch (ps : PairedOffsets) (s : Style) : Node → Node → Type 0 where
     matched_scalars : {at bt : NodeOffsets} {props : PropsValue} {style : ScalarStyle} {text : List ℕ} {lines : List (List ℕ)} → Either (SameSpan ps) at.span bt.span → Either (SameEntry ps) at.entry bt.entry
@@ -138,6 +138,6 @@ pub record SameReadings {t u v w : List ℕ} {s : Style} (f : IsFormatting t s u
   -- if comments keep the blocks that they were written in, they are laid out at the same columns
   pub columns : keeps_blocks s ≡ true → Each (SameColumn (columns_in f) (columns_in g)) f.normal.comments g.normal.comments
 
--- u is the formatting of each text whose reading matches that of t
+-- u is the formatting of each text with a reading that matches that of t
 abbrev pub DependsOnReading : List ℕ → Style → List ℕ → Type 0
 DependsOnReading t s u = (v w : List ℕ) (f : IsFormatting t s u) (g : IsFormatting v s w) → SameReadings f g → w ≡ u

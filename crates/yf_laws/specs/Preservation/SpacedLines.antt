@@ -30,6 +30,6 @@ pub record SameBlanks (t : List ℕ) (s : Style) (u : List ℕ) : Type 0 where
   pub lines : (q : Lists) (b : ReadingOf u q) → u ≡ bytes_after at_text_start (laid_out u q s b.trees)
   -- line by line, a blank line is noted before it in u if and only if one is allowed there and is noted before it in t
   pub notes : (f : IsFormatting t s u) (q : Lists) (b : ReadingOf u q) → notes_of (laid_out u q s b.trees) ≡ left_blank at_text_start (laid_out t f.normal s f.writes.trees)
-  -- in which the notes of comments and entries are those of the reading of t
+  -- with the notes of comments and entries in the reading of t
   pub comments : (f : IsFormatting t s u) → f.normal.comments ≡ f.reading.comments
   pub entries : (f : IsFormatting t s u) → entries_of f.normal ≡ entries_of f.reading

@@ -365,7 +365,7 @@ looked g i e w = past_event g i (get_or g.measures i no_measure) (get_or g.forms
 abbrev pub next : Work → ℕ → EventInText → PrintState → PrintState
 next g i e w = if nat_lt w.done i then looked g i e w else w
 
--- these events, the first of which has index i
+-- these events, which begin at index i
 unfoldable pub pass : Work → ℕ → List EventInText → PrintState → PrintState
 pass g i [] w = w
 pass g i (e ∷ es) w = pass g (i + 1) es (next g i e w)

@@ -1,4 +1,4 @@
--- Laws of the first line whose break begins with a carriage return.
+-- Laws of the first break that begins with a carriage return.
 use Rattle.std.proofs.Common.{◌≡◌, ℕ, ◌+◌, true, false, List, [], ◌∷◌, drop, ap, ◌∙◌, Some, eqb, if◌then◌else◌}
 use Rattle.std.specs.Prelude.{slice_get}
 use Rattle.yf_chars.specs.Text.{code}

@@ -25,7 +25,7 @@ pub enum Around {
     Nothing,
     /// A block collection with entries at that column.
     Entries(usize),
-    /// A flow collection, or a block collection whose first entry has no position.
+    /// A flow collection, or a block collection without a position of its first entry.
     Unknown,
 }
 

@@ -7,7 +7,7 @@ use crate::facts::found::{FoundOffsets, Global, Src, listed};
 pub use crate::rules::StyleRule::LineBreaks;
 use yf_chars::text::is_char_at;
 
-/// Returns the break of the first line whose break is not a line feed.
+/// Returns the first break that is not a line feed.
 pub fn offsets(alloc: Global, src: &Src) -> FoundOffsets
     ensures { IfOk result (λ offsets. offsets.items ≡ Sets.first_return src.now.text src.now.lines) }
 {

@@ -184,7 +184,7 @@ fn pass_scalar<'r>(
     }
 }
 
-/// Passes the start of a collection, whose keys begin at that index.
+/// Passes the start of a collection with keys that begin at that index.
 #[inline(always)]
 fn pass_start(
     alloc: Global,

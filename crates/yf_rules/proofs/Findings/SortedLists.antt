@@ -52,7 +52,7 @@ module _ {K : Type 0} {R : K → K → Ordering} (o : IsTotalOrder R) where
       (λ z c. later_too y ys x xs t (sym same) z c (g z (is_later y ys z c))) in
       cc
 
--- Filters of lists whose elements have equal values.
+-- Filters of lists with elements of equal values.
 module _ {X T : Type 0} (value : X → T) where
   -- lists with equal values have equal values after a filter on the value
   pub filter_values : (p : X → Bool) → ((x y : X) → value y ≡ value x → p y ≡ p x) → (xs ys : List X)

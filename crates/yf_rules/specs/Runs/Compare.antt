@@ -25,7 +25,7 @@ pub record DifferAt (t u : List ℕ) (at : ℕ) : Type 0 where
   pub before : SameUpTo t u at
   pub differ : code t at ≢ code u at
 
--- the position in t of the first character in which t and u differ, or of its end
+-- the position in t of the first difference between t and u, or of its end
 pub data DiffersFirst (t u : List ℕ) (place : Position) : Type 0 where
   differs_first : {at : ℕ} → DifferAt t u at → IsPlaceOf t at place → DiffersFirst t u place
 

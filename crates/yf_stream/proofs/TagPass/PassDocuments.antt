@@ -18,7 +18,7 @@ use Rattle.yf_stream.specs.declared.breaches.BreachKind.TheVariants.{UnknownHand
 use Rattle.yf_stream.proofs.TagPass.FirstLemmas.{escapes_join}
 use Rattle.yf_stream.proofs.TagPass.PassLemmas.{at_document, at_event}
 
--- Events none of which starts a document, for example a node's.
+-- Events that start no document, for example a node's.
 
 abbrev pub NoStarts : List EventInText → Type 0
 NoStarts [] = Unit {0}

@@ -69,7 +69,7 @@ bare_passed {first = first} {names = names} {a = a} {b = b} ds h n l =
       list = l;
     })
 
--- an event whose tag has been resolved
+-- an event with a resolved tag
 pub tag_added : {es : List EventInText} {j : ℕ} {first after : Option Breach} {a b : List (Option (List ℕ))} {o : Option TagValue} {place : Option ℕ} (ds : List Declaration)
     (tag : Option (List ℕ)) → slice_get (map (λ (e : EventInText). written_tag e.event) es) j ≡ Some o → EventAt es j (λ e. place ≡ e.tag_offset)
     → FirstOfBoth first after (breach_if (is_unknown ds o) UnknownHandle (offset_or 0 place)) → (is_unknown ds o ≡ false → TagOf ds o tag) → b ≡ a ++ tag ∷ []
@@ -91,7 +91,7 @@ tag_added {es} {j} {o = o} {place = place} ds tag t p q k l =
       };
     }
 
--- and whose anchor or alias has been noted
+-- and with a noted anchor or alias
 pub named_passed : {es : List EventInText} {j offset : ℕ} {v : EventValue} {first mid after : Option Breach} {names others : List (List ℕ)} {a b : List (Option (List ℕ))}
     {ds : List Declaration} → EventAt es j (λ e. TagAdded ds e first mid a b) → EventAt es j (λ e. e.event ≡ v) → EventAt es j (λ e. offset ≡ start_or 0 e.span)
     → FirstOfBoth mid after (alias_breaches names offset (alias_of v)) → SameNames others (with_name (props_of v).anchor names)

@@ -41,7 +41,7 @@ enum Asked {
     Formatted(&'static str),
 }
 
-/// A text whose byte order mark and carriage returns are dropped, and whose style is corrected.
+/// A text with a byte order mark and carriage returns that are dropped, and with a style that is corrected.
 const MARKED: &str = "\u{FEFF}a: 'x'  # c \r\nb: |\r\n  y \r\na: 1\r\n";
 
 /// A key with a comment, and its formatting.

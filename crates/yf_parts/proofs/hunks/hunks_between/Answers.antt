@@ -1,4 +1,4 @@
--- The hunks of the script are those by which the texts differ.
+-- The hunks of the script are those between the texts.
 use Rattle.std.proofs.Common.{◌∙◌, ap}
 use Rattle.std.specs.List.{concat}
 use Rattle.std.proofs.lemmas.Result.{IfOk-weaker}
