@@ -20,12 +20,12 @@ TOP = os.path.dirname(os.path.dirname(os.path.abspath(__file__)))
 PAGE = 'docs/PROVED_TABLES.md'
 HEAD = '''# Proved, crate by crate
 
-Made by `bench/proved.py` from the sources; `bench/proved.py --check` fails if this page differs. [PROVED](PROVED.md)
-explains what is proved of the whole program, and `bench/edits.py` lists the must-fail edits.
+Made by `bench/proved.py` from the sources. [PROVED](PROVED.md) explains the theorem of the whole program, and
+`bench/edits.py` lists the must-fail edits.
 
 After a crate's name are the numbers of its functions, of those with a contract, and of its must-fail edits. Every
-function is proved safe and terminating. Below are the calls that users of the crates begin with: the clauses that have
-names, and the first words of the documentation.
+function is proved safe and terminating. Below are the main calls, with the names of their clauses and the first words
+of their documentation.
 
 '''
 HEADER = re.compile(r'^ *(pub(?:\([^)]*\))? )?(?:const )?fn (\w+)')

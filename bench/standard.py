@@ -77,17 +77,20 @@ HEAD = """# The standard's productions, letter by letter
 `bench/standard.py` makes this page from `crates/yf_standard/specs` and `bench/standard.txt`. `bench/standard.py --check` fails if
 the page is stale.
 
-**What is proved** (`standard_laws` of `yf_standard`, `specs/Laws.antt`). Take a UTF-8 text. Production 211, with the reading rules
-below and at most `DEPTH` open collections, derives all of it exactly if `Stream` derives it with some meaning. Whatever the reading
-rules allow, the standard's letter allows too (`letter` of `specs/Rules.antt`), except for two readings that both sides share: N2, and
-the sum n + m for n = -1. Handles, aliases, versions and escapes are checked on the meaning. A text is accepted exactly if 211 derives
-it and its meaning passes these checks (`IsStandardText` of `specs/Acceptance.antt`; `headline` of `yf_rules`).
+**Proved** (`standard_laws` of `yf_standard`, `specs/Laws.antt`). Take a UTF-8 text. Production 211, with the reading
+rules below and at most `DEPTH` open collections, derives all of it exactly if `Stream` derives it with some meaning.
+Whatever the reading rules allow, the standard's letter allows too (`letter` of `specs/Rules.antt`), except for two
+readings that both sides share: N2, and the sum n + m for n = -1. A text is accepted exactly if 211 derives it and its
+handles, aliases, versions and escapes pass the further checks (`IsStandardText` of `specs/Acceptance.antt`; `headline`
+of `yf_rules`).
 
-**The table's columns.** The second column is the production as YAML 1.2.2 prints it. We wrote it down from memory and then compared
-it with two transcriptions of the previous edition ([DECISIONS](DECISIONS.md), "The standard's productions"). The third column is the
-clause of `Characters` or `Productions`. `bench/standard_lines.py` compares the second with the third, operator by operator, except for
-the conditions of the reading rules and six clauses. The fourth column is what the production is proved to derive with the reading
-rules (`proofs/Standing.antt`, `Closed.antt`): a relation of the crates below.
+**The table's columns.** The second column is the production as YAML 1.2.2 prints it. We wrote it down from memory and
+then compared it with two transcriptions of the previous edition
+([DECISIONS](DECISIONS.md#the-standards-productions)). The third column is the clause of `Characters` or `Productions`,
+without the name if it has no parameters. `bench/standard_lines.py` compares the second with the third, operator by
+operator, except for the conditions of the reading rules and six clauses. The fourth column is what the production is
+proved to derive with the reading rules (`proofs/Standing.antt`, `Closed.antt`): a relation of the crates below, or `·`
+for one character.
 
 ## Notation
 
@@ -103,8 +106,8 @@ rules (`proofs/Standing.antt`, `Closed.antt`): a relation of the crates below.
 
 ## Reading rules
 
-Each rule is a condition. The table of productions shows it in bold. Under `letter` the conditions require nothing, except for the two
-sums of an indentation.
+Each rule is a condition, in bold in the table of productions. Under `letter` the conditions require nothing, except for
+the two sums of an indentation.
 
 | Rule | Condition | What it requires | What the letter derives as well |
 |---|---|---|---|
@@ -135,21 +138,22 @@ sums of an indentation.
 
 ## Meanings
 
-The standard describes in prose what its productions mean. Here a meaning is a function of a derivation, by the productions' names.
-`content` (`specs/Contents.antt`) returns what a derivation adds to a scalar. `tokens` (`specs/Tokens.antt`) returns its comments,
-names, scalars, collections, directives and documents. `said` and `stream_said` (`specs/Tokens.antt`, `specs/Readings.antt`) read the
-tokens. They return the events, in which a node has the properties before it, and the documents, each with its directives.
+The standard describes meanings in prose. Here a meaning is a function of a derivation, by the productions' names.
+`content` (`specs/Contents.antt`) returns the text that a derivation adds to a scalar. `tokens` (`specs/Tokens.antt`)
+returns its comments, names, scalars, collections, directives and documents. `said` and `stream_said`
+(`specs/Tokens.antt`, `specs/Readings.antt`) make of the tokens the events, in which a node has the properties before
+it, and the documents, each with its directives.
 
 | | Production | Meaning | Section |
 |---|---|---|---|
 | content | 29, 30, 72: breaks | a line feed, nothing, a space | 5.4, 6.5 |
 | | 63 to 66: indentation and separation | nothing | 6.1, 6.2 |
 | | 62: an escape | the number that it writes; two adjacent halves of a pair are one character (N4) | 5.7 |
-| | 109, 120: quoted scalars | what is between the quotes | 7.3 |
+| | 109, 120: quoted scalars | the text between the quotes | 7.3 |
 | | 112: an escaped break | its white space and empty lines, without the backslash | 7.3.1 |
 | | 117: two single quotes | one quote | 7.3.2 |
 | | 162, 169: a header, comments after a block scalar | nothing | 8.1.1 |
-| | 170, 174: block scalars | what follows the sign and the header | 8.1.2, 8.1.3 |
+| | 170, 174: block scalars | the text after the sign and the header | 8.1.2, 8.1.3 |
 | tokens | 28, 63, 66: breaks, indentation, separation | nothing | 5.4, 6.1, 6.2 |
 | | 75: a comment | its place and its text | 6.6 |
 | | 82 to 88, 93: directives | the start and the words of each, then its comments | 6.8 |
@@ -164,14 +168,14 @@ tokens. They return the events, in which a node has the properties before it, an
 | | 207, 208: documents | a document with its node's tokens, and whether `---` is written | 9.1 |
 | both | all others | the meanings of their parts, in order | |
 
-`meaning_laws` of `yf_standard` proves, for the productions in this list, that each derivation with the reading rules means what the
-program reads: plain, single-quoted and double-quoted scalars (131, 120, 109), the content of literal and folded scalars (173, 182),
-block scalars (170, 174), comments (79), separation (80), aliases (104), node properties (96), flow nodes (161), block nodes (196) and
-streams (211). For a node the program reads its events, its comments, the places of its tags, and the places of escapes that write no
-character. The laws on quoted scalars, block scalars and nodes hold for those that cover no forbidden line. For a stream the program
-reads its documents, each with its directives, and all comments. So all derivations of a text that has a reading mean the documents,
-directives, comments and bad escapes of that reading. The tokens do not say where nodes and entries are, where a document begins, or
-whether `...` ends it.
+`meaning_laws` of `yf_standard` proves that each derivation with the reading rules means what the program reads, for plain,
+single-quoted and double-quoted scalars (131, 120, 109), the content of literal and folded scalars (173, 182), block
+scalars (170, 174), comments (79), separation (80), aliases (104), node properties (96), flow nodes (161), block nodes
+(196) and streams (211). The laws on quoted scalars, block scalars and nodes hold for those that cover no forbidden line.
+For a node the program reads its events, its comments, the offsets of its tags, and the offsets of escapes that write no
+character; for a stream its documents, each with its directives, and all comments. So all derivations of a text that has
+a reading mean the documents, directives, comments and bad escapes of that reading. The tokens do not have the offsets of
+nodes, entries and documents, nor whether `...` ends a document.
 
 ## The productions
 """
@@ -265,8 +269,8 @@ def page():
                 fail(f"{number} is {plain} in the standard, and here: {one}")
         rules = sorted({RULES[c] for one in ours[number] for c in re.findall(r"⟨ ([^⟩\s]+)", one) if c in RULES})
         note = "; ".join(["**" + rule + "**" for rule in rules] + ([NOTES[number]] if number in NOTES else []))
-        relation = code(known[plain]) if plain in known else "one character" if number not in (206,) else ""
-        here = "<br>".join(clause(one) for one in ours[number])
+        relation = code(known[plain]) if plain in known else "·" if number not in (206,) else ""
+        here = "<br>".join(clause(one.removeprefix(plain + " = ")) for one in ours[number])
         lines.append(f"| {number} | {code(name)} ::= {code(right)} | {here} | {relation} | {note} |")
     if len(ours) != 211 or len(theirs) != 211:
         fail(f"{len(theirs)} and {len(ours)} productions, not 211")
