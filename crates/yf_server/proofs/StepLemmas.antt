@@ -17,7 +17,7 @@ use Rattle.yf_server.specs.declared.step.Reaction.{Reaction}
 use Rattle.yf_server.specs.declared.step.Server.{Server}
 use Rattle.yf_server.specs.Analysis.{TextClaim}
 use Rattle.yf_server.specs.Documents.{Event, OpenText, find, outcome_of}
-use Rattle.yf_server.specs.Edits.{AnswersRequest}
+use Rattle.yf_server.specs.Responses.{AnswersRequest}
 use Rattle.yf_server.specs.Laws.{is_answer, wants_answer}
 use Rattle.yf_server.specs.Lifecycle.{step_of}
 use Rattle.yf_server.specs.Steps.{IsAnswer, IsLogged, IsNote, IsNoteOf, Knows, Steps, StepsTo, no_step, one_step, after_any, after_message, after_messages, encoding_after, event_of, id_of, is_notification, is_of_document, is_request, knows, method_of, response_id, response_ids, wanted_id, wanted_ids}

@@ -1,6 +1,6 @@
 -- What a server does with a message: what it knows then, and what it sends.
 use Rattle.std.specs.Prelude.{◌≡◌, ◌||◌, ℕ, List, [], ◌∷◌, ◌++◌, codes, bytes_eq, Bool, true, false, MatchBool, Option, None, Some, option_and_then, option_map, option_to_list, if◌then◌else◌}
-use Rattle.serde_json.specs.Data.{Data, null, boolean, number, string, object, no_members, member, unsigned}
+use Rattle.serde_json.specs.Data.{Data, null, boolean, number, string, array, object, no_items, item, no_members, member, unsigned}
 use Rattle.serde_json.specs.Find.{get}
 use Rattle.serde_json.specs.View.{view}
 use Rattle.yf_json_rpc.specs.declared.error_code.ErrorCode.TheVariants.{MethodNotFound}
@@ -16,10 +16,11 @@ use Rattle.yf_server.specs.declared.step.Reaction.{Reaction}
 use Rattle.yf_server.specs.declared.step.Server.{Server}
 use Rattle.yf_server.specs.Analysis.{TextClaim}
 use Rattle.yf_server.specs.Documents.{Event, OpenText, after_event, find, outcome_of}
-use Rattle.yf_server.specs.Edits.{AnswersRequest, FailsWith}
+use Rattle.yf_server.specs.Edits.{FailsWith}
 use Rattle.yf_server.specs.Handshake.{name_of, negotiated}
 use Rattle.yf_server.specs.Lifecycle.{step_of}
 use Rattle.yf_server.specs.Parameters.{changed, closed, opened}
+use Rattle.yf_server.specs.Responses.{AnswersRequest}
 
 -- the id of an answer: that of the request, and null for a message that is none
 abbrev pub id_of : Kind → Data
@@ -117,14 +118,31 @@ abbrev pub after_messages : List ℕ → Knows → List Data → Knows
 after_messages uri k [] = k
 after_messages uri k (d ∷ rest) = after_messages uri (after_message uri k d) rest
 
--- `InitializeResult`: the server follows documents by changes of ranges, and formats them
-abbrev pub initialize_result : Encoding → Data
-initialize_result e = object (member (codes "capabilities") (object
+-- the code actions that the server has, the problems that it reports on request, and how it follows documents: by
+-- changes of ranges, and before they are saved
+abbrev pub action_options : Data
+action_options = object (member (codes "codeActionKinds")
+    (array (item (string (codes "source.fixAll.yamlfmt")) no_items)) no_members)
+
+abbrev pub diagnostic_options : Data
+diagnostic_options = object (member (codes "interFileDependencies") (boolean false)
+    (member (codes "workspaceDiagnostics") (boolean false) no_members))
+
+abbrev pub sync_options : Data
+sync_options = object (member (codes "change") (number (unsigned 2)) (member (codes "openClose") (boolean true)
+    (member (codes "willSaveWaitUntil") (boolean true) no_members)))
+
+-- `ServerCapabilities`
+abbrev pub capabilities : Encoding → Data
+capabilities e = object (member (codes "codeActionProvider") action_options
+    (member (codes "diagnosticProvider") diagnostic_options
     (member (codes "documentFormattingProvider") (boolean true)
     (member (codes "positionEncoding") (string (name_of e))
-    (member (codes "textDocumentSync") (object
-    (member (codes "change") (number (unsigned 2)) (member (codes "openClose") (boolean true) no_members)))
-    no_members)))) no_members)
+    (member (codes "textDocumentSync") sync_options no_members)))))
+
+-- `InitializeResult`
+abbrev pub initialize_result : Encoding → Data
+initialize_result e = object (member (codes "capabilities") (capabilities e) no_members)
 
 -- what is sent for a task, if anything
 abbrev pub IsAnswer : Data → Encoding → Task → Option Data → Type 0

@@ -2,7 +2,8 @@
 ghost use Rattle.std.specs.Prelude.{◌≡◌, [], ◌++◌, Some, IfOk, OnErr, OnOk, map, option_map, option_to_list};
 ghost use Rattle.serde_json.specs.View.{view};
 ghost use Rattle.yf_json_rpc.specs.Messages.{kind_read, reply};
-ghost use Rattle.yf_server.specs.Edits.{AnswersRequest, FailsWith};
+ghost use Rattle.yf_server.specs.Edits.{FailsWith};
+ghost use Rattle.yf_server.specs.Responses.{AnswersRequest};
 ghost use Rattle.yf_server.specs.Steps.{IsAnswer, IsSame, RunsTo, StepsTo, encoding_after, id_of, initialize_result, is_notification, is_request, method_of};
 
 use crate::analysis::Analysis;
@@ -99,8 +100,10 @@ fn initialize_result(alloc: Global, encoding: Encoding) -> Result<Value, AllocEr
     let name = name_of(encoding);
     json!(in alloc; {"capabilities": {
         "positionEncoding": name,
-        "textDocumentSync": {"openClose": true, "change": 2},
-        "documentFormattingProvider": true
+        "textDocumentSync": {"openClose": true, "change": 2, "willSaveWaitUntil": true},
+        "documentFormattingProvider": true,
+        "codeActionProvider": {"codeActionKinds": ["source.fixAll.yamlfmt"]},
+        "diagnosticProvider": {"interFileDependencies": false, "workspaceDiagnostics": false}
     }})
 }
 

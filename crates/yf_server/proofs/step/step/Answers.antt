@@ -3,7 +3,7 @@ use Rattle.serde_json.specs.View.{view}
 use Rattle.yf_json_rpc.specs.Messages.{kind_of, kind_read}
 use Rattle.yf_server.proofs.StepLemmas.{steps_answered, steps_notified, steps_requested}
 use Rattle.yf_server.specs.Documents.{find}
-use Rattle.yf_server.specs.Edits.{AnswersRequest}
+use Rattle.yf_server.specs.Responses.{AnswersRequest}
 use Rattle.yf_server.specs.Lifecycle.{step_of}
 use Rattle.yf_server.specs.Steps.{IsAnswer, IsNoteOf, after_any, encoding_after, event_of, id_of, is_notification, is_request, method_of}
 use Rattle.yf_server.proofs.step.step.Goals as goal
