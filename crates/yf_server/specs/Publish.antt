@@ -1,5 +1,5 @@
 -- When problems are published (`textDocument/publishDiagnostics`).
-use Rattle.std.specs.Prelude.{◌≡◌, ℕ, ℤ, List, codes, MatchBool, Option, None, Some}
+use Rattle.std.specs.Prelude.{◌≡◌, ◌&&◌, ℕ, ℤ, List, codes, not, MatchBool, Option, None, Some}
 use Rattle.serde_json.specs.Data.{Data, number, string, array, object, no_items, no_members, member}
 use Rattle.serde_json.specs.Find.{of_integer}
 use Rattle.yf_json_rpc.specs.Messages.{call, kind_of}
@@ -40,9 +40,9 @@ abbrev pub PublishesUri : TextClaim → Encoding → List OpenDocument → Optio
 PublishesUri claim e documents None sent = sent ≡ None
 PublishesUri claim e documents (Some uri) sent = PublishesFor claim e uri (find uri documents) sent
 
--- What is published after a message: after a notification on a document, what the server knows of it then. (server: the
--- server after the message; task: its task with the message)
+-- What is published after a message: after a notification on a document, what the server knows of it then, but nothing
+-- if the client asks for problems itself. (server: the server after the message; task: its task with the message)
 abbrev pub IsPublished : TextClaim → Server → Task → Data → Option Data → Type 0
-IsPublished claim server task d sent = MatchBool (is_notification task)
+IsPublished claim server task d sent = MatchBool (is_notification task && not server.terms.is_pulling)
     (MatchBool (is_of_document (method_of (kind_of d)))
-    (PublishesUri claim server.encoding server.documents.items (named_uri d) sent) (sent ≡ None)) (sent ≡ None)
+    (PublishesUri claim server.terms.encoding server.documents.items (named_uri d) sent) (sent ≡ None)) (sent ≡ None)

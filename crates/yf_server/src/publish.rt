@@ -87,7 +87,8 @@ fn publish_uri<A: Analysis>(
 }
 
 /// Returns what a server publishes after a message: after a notification on a document, the problems of the document
-/// as it is then, with its version, or no problems if it is not open.
+/// as it is then, with its version, or no problems if it is not open. To a client that asks for problems it publishes
+/// nothing.
 ///
 /// # Errors
 ///
@@ -102,7 +103,7 @@ pub fn publish<A: Analysis>(
     ensures { IfOk result (λ sent.
         IsPublished (A.claim analysis.now) server.now task (view value.now) (option_map view sent)) }
 {
-    if !is_notification(task) {
+    if !is_notification(task) || server.terms.is_pulling {
         return Ok(None);
     }
     let method = method_of(message_of(value));
@@ -117,7 +118,7 @@ pub fn publish<A: Analysis>(
                 analysis,
                 server.documents.as_slice(),
                 uri,
-                server.encoding,
+                server.terms.encoding,
             )?;
             Ok(Some(sent))
         }
