@@ -5,8 +5,9 @@
 
 PROGRAM is the built program (crates/yamlfmt/out/yamlfmt). The script opens documents, edits them at random, formats
 them, and compares each answer with a model of its own: the text that the edits must give, and what PROGRAM itself prints
-for that text by `fmt` and `check`. It asks for the edits, the code actions and the problems in each way that there is. Then it sends what a broken client sends. With --times it measures how long an edit in
-a document of 1 MB and of 16 MB takes until its diagnostics are there.
+for that text by `fmt` and `check`. It asks for the edits, the code actions and the problems in each way that there is.
+Then it sends what a broken client sends. With --times it measures how long an edit in a document of 1 MB and of 16 MB
+takes until its diagnostics are there.
 """
 import argparse
 import json
