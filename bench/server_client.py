@@ -5,8 +5,9 @@
 
 PROGRAM is the built program (crates/yamlfmt/out/yamlfmt). The script opens documents, edits them at random, formats
 them, and compares each answer with a model of its own: the text that the edits must give, and what PROGRAM itself prints
-for that text by `fmt` and `check`. Then it sends what a broken client sends. With --times it measures how long an edit in
-a document of 1 MB and of 16 MB takes until its diagnostics are there.
+for that text by `fmt` and `check`. It asks for the edits, the code actions and the problems in each way that there is.
+Then it sends what a broken client sends. With --times it measures how long an edit in a document of 1 MB and of 16 MB
+takes until its diagnostics are there.
 """
 import argparse
 import json
@@ -17,6 +18,12 @@ import sys
 import time
 
 NAME = 'file:///tmp/one.yaml'
+CAPABILITIES = {
+    'textDocumentSync': {'openClose': True, 'change': 2, 'willSaveWaitUntil': True},
+    'documentFormattingProvider': True,
+    'codeActionProvider': {'codeActionKinds': ['source.fixAll.yamlfmt']},
+    'diagnosticProvider': {'interFileDependencies': False, 'workspaceDiagnostics': False},
+}
 
 
 class Server:
@@ -154,8 +161,31 @@ def run(program, command, text):
     return done.returncode, done.stdout.decode(), done.stderr.decode()
 
 
+def code_actions(server, context):
+    everything = {'start': {'line': 0, 'character': 0}, 'end': {'line': 0, 'character': 0}}
+    answer, before = server.request('textDocument/codeAction', {
+        'textDocument': {'uri': NAME}, 'range': everything, 'context': context})
+    assert before == [], before
+    return answer['result']
+
+
+def check_actions(server, text, formatted, encoding):
+    """The code action has the edits of the whole formatting. (formatted: None if the text is refused)"""
+    for only, is_wanted in ((None, True), ([], False), (['source'], True), (['quickfix', 'source.fixAll'], True),
+                            (['source.fixAll.yamlfmt'], True), ([''], True), (['source.fixAll.other'], False),
+                            (['source.fix'], False), (['quickfix'], False), ([7], False)):
+        actions = code_actions(server, {'diagnostics': []} if only is None else {'diagnostics': [], 'only': only})
+        if not is_wanted or formatted is None or formatted == text:
+            assert actions == [], (only, actions)
+            continue
+        (action,) = actions
+        assert action['kind'] == 'source.fixAll.yamlfmt' and set(action) == {'title', 'kind', 'edit'}, action
+        assert list(action['edit']) == ['changes'] and list(action['edit']['changes']) == [NAME], action
+        assert apply(text, action['edit']['changes'][NAME], encoding) == formatted, 'the action gives another text'
+
+
 def check_document(program, server, text, encoding):
-    """The formatting and the diagnostics of an open document agree with `fmt` and `check`."""
+    """What an open document gets on request agrees with `fmt` and `check`."""
     answer, before = server.request('textDocument/formatting', {
         'textDocument': {'uri': NAME}, 'options': {'tabSize': 8, 'insertSpaces': False}})
     status, formatted, _ = run(program, ['fmt'], text)
@@ -165,6 +195,12 @@ def check_document(program, server, text, encoding):
             assert answer['result'] == [], 'edits of a formatted text'
     else:
         assert answer['result'] is None, 'a refused text is formatted'
+    saved, _ = server.request('textDocument/willSaveWaitUntil', {'textDocument': {'uri': NAME}, 'reason': 1})
+    assert saved['result'] == answer['result'], 'other edits before a save'
+    check_actions(server, text, formatted if status == 0 else None, encoding)
+    pulled, _ = server.request('textDocument/diagnostic', {'textDocument': {'uri': NAME}})
+    assert set(pulled['result']) == {'kind', 'items'} and pulled['result']['kind'] == 'full', pulled
+    check_problems(program, pulled['result']['items'], text, encoding)
     return before
 
 
@@ -172,8 +208,12 @@ def check_diagnostics(program, published, text, version, encoding):
     assert published['method'] == 'textDocument/publishDiagnostics', published
     params = published['params']
     assert params['uri'] == NAME and params['version'] == version, params
+    check_problems(program, params['diagnostics'], text, encoding)
+
+
+def check_problems(program, listed, text, encoding):
+    """The problems are those that `check` prints, or why it refuses the text."""
     status, findings, errors = run(program, ['check'], text)
-    listed = params['diagnostics']
     if status in (0, 1):
         wanted = sorted(line.split(' ')[1] for line in findings.splitlines())
         assert sorted(d['code'] for d in listed) == wanted, (listed, findings)
@@ -238,13 +278,16 @@ def life_cycle(program):
     answer, _ = server.request('textDocument/formatting', {})
     assert answer['error']['code'] == -32002, answer
     capabilities = initialize(server)
-    assert capabilities['positionEncoding'] == 'utf-16', capabilities
+    assert capabilities == {'positionEncoding': 'utf-16', **CAPABILITIES}, capabilities
     answer, _ = server.request('initialize', {})
     assert answer['error']['code'] == -32600, answer
     answer, _ = server.request('workspace/symbol', {})
     assert answer['error']['code'] == -32601, answer
-    answer, _ = server.request('textDocument/formatting', {'textDocument': {'uri': NAME}})
-    assert answer['error']['code'] == -32602, answer
+    for method in ('formatting', 'willSaveWaitUntil', 'codeAction', 'diagnostic'):
+        answer, _ = server.request('textDocument/' + method, {'textDocument': {'uri': NAME}})
+        assert answer['error']['code'] == -32602, answer
+        answer, _ = server.request('textDocument/' + method, {})
+        assert answer['error']['code'] == -32602, answer
     server.write(b'Content-Length: 3\r\n\r\n{{{')
     answer = server.receive()
     assert answer['error']['code'] == -32700 and answer['id'] is None, answer

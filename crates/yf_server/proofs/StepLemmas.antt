@@ -17,10 +17,10 @@ use Rattle.yf_server.specs.declared.step.Reaction.{Reaction}
 use Rattle.yf_server.specs.declared.step.Server.{Server}
 use Rattle.yf_server.specs.Analysis.{TextClaim}
 use Rattle.yf_server.specs.Documents.{Event, OpenText, find, outcome_of}
-use Rattle.yf_server.specs.Edits.{AnswersRequest}
+use Rattle.yf_server.specs.Responses.{AnswersRequest}
 use Rattle.yf_server.specs.Laws.{is_answer, wants_answer}
 use Rattle.yf_server.specs.Lifecycle.{step_of}
-use Rattle.yf_server.specs.Steps.{IsAnswer, IsLogged, IsNote, IsNoteOf, Knows, Steps, StepsTo, no_step, one_step, after_any, after_message, after_messages, encoding_after, event_of, id_of, is_notification, is_of_document, is_request, knows, method_of, response_id, response_ids, wanted_id, wanted_ids}
+use Rattle.yf_server.specs.Steps.{IsAnswer, IsLogged, IsNote, IsNoteOf, Knows, Steps, StepsTo, after_any, after_message, after_messages, event_of, id_of, is_notification, is_of_document, is_request, knows, method_of, no_step, one_step, response_id, response_ids, terms_after, wanted_id, wanted_ids}
 
 sent_ids : (task : Task) (id : Data) (e : Encoding) (sent : Option Data) → IsAnswer id e task sent
     → response_ids (option_to_list sent) ≡ (if is_answer task then id ∷ [] else [])
@@ -80,7 +80,7 @@ none_wanted phase kind h =
 
 knows_is : (uri : List ℕ) (before after : Server) (d : Data) (document : Option OpenText)
     → after.phase ≡ (step_of before.phase (kind_of d)).phase
-    → after.encoding ≡ encoding_after before.encoding (step_of before.phase (kind_of d)).task d
+    → after.terms ≡ terms_after before.terms (step_of before.phase (kind_of d)).task d
     → find uri after.documents.items ≡ document → document ≡ (after_message uri (knows uri before) d).document
     → knows uri after ≡ after_message uri (knows uri before) d
 knows_is uri before after d document p e f g = rw (p, e, f, g) refl
@@ -88,29 +88,29 @@ knows_is uri before after d document p e f g = rw (p, e, f, g) refl
 pub steps_notified : (claim : TextClaim) (before after : Server) (d : Data) (reaction : Reaction)
     → reaction.task ≡ (step_of before.phase (kind_of d)).task
     → after.phase ≡ (step_of before.phase (kind_of d)).phase
-    → after.encoding ≡ encoding_after before.encoding (step_of before.phase (kind_of d)).task d
+    → after.terms ≡ terms_after before.terms (step_of before.phase (kind_of d)).task d
     → is_notification (step_of before.phase (kind_of d)).task ≡ true
-    → ((uri : List ℕ) → find uri after.documents.items ≡ after_any before.encoding uri
+    → ((uri : List ℕ) → find uri after.documents.items ≡ after_any before.terms.encoding uri
     (find uri before.documents.items) (event_of (method_of (kind_of d)) d))
-    → IsNoteOf before.encoding before.documents.items (method_of (kind_of d)) (event_of (method_of (kind_of d)) d)
+    → IsNoteOf before.terms.encoding before.documents.items (method_of (kind_of d)) (event_of (method_of (kind_of d)) d)
     (option_map view reaction.message) → StepsTo claim before after d reaction
 steps_notified claim before after d reaction t p e is docs note =
     record {
       task = t;
       knows = λ uri. knows_is uri before after d _ p e (docs uri) (rw is refl);
       sends = rw is note;
-      answers = note_none before.encoding before.documents.items (method_of (kind_of d)) (event_of (method_of (kind_of d)) d)
+      answers = note_none before.terms.encoding before.documents.items (method_of (kind_of d)) (event_of (method_of (kind_of d)) d)
           (option_map view reaction.message) note ∙ sym (none_wanted before.phase (kind_of d) is);
     }
 
 pub steps_answered : (claim : TextClaim) (before after : Server) (d : Data) (reaction : Reaction)
     → reaction.task ≡ (step_of before.phase (kind_of d)).task
     → after.phase ≡ (step_of before.phase (kind_of d)).phase
-    → after.encoding ≡ encoding_after before.encoding (step_of before.phase (kind_of d)).task d
+    → after.terms ≡ terms_after before.terms (step_of before.phase (kind_of d)).task d
     → is_notification (step_of before.phase (kind_of d)).task ≡ false
     → is_request (step_of before.phase (kind_of d)).task ≡ false
     → after.documents.items ≡ before.documents.items
-    → IsAnswer (id_of (kind_of d)) (encoding_after before.encoding (step_of before.phase (kind_of d)).task d)
+    → IsAnswer (id_of (kind_of d)) (terms_after before.terms (step_of before.phase (kind_of d)).task d).encoding
     (step_of before.phase (kind_of d)).task (option_map view reaction.message) → StepsTo claim before after d reaction
 steps_answered claim before after d reaction t p e is own docs answer =
     record {
@@ -118,7 +118,7 @@ steps_answered claim before after d reaction t p e is own docs answer =
       knows = λ uri. knows_is uri before after d _ p e (ap (find uri) docs) (rw is refl);
       sends = rw (is, own) answer;
       answers = answer_once before.phase (kind_of d)
-          (encoding_after before.encoding (step_of before.phase (kind_of d)).task d)
+          (terms_after before.terms (step_of before.phase (kind_of d)).task d).encoding
           (option_map view reaction.message) answer;
     }
 
@@ -150,10 +150,10 @@ id_wanted phase kind h =
 pub steps_requested : (claim : TextClaim) (before after : Server) (d : Data) (reaction : Reaction)
     → reaction.task ≡ (step_of before.phase (kind_of d)).task
     → after.phase ≡ (step_of before.phase (kind_of d)).phase
-    → after.encoding ≡ encoding_after before.encoding (step_of before.phase (kind_of d)).task d
+    → after.terms ≡ terms_after before.terms (step_of before.phase (kind_of d)).task d
     → is_request (step_of before.phase (kind_of d)).task ≡ true
     → after.documents.items ≡ before.documents.items
-    → AnswersRequest claim before.encoding before.documents.items (id_of (kind_of d)) (method_of (kind_of d)) d
+    → AnswersRequest claim before.terms.encoding before.documents.items (id_of (kind_of d)) (method_of (kind_of d)) d
     (option_map view reaction.message) → StepsTo claim before after d reaction
 steps_requested claim before after d reaction t p e is docs answer =
     let other = not_notification (step_of before.phase (kind_of d)).task is in
@@ -161,7 +161,7 @@ steps_requested claim before after d reaction t p e is docs answer =
       task = t;
       knows = λ uri. knows_is uri before after d _ p e (ap (find uri) docs) (rw other refl);
       sends = rw (other, is) answer;
-      answers = request_once claim before.encoding before.documents.items (id_of (kind_of d)) (method_of (kind_of d)) d
+      answers = request_once claim before.terms.encoding before.documents.items (id_of (kind_of d)) (method_of (kind_of d)) d
           (option_map view reaction.message) answer ∙ sym (id_wanted before.phase (kind_of d) is);
     }
 

@@ -1,18 +1,15 @@
--- Text edits as JSON (`TextEdit` of the Language Server Protocol 3.17), and the responses with them.
-use Rattle.std.specs.Prelude.{◌≡◌, ℕ, List, map, codes, bytes_eq, true, MatchBool, Option, None, Some, option_and_then}
+-- Text edits as JSON (`TextEdit` of the Language Server Protocol 3.17), and the answers that carry them.
+use Rattle.std.specs.Prelude.{◌≡◌, ℕ, List, map, codes, true, Option, None, Some, option_and_then}
 use Rattle.serde_json.specs.Data.{Data, null, number, string, array, object, no_members, member, unsigned}
 use Rattle.serde_json.specs.Find.{get}
 use Rattle.serde_json.specs.View.{items_of}
 use Rattle.yf_json_rpc.specs.declared.error_code.ErrorCode.{ErrorCode}
-use Rattle.yf_json_rpc.specs.declared.error_code.ErrorCode.TheVariants.{InvalidParams, MethodNotFound}
 use Rattle.yf_json_rpc.specs.Messages.{failure, reply}
 use Rattle.yf_positions.specs.declared.encoding.Encoding.{Encoding}
 use Rattle.yf_positions.specs.declared.position.LspPosition.{LspPosition}
 use Rattle.yf_positions.specs.declared.position.LspRange.{LspRange}
 use Rattle.yf_positions.specs.Edits.{EditsOfScript, RangeEdit, edited, in_order}
-use Rattle.yf_server.specs.declared.documents.OpenDocument.{OpenDocument}
 use Rattle.yf_server.specs.Analysis.{TextClaim}
-use Rattle.yf_server.specs.Documents.{OpenText, find}
 use Rattle.yf_server.specs.Parameters.{string_in}
 
 abbrev pub position_data : LspPosition → Data
@@ -65,24 +62,7 @@ pub record Replies (P : Data → Type 0) (id : Data) (sent : Option Data) : Type
   pub is : sent ≡ Some (reply id value)
   pub holds : P value
 
--- the response for a document: the edits that format it, or an error if it is not open
-abbrev pub AnswersFor : TextClaim → Encoding → Data → Option OpenText → Option Data → Type 0
-AnswersFor claim e id None sent = FailsWith id InvalidParams sent
-AnswersFor claim e id (Some was) sent = Replies (IsFormatting claim e was.text) id sent
-
--- the response for the document with a URI, or an error if the parameters have no URI
-abbrev pub AnswersUri : TextClaim → Encoding → List OpenDocument → Data → Option (List ℕ)
-    → Option Data → Type 0
-AnswersUri claim e documents id None sent = FailsWith id InvalidParams sent
-AnswersUri claim e documents id (Some uri) sent = AnswersFor claim e id (find uri documents) sent
-
 -- the URI that parameters name
 abbrev pub named_uri : Data → Option (List ℕ)
 named_uri d = option_and_then (string_in (codes "uri"))
     (option_and_then (get (codes "textDocument")) (get (codes "params") d))
-
--- the response to a request that is not of the life cycle
-abbrev pub AnswersRequest : TextClaim → Encoding → List OpenDocument → Data → List ℕ → Data
-    → Option Data → Type 0
-AnswersRequest claim e documents id method d sent = MatchBool (bytes_eq method (codes "textDocument/formatting"))
-    (AnswersUri claim e documents id (named_uri d) sent) (FailsWith id MethodNotFound sent)

@@ -6,4 +6,8 @@ pub mod Handshake
 pub mod Steps
 pub mod Analysis
 pub mod Edits
+pub mod Queries
+pub mod Actions
+pub mod Diagnostics
+pub mod Responses
 pub mod Publish

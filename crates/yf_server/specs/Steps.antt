@@ -1,14 +1,14 @@
 -- The step of a server for a message: its knowledge after it, and the message that it sends.
 use Rattle.std.specs.Prelude.{◌≡◌, ◌||◌, ℕ, List, [], ◌∷◌, ◌++◌, codes, bytes_eq, Bool, true, false, MatchBool, Option, None, Some, option_and_then, option_map, option_to_list, if◌then◌else◌}
-use Rattle.serde_json.specs.Data.{Data, null, boolean, number, string, object, no_members, member, unsigned}
+use Rattle.serde_json.specs.Data.{Data, null, boolean, number, string, array, object, no_items, item, no_members, member, unsigned}
 use Rattle.serde_json.specs.Find.{get}
 use Rattle.serde_json.specs.View.{view}
 use Rattle.yf_json_rpc.specs.declared.error_code.ErrorCode.TheVariants.{MethodNotFound}
 use Rattle.yf_json_rpc.specs.Messages.{Kind, request, notification, response, invalid, call, kind_of, reply}
 use Rattle.yf_positions.specs.declared.encoding.Encoding.{Encoding}
-use Rattle.yf_positions.specs.declared.encoding.Encoding.TheVariants.{Utf16}
 use Rattle.yf_server.specs.declared.documents.OpenDocument.{OpenDocument}
 use Rattle.yf_server.specs.declared.documents.Outcome.{Outcome}
+use Rattle.yf_server.specs.declared.handshake.Terms.{Terms}
 use Rattle.yf_server.specs.declared.lifecycle.Phase.{Phase}
 use Rattle.yf_server.specs.declared.lifecycle.Task.{Task}
 use Rattle.yf_server.specs.declared.lifecycle.Task.TheVariants.{Initialize, Shutdown, Request, Fail, Notification, Ignore, Exit}
@@ -16,10 +16,11 @@ use Rattle.yf_server.specs.declared.step.Reaction.{Reaction}
 use Rattle.yf_server.specs.declared.step.Server.{Server}
 use Rattle.yf_server.specs.Analysis.{TextClaim}
 use Rattle.yf_server.specs.Documents.{Event, OpenText, after_event, find, outcome_of}
-use Rattle.yf_server.specs.Edits.{AnswersRequest, FailsWith}
-use Rattle.yf_server.specs.Handshake.{name_of, negotiated}
+use Rattle.yf_server.specs.Edits.{FailsWith}
+use Rattle.yf_server.specs.Handshake.{agreed, fresh_terms, name_of}
 use Rattle.yf_server.specs.Lifecycle.{step_of}
 use Rattle.yf_server.specs.Parameters.{changed, closed, opened}
+use Rattle.yf_server.specs.Responses.{AnswersRequest}
 
 -- the id of a response: the id of the request, or null for an invalid message
 abbrev pub id_of : Kind → Data
@@ -76,13 +77,13 @@ is_request Notification = false
 is_request Ignore = false
 is_request (Exit is_success) = false
 
--- the encoding that the parameters of `initialize` lead to
-abbrev pub chosen : Option Data → Encoding
-chosen None = Utf16
-chosen (Some params) = negotiated params
+-- what the parameters of `initialize` lead to
+abbrev pub chosen : Option Data → Terms
+chosen None = fresh_terms
+chosen (Some params) = agreed params
 
-abbrev pub encoding_after : Encoding → Task → Data → Encoding
-encoding_after e task d = if is_initialize task then chosen (get (codes "params") d) else e
+abbrev pub terms_after : Terms → Task → Data → Terms
+terms_after terms task d = if is_initialize task then chosen (get (codes "params") d) else terms
 
 -- a document after an event, if there is one
 abbrev pub after_any : Encoding → List ℕ → Option OpenText → Option Event → Option OpenText
@@ -92,13 +93,13 @@ after_any e uri was (Some event) = after_event e uri was event
 -- the knowledge of a server that matters for the document with one URI
 pub record Knows : Type 0 where
   pub phase : Phase
-  pub encoding : Encoding
+  pub terms : Terms
   pub document : Option OpenText
 
 abbrev pub knows : List ℕ → Server → Knows
 knows uri server = record {
   phase = server.phase;
-  encoding = server.encoding;
+  terms = server.terms;
   document = find uri server.documents.items;
 }
 
@@ -106,10 +107,10 @@ knows uri server = record {
 abbrev pub after_message : List ℕ → Knows → Data → Knows
 after_message uri k d = record {
   phase = (step_of k.phase (kind_of d)).phase;
-  encoding = encoding_after k.encoding (step_of k.phase (kind_of d)).task d;
+  terms = terms_after k.terms (step_of k.phase (kind_of d)).task d;
   document =
       if is_notification (step_of k.phase (kind_of d)).task
-      then after_any k.encoding uri k.document (event_of (method_of (kind_of d)) d) else k.document;
+      then after_any k.terms.encoding uri k.document (event_of (method_of (kind_of d)) d) else k.document;
 }
 
 -- that after messages, one after the other
@@ -117,14 +118,31 @@ abbrev pub after_messages : List ℕ → Knows → List Data → Knows
 after_messages uri k [] = k
 after_messages uri k (d ∷ rest) = after_messages uri (after_message uri k d) rest
 
--- `InitializeResult`: the server follows documents by changes of ranges, and formats them
-abbrev pub initialize_result : Encoding → Data
-initialize_result e = object (member (codes "capabilities") (object
+-- the code actions that the server has, the problems that it reports on request, and how it follows documents: by
+-- changes of ranges, and before they are saved
+abbrev pub action_options : Data
+action_options = object (member (codes "codeActionKinds")
+    (array (item (string (codes "source.fixAll.yamlfmt")) no_items)) no_members)
+
+abbrev pub diagnostic_options : Data
+diagnostic_options = object (member (codes "interFileDependencies") (boolean false)
+    (member (codes "workspaceDiagnostics") (boolean false) no_members))
+
+abbrev pub sync_options : Data
+sync_options = object (member (codes "change") (number (unsigned 2)) (member (codes "openClose") (boolean true)
+    (member (codes "willSaveWaitUntil") (boolean true) no_members)))
+
+-- `ServerCapabilities`
+abbrev pub capabilities : Encoding → Data
+capabilities e = object (member (codes "codeActionProvider") action_options
+    (member (codes "diagnosticProvider") diagnostic_options
     (member (codes "documentFormattingProvider") (boolean true)
     (member (codes "positionEncoding") (string (name_of e))
-    (member (codes "textDocumentSync") (object
-    (member (codes "change") (number (unsigned 2)) (member (codes "openClose") (boolean true) no_members)))
-    no_members)))) no_members)
+    (member (codes "textDocumentSync") sync_options no_members)))))
+
+-- `InitializeResult`
+abbrev pub initialize_result : Encoding → Data
+initialize_result e = object (member (codes "capabilities") (capabilities e) no_members)
 
 -- the message that is sent for a task, if any
 abbrev pub IsAnswer : Data → Encoding → Task → Option Data → Type 0
@@ -163,10 +181,10 @@ IsNoteOf e documents method (Some event) sent = IsNote (outcome_of e (find event
 -- the message that is sent, by the formatting of a text
 abbrev pub Sends : TextClaim → Server → Data → Option Data → Type 0
 Sends claim server d sent = MatchBool (is_notification (step_of server.phase (kind_of d)).task)
-    (IsNoteOf server.encoding server.documents.items (method_of (kind_of d)) (event_of (method_of (kind_of d)) d) sent)
+    (IsNoteOf server.terms.encoding server.documents.items (method_of (kind_of d)) (event_of (method_of (kind_of d)) d) sent)
     (MatchBool (is_request (step_of server.phase (kind_of d)).task)
-    (AnswersRequest claim server.encoding server.documents.items (id_of (kind_of d)) (method_of (kind_of d)) d sent)
-    (IsAnswer (id_of (kind_of d)) (encoding_after server.encoding (step_of server.phase (kind_of d)).task d)
+    (AnswersRequest claim server.terms.encoding server.documents.items (id_of (kind_of d)) (method_of (kind_of d)) d sent)
+    (IsAnswer (id_of (kind_of d)) (terms_after server.terms (step_of server.phase (kind_of d)).task d).encoding
     (step_of server.phase (kind_of d)).task sent))
 
 -- the ids of the responses among messages
@@ -203,7 +221,7 @@ pub record StepsTo (claim : TextClaim) (before after : Server) (d : Data) (react
 -- nothing has changed
 pub record IsSame (before after : Server) : Type 0 where
   pub phase : after.phase ≡ before.phase
-  pub encoding : after.encoding ≡ before.encoding
+  pub terms : after.terms ≡ before.terms
   pub documents : after.documents.items ≡ before.documents.items
 
 -- the messages that a server sends, and the server after them: one step for each message, in order

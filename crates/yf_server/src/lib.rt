@@ -5,7 +5,9 @@
 //! reads and writes no stream.
 #![tactic(auto)]
 
+pub mod actions;
 pub mod analysis;
+pub mod diagnostics;
 pub mod documents;
 pub mod edits;
 pub mod handshake;
@@ -14,5 +16,6 @@ pub mod lifecycle;
 pub mod notify;
 pub mod parameters;
 pub mod publish;
+pub mod query;
 pub mod respond;
 pub mod step;

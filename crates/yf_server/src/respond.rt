@@ -1,14 +1,19 @@
-//! Responses to requests that are not of the life cycle.
-ghost use Rattle.std.specs.Prelude.{◌≡◌, List, ℕ, Option, Some, IfOk, option_map};
+//! The answers to requests that are not of the life cycle.
+ghost use Rattle.std.specs.Prelude.{◌≡◌, Some, IfOk, option_map};
 ghost use Rattle.serde_json.specs.View.{view};
 ghost use Rattle.yf_json_rpc.specs.Messages.{reply};
 ghost use Rattle.yf_server.specs.Documents.{find};
-ghost use Rattle.yf_server.specs.Edits.{AnswersFor, AnswersRequest, AnswersUri, FailsWith, IsFormatting, named_uri};
+ghost use Rattle.yf_server.specs.Edits.{FailsWith, IsFormatting, named_uri};
+ghost use Rattle.yf_server.specs.Queries.{query_of};
+ghost use Rattle.yf_server.specs.Responses.{AnswersFor, AnswersRequest, AnswersUri, IsResult};
 
+use crate::actions::actions;
 use crate::analysis::Analysis;
+use crate::diagnostics::report;
 use crate::documents::{OpenDocument, place_of};
 use crate::edits::edits_to;
 use crate::parameters::string_in;
+use crate::query::{Query, query_of};
 use serde_json::Value;
 use std::alloc::{AllocError, Global};
 use yf_json_rpc::error_code::ErrorCode;
@@ -66,23 +71,44 @@ fn formatting<A: Analysis>(
     }
 }
 
-/// Returns the response for the document with a URI.
+/// Returns what a request gets that asks for something of a document.
+fn result_of<A: Analysis>(
+    alloc: Global,
+    analysis: &A,
+    query: Query,
+    uri: &str,
+    document: &Document,
+    encoding: Encoding,
+) -> Result<Value, AllocError>
+    ensures { IfOk result (λ value. IsResult (A.claim analysis.now) encoding query uri.now document.now (view value)) }
+{
+    match query {
+        Query::Formatting => formatting(alloc, analysis, document, encoding),
+        Query::Actions { is_wanted } => {
+            actions(alloc, analysis, is_wanted, uri, document, encoding)
+        }
+        Query::Problems => report(alloc, analysis, document, encoding),
+    }
+}
+
+/// Returns the answer for the document of a URI.
 fn answer_for<A: Analysis>(
     alloc: Global,
     analysis: &A,
     documents: &[OpenDocument],
     id: &Value,
+    query: Query,
     uri: &str,
     encoding: Encoding,
 ) -> Result<Value, AllocError>
-    ensures { IfOk result (λ answer. AnswersFor (A.claim analysis.now) encoding (view id.now)
+    ensures { IfOk result (λ answer. AnswersFor (A.claim analysis.now) encoding (view id.now) query uri.now
         (find uri.now documents.now) (Some (view answer))) }
 {
     match place_of(documents, uri) {
         None => failure_of(alloc, id, ErrorCode::InvalidParams),
         Some(at) => {
             let document = &documents[at];
-            let value = formatting(alloc, analysis, &document.document, encoding)?;
+            let value = result_of(alloc, analysis, query, uri, &document.document, encoding)?;
             reply(alloc, id, &value)
         }
     }
@@ -90,8 +116,9 @@ fn answer_for<A: Analysis>(
 
 /// Returns the response to a request that is not of the life cycle.
 ///
-/// `textDocument/formatting` gets the edits that format an open document, or null if it cannot be formatted. Any other
-/// method gets the error -32601, and a document that is not open the error -32602.
+/// `textDocument/formatting` and `textDocument/willSaveWaitUntil` get the edits that format an open document, or null if
+/// it cannot be formatted. `textDocument/codeAction` gets the action with these edits, and `textDocument/diagnostic` the
+/// problems. Any other method gets the error -32601, and a document that is not open the error -32602.
 ///
 /// # Errors
 ///
@@ -108,11 +135,12 @@ pub fn respond<A: Analysis>(
     ensures { IfOk result (λ answer. AnswersRequest (A.claim analysis.now) encoding documents.now (view id.now)
         method.now (view value.now) (Some (view answer))) }
 {
-    if method == "textDocument/formatting" {
-        return match named_uri(value) {
-            None => failure_of(alloc, id, ErrorCode::InvalidParams),
-            Some(uri) => answer_for(alloc, analysis, documents, id, uri, encoding),
-        };
+    let query = match query_of(method, value) {
+        Ok(query) => query,
+        Err(code) => return failure_of(alloc, id, code),
+    };
+    match named_uri(value) {
+        None => failure_of(alloc, id, ErrorCode::InvalidParams),
+        Some(uri) => answer_for(alloc, analysis, documents, id, query, uri, encoding),
     }
-    failure_of(alloc, id, ErrorCode::MethodNotFound)
 }

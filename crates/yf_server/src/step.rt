@@ -2,12 +2,14 @@
 ghost use Rattle.std.specs.Prelude.{◌≡◌, [], ◌++◌, Some, IfOk, OnErr, OnOk, map, option_map, option_to_list};
 ghost use Rattle.serde_json.specs.View.{view};
 ghost use Rattle.yf_json_rpc.specs.Messages.{kind_read, reply};
-ghost use Rattle.yf_server.specs.Edits.{AnswersRequest, FailsWith};
-ghost use Rattle.yf_server.specs.Steps.{IsAnswer, IsSame, RunsTo, StepsTo, encoding_after, id_of, initialize_result, is_notification, is_request, method_of};
+ghost use Rattle.yf_server.specs.Edits.{FailsWith};
+ghost use Rattle.yf_server.specs.Handshake.{fresh_terms};
+ghost use Rattle.yf_server.specs.Responses.{AnswersRequest};
+ghost use Rattle.yf_server.specs.Steps.{IsAnswer, IsSame, RunsTo, StepsTo, id_of, initialize_result, is_notification, is_request, method_of, terms_after};
 
 use crate::analysis::Analysis;
 use crate::documents::OpenDocument;
-use crate::handshake::{name_of, negotiated};
+use crate::handshake::{Terms, agreed, fresh_terms, name_of};
 use crate::lifecycle::{Phase, Task, next_step};
 use crate::notify::notify;
 use crate::respond::{failure_of, respond};
@@ -17,11 +19,11 @@ use yf_json_rpc::error_code::ErrorCode;
 use yf_json_rpc::message::{Message, message_of, reply};
 use yf_positions::encoding::Encoding;
 
-/// A server: its phase, the encoding of positions, and the open documents.
+/// A server: how far it is, what it agreed on with the client, and the open documents.
 #[derive(Drop)]
 pub struct Server {
     pub phase: Phase,
-    pub encoding: Encoding,
+    pub terms: Terms,
     pub documents: Vec<OpenDocument>,
 }
 
@@ -74,21 +76,21 @@ fn is_request(task: Task) -> bool
     }
 }
 
-/// Returns the encoding of positions after a message.
-fn encoding_after(encoding: Encoding, task: Task, value: &Value) -> Encoding
-    ensures { result ≡ encoding_after encoding task (view value.now) }
+/// Returns what client and server agree on after a message.
+fn terms_after(terms: Terms, task: Task, value: &Value) -> Terms
+    ensures { result ≡ terms_after terms task (view value.now) }
 {
     match task {
         Task::Initialize => match value.get("params") {
-            None => Encoding::Utf16,
-            Some(params) => negotiated(params),
+            None => fresh_terms(),
+            Some(params) => agreed(params),
         },
-        Task::Shutdown => encoding,
-        Task::Request => encoding,
-        Task::Fail(_) => encoding,
-        Task::Notification => encoding,
-        Task::Ignore => encoding,
-        Task::Exit { is_success: _ } => encoding,
+        Task::Shutdown => terms,
+        Task::Request => terms,
+        Task::Fail(_) => terms,
+        Task::Notification => terms,
+        Task::Ignore => terms,
+        Task::Exit { is_success: _ } => terms,
     }
 }
 
@@ -99,8 +101,10 @@ fn initialize_result(alloc: Global, encoding: Encoding) -> Result<Value, AllocEr
     let name = name_of(encoding);
     json!(in alloc; {"capabilities": {
         "positionEncoding": name,
-        "textDocumentSync": {"openClose": true, "change": 2},
-        "documentFormattingProvider": true
+        "textDocumentSync": {"openClose": true, "change": 2, "willSaveWaitUntil": true},
+        "documentFormattingProvider": true,
+        "codeActionProvider": {"codeActionKinds": ["source.fixAll.yamlfmt"]},
+        "diagnosticProvider": {"interFileDependencies": false, "workspaceDiagnostics": false}
     }})
 }
 
@@ -198,12 +202,12 @@ impl Server {
     /// Returns a server that has received no message.
     pub fn new(alloc: Global) -> Server
         ensures phase { result.phase ≡ Phase.Fresh }
-        ensures encoding { result.encoding ≡ Encoding.Utf16 }
+        ensures terms { result.terms ≡ fresh_terms }
         ensures documents { result.documents.items ≡ [] }
     {
         Server {
             phase: Phase::Fresh,
-            encoding: Encoding::Utf16,
+            terms: fresh_terms(),
             documents: Vec::new(alloc),
         }
     }
@@ -226,12 +230,13 @@ pub fn step<A: Analysis>(
 {
     let message = message_of(value);
     let next = next_step(server.phase, message);
-    let encoding = encoding_after(server.encoding, next.task, value);
+    let terms = terms_after(server.terms, next.task, value);
     if is_notification(next.task) {
         let method = method_of(message);
-        let note = notify(alloc, &mut server.documents, method, value, server.encoding)?;
+        let encoding = server.terms.encoding;
+        let note = notify(alloc, &mut server.documents, method, value, encoding)?;
         server.phase = next.phase;
-        server.encoding = encoding;
+        server.terms = terms;
         return Ok(Reaction {
             task: next.task,
             message: note,
@@ -244,18 +249,18 @@ pub fn step<A: Analysis>(
             server.documents.as_slice(),
             message,
             value,
-            server.encoding,
+            server.terms.encoding,
         )?;
         server.phase = next.phase;
-        server.encoding = encoding;
+        server.terms = terms;
         return Ok(Reaction {
             task: next.task,
             message: Some(response),
         });
     }
-    let answer = answer_to(alloc, message, next.task, encoding)?;
+    let answer = answer_to(alloc, message, next.task, terms.encoding)?;
     server.phase = next.phase;
-    server.encoding = encoding;
+    server.terms = terms;
     Ok(Reaction {
         task: next.task,
         message: answer,

@@ -4,10 +4,10 @@ use Rattle.std.specs.Io.KnownBytes.{Consumes}
 use Rattle.yf_json_rpc.specs.Streams.{AreFrames}
 use Rattle.yf_json_rpc.specs.Frames.{IsFrame}
 use Rattle.yf_lines.specs.Output.{Broke, Wrote}
-use Rattle.yf_positions.specs.declared.encoding.Encoding.TheVariants.{Utf16}
 use Rattle.yf_server.specs.declared.lifecycle.Phase.TheVariants.{Fresh}
 use Rattle.yf_server.specs.declared.step.Server.{Server}
 use Rattle.yf_server.specs.Analysis.{TextClaim}
+use Rattle.yf_server.specs.Handshake.{fresh_terms}
 use Rattle.yf_server_loop.specs.declared.ended.Ended.{Ended}
 use Rattle.yf_server_loop.specs.declared.ended.Ended.TheVariants as ended
 use Rattle.yf_server_loop.specs.declared.receive.TheConstants.{CONTENT_LIMIT}
@@ -41,7 +41,7 @@ BreaksOff before after text = Broke before.output after.output after.output_fail
 -- No message has reached the server.
 pub record IsFresh (server : Server) : Type 0 where
   pub phase : server.phase ≡ Fresh
-  pub encoding : server.encoding ≡ Utf16
+  pub terms : server.terms ≡ fresh_terms
   pub documents : server.documents.items ≡ []
 
 -- The effect of the contents of messages on a server, in order, and the output for them: the response to each, in

@@ -7,7 +7,7 @@ pub loop-count-init : goal.loop-count-init
 loop-count-init g c = session_begins (g.A.Analysis.claim c.args.analysis.now)
     (moment_of g.R.Read.remaining g.R.Source.has_failed g.W.Write.contents g.W.Sink.has_failed c.args.reader.now c.args.writer.now)
     c.new-server.result c.new-inbox.result.items c.new-inbox.ensures.items
-    (record { phase = c.new-server.ensures.phase; encoding = c.new-server.ensures.encoding; documents = c.new-server.ensures.documents })
+    (record { phase = c.new-server.ensures.phase; terms = c.new-server.ensures.terms; documents = c.new-server.ensures.documents })
 
 pub returns-in-Some : goal.returns-in-Some
 returns-in-Some g c = session_ends (g.A.Analysis.claim c.args.analysis.now)

@@ -2,8 +2,8 @@
 use Rattle.std.proofs.Common.{◌≡◌, map, take}
 use Rattle.serde_json.specs.View.{view}
 use Rattle.yf_server.specs.Analysis.{problem_read}
-use Rattle.yf_server.specs.Publish.{diagnostic}
-use Rattle.yf_server.proofs.publish.diagnostics.Given as goal
+use Rattle.yf_server.specs.Diagnostics.{diagnostic}
+use Rattle.yf_server.proofs.diagnostics.diagnostics.Given as goal
 
 abbrev pub invariant-loop-problem : goal.invariant-loop-problem
 invariant-loop-problem l = map view l.values.items

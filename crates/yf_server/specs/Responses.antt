@@ -1,0 +1,41 @@
+-- The answers to requests that are not of the life cycle.
+use Rattle.std.specs.Prelude.{ℕ, List, Option, None, Some, Result, Ok, Err}
+use Rattle.serde_json.specs.Data.{Data}
+use Rattle.yf_json_rpc.specs.declared.error_code.ErrorCode.{ErrorCode}
+use Rattle.yf_json_rpc.specs.declared.error_code.ErrorCode.TheVariants.{InvalidParams}
+use Rattle.yf_positions.specs.declared.encoding.Encoding.{Encoding}
+use Rattle.yf_server.specs.declared.documents.OpenDocument.{OpenDocument}
+use Rattle.yf_server.specs.declared.query.Query.{Query}
+use Rattle.yf_server.specs.declared.query.Query.TheVariants.{Formatting, Actions, Problems}
+use Rattle.yf_server.specs.Actions.{AreActions}
+use Rattle.yf_server.specs.Analysis.{TextClaim}
+use Rattle.yf_server.specs.Diagnostics.{IsReport}
+use Rattle.yf_server.specs.Documents.{OpenText, find}
+use Rattle.yf_server.specs.Edits.{FailsWith, IsFormatting, Replies, named_uri}
+use Rattle.yf_server.specs.Queries.{query_of}
+
+-- what a request gets that asks for something of the document with a URI and a text
+abbrev pub IsResult : TextClaim → Encoding → Query → List ℕ → List ℕ → Data → Type 0
+IsResult claim e Formatting uri text value = IsFormatting claim e text value
+IsResult claim e (Actions wanted) uri text value = AreActions claim e wanted uri text value
+IsResult claim e Problems uri text value = IsReport claim e text value
+
+-- the answer for a document, or an error if it is not open
+abbrev pub AnswersFor : TextClaim → Encoding → Data → Query → List ℕ → Option OpenText → Option Data → Type 0
+AnswersFor claim e id query uri None sent = FailsWith id InvalidParams sent
+AnswersFor claim e id query uri (Some was) sent = Replies (IsResult claim e query uri was.text) id sent
+
+-- the answer for the document of a URI, or an error if the parameters have none
+abbrev pub AnswersUri : TextClaim → Encoding → List OpenDocument → Data → Query → Option (List ℕ) → Option Data → Type 0
+AnswersUri claim e documents id query None sent = FailsWith id InvalidParams sent
+AnswersUri claim e documents id query (Some uri) sent = AnswersFor claim e id query uri (find uri documents) sent
+
+abbrev pub AnswersQuery : TextClaim → Encoding → List OpenDocument → Data → Option (List ℕ) → Result Query ErrorCode
+    → Option Data → Type 0
+AnswersQuery claim e documents id uri (Err code) sent = FailsWith id code sent
+AnswersQuery claim e documents id uri (Ok query) sent = AnswersUri claim e documents id query uri sent
+
+-- the answer to a request that is not of the life cycle
+abbrev pub AnswersRequest : TextClaim → Encoding → List OpenDocument → Data → List ℕ → Data → Option Data → Type 0
+AnswersRequest claim e documents id method d sent =
+    AnswersQuery claim e documents id (named_uri d) (query_of method d) sent
