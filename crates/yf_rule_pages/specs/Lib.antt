@@ -1,0 +1,2 @@
+-- A list of pages, and the page with a name.
+pub mod Pages
