@@ -1,5 +1,5 @@
 #!/usr/bin/env python3
-"""Makes docs/RULES.md from the pages of crates/yf_rule_pages, and tries their examples.
+"""Makes docs/RULES.md from the rules' pages of crates/yf_rule_pages, and tries their examples.
 
 Usage: bench/rules.py --write | --check | --try PROGRAM
 
@@ -14,9 +14,10 @@ import sys
 
 TOP = os.path.dirname(os.path.dirname(os.path.abspath(__file__)))
 PAGE = 'docs/RULES.md'
-HEAD = '''# Rules and refusals
+HEAD = '''# Rules
 
-`yamlfmt explain NAME` prints each of these. Made by `bench/rules.py --write` from `crates/yf_rule_pages`.
+Each rule of `check`: what is at fault, why, and an example. [STYLE](STYLE.md#rules) has the exact sets. Made by
+`bench/rules.py --write` from `crates/yf_rule_pages`.
 '''
 
 
@@ -33,9 +34,7 @@ def pages(name):
 
 
 def page():
-    rules = ''.join('\n#' + text for _, text in pages('rules.rt'))
-    refusals = ''.join('\n#' + text for _, text in pages('refusals.rt'))
-    return HEAD + rules + refusals
+    return HEAD + ''.join('\n#' + text for _, text in pages('rules.rt'))
 
 
 def example(text, title):
