@@ -84,13 +84,12 @@ except for two readings that both sides share: N2, and the sum n + m for n = -1.
 derives it and it breaks no [further rule](GRAMMAR.md#what-must-hold-besides) (`IsStandardText` of
 `specs/Acceptance.antt`; `headline` of `yf_rules`).
 
-**The table's columns.** The second column is the production as YAML 1.2.2 prints it. We wrote it down from memory and
-then compared it with two transcriptions of the previous edition
-([DECISIONS](DECISIONS.md#the-standards-productions)). The third column is the clause of `Characters` or `Productions`,
-without the name if it has no parameters. `bench/standard_lines.py` compares the second with the third, operator by
-operator, except for the conditions of the reading rules and six clauses. The fourth column names what we proved that
-the production derives with the reading rules (`proofs/Standing.antt`, `Closed.antt`): a relation of a lower crate, or
-`·` for one character. The last column names the reading rules and N1 to N9.
+**The table's columns.** The second column is the production as YAML 1.2.2 prints it, written from memory and compared
+with two transcriptions of the previous edition ([DECISIONS](DECISIONS.md#the-standards-productions)). The third column
+is the clause of `Characters` or `Productions`, without the name if it has no parameters. `bench/standard_lines.py`
+compares the second with the third, operator by operator, except for the conditions of the reading rules and six
+clauses. The fourth column is what the production derives with the reading rules (proved in `proofs/Standing.antt` and
+`Closed.antt`): a relation of a lower crate, or `·` for one character.
 
 ## Notation
 
