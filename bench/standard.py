@@ -79,9 +79,9 @@ the page is stale.
 
 **Proved** (`standard_laws` of `yf_standard`, `specs/Laws.antt`). Take a UTF-8 text. Production 211, with the reading
 rules below and at most `DEPTH` open collections, derives all of it exactly if `Stream` of `yf_stream`, which the reader
-follows, derives it. Whatever the reading rules allow, the standard's letter allows too (`letter` of `specs/Rules.antt`),
-except for two readings that both sides share: N2, and the sum n + m for n = -1. A text is accepted exactly if 211
-derives it and it breaks no [further rule](GRAMMAR.md#what-must-hold-besides) (`IsStandardText` of
+follows, derives it. Whatever the reading rules allow, the standard's letter allows too (`letter` of
+`specs/Rules.antt`), except for two readings that both sides share: N2, and the sum n + m for n = -1. A text is accepted
+exactly if 211 derives it and it breaks no [further rule](GRAMMAR.md#what-must-hold-besides) (`IsStandardText` of
 `specs/Acceptance.antt`; `headline` of `yf_rules`).
 
 **The table's columns.** The second column is the production as YAML 1.2.2 prints it, written from memory and compared
