@@ -23,9 +23,9 @@ HEAD = '''# Proved, crate by crate
 Made by `bench/proved.py` from the sources. [PROVED](PROVED.md) explains the theorem of the whole program, and
 `bench/edits.py` lists the must-fail edits.
 
-After a crate's name are the numbers of its functions, of those with a contract, and of its must-fail edits. Every
-function is proved safe and terminating. Below are the main calls, with the names of their clauses and the first words
-of their documentation.
+The numbers after a crate's name count its functions, those with a contract, and its must-fail edits. Every function is
+proved safe and terminating. Below are the main calls, with the names of their clauses and the first words of their
+documentation.
 
 '''
 HEADER = re.compile(r'^ *(pub(?:\([^)]*\))? )?(?:const )?fn (\w+)')

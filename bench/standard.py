@@ -74,23 +74,22 @@ NOTES = {
 
 HEAD = """# The standard's productions, letter by letter
 
-`bench/standard.py` makes this page from `crates/yf_standard/specs` and `bench/standard.txt`. `bench/standard.py --check` fails if
+`bench/standard.py` makes this page from `crates/yf_standard/specs` and `bench/standard.txt`; with `--check` it fails if
 the page is stale.
 
 **Proved** (`standard_laws` of `yf_standard`, `specs/Laws.antt`). Take a UTF-8 text. Production 211, with the reading
-rules below and at most `DEPTH` open collections, derives all of it exactly if `Stream` derives it with some meaning.
-Whatever the reading rules allow, the standard's letter allows too (`letter` of `specs/Rules.antt`), except for two
-readings that both sides share: N2, and the sum n + m for n = -1. A text is accepted exactly if 211 derives it and its
-handles, aliases, versions and escapes pass the further checks (`IsStandardText` of `specs/Acceptance.antt`; `headline`
-of `yf_rules`).
+rules below and at most `DEPTH` open collections, derives all of it exactly if `Stream` of `yf_stream`, which the reader
+follows, derives it. Whatever the reading rules allow, the standard's letter allows too (`letter` of
+`specs/Rules.antt`), except for two readings that both sides share: N2, and the sum n + m for n = -1. A text is accepted
+exactly if 211 derives it and it breaks no [further rule](GRAMMAR.md#what-must-hold-besides) (`IsStandardText` of
+`specs/Acceptance.antt`; `headline` of `yf_rules`).
 
-**The table's columns.** The second column is the production as YAML 1.2.2 prints it. We wrote it down from memory and
-then compared it with two transcriptions of the previous edition
-([DECISIONS](DECISIONS.md#the-standards-productions)). The third column is the clause of `Characters` or `Productions`,
-without the name if it has no parameters. `bench/standard_lines.py` compares the second with the third, operator by
-operator, except for the conditions of the reading rules and six clauses. The fourth column is what the production is
-proved to derive with the reading rules (`proofs/Standing.antt`, `Closed.antt`): a relation of the crates below, or `·`
-for one character.
+**The table's columns.** The second column is the production as YAML 1.2.2 prints it, written from memory and compared
+with two transcriptions of the previous edition ([DECISIONS](DECISIONS.md#the-standards-productions)). The third column
+is the clause of `Characters` or `Productions`, without the name if it has no parameters. `bench/standard_lines.py`
+compares the second with the third, operator by operator, except for the conditions of the reading rules and six
+clauses. The fourth column is what the production derives with the reading rules (proved in `proofs/Standing.antt` and
+`Closed.antt`): a relation of a lower crate, or `·` for one character.
 
 ## Notation
 
@@ -106,8 +105,8 @@ for one character.
 
 ## Reading rules
 
-Each rule is a condition, in bold in the table of productions. Under `letter` the conditions require nothing, except for
-the two sums of an indentation.
+Each rule is a condition, in bold in the table of productions. Under `letter` only `is-sum` and `auto-detect` require
+anything.
 
 | Rule | Condition | What it requires | What the letter derives as well |
 |---|---|---|---|
@@ -115,22 +114,22 @@ the two sums of an indentation.
 | longest names | `name-ends`, `tag-ends` | a name or suffix ends only before a character that it cannot contain | `*a: b` with the key `*a` |
 | reserved names (N3) | `reserved-name` | a reserved directive's name is neither `YAML` nor `TAG` | `%YAML 1.2 x` |
 | words of directives | `no-comment` | a parameter does not begin with `#` | `%F #` with the parameter `#` |
-| longest scalars | `no-line`, `no-trail`, `no-comment-line` | a block scalar takes each line that it can take, and so do the comment lines after it | a scalar that stops earlier |
+| longest scalars | `no-line`, `no-trail`, `no-comment-line` | a block scalar takes each line that it can, and then each comment line that follows | a scalar that stops earlier |
 | longest folded lines | `no-folded-line` | a group of folded lines ends only if no folded line follows | other meanings of the same texts: for the lines `>`, ` a`, ` b` also `a`, a line feed and `b` |
 | indicated indentation | `is-sum` | k is max(n, 0) + m | nothing, both sides share it (by the letter, the sum at the root is m - 1) |
 | detected indentation (N9) | `auto-detect` | k is the indentation of the first line that has another character than a space; if no line has content, all lines of spaces are empty lines | any k of n + 1 or more |
-| explicit values | `no-value` | the value of a `?` entry is empty only if no `:` of the entry follows | `? k` and `: v` as two entries |
+| explicit values | `no-value` | the value of a `?` entry is left out only if no `:` of the entry follows | `? k` and `: v` as two entries |
 | signs | `sign-ends` | white space, a break or the end follows the `?` and the `:` of an explicit entry | `?-` |
 
-## Readings that have no condition of their own
+## Readings N1 to N9
 
 | | Production | Reading |
 |---|---|---|
 | N1 | 28 | one break, as above |
-| N2 | 66, 79, 206 | a line also begins after byte order marks at its start. Only this reading adds texts |
+| N2 | 66, 79, 206 | the offset after byte order marks at a line's start counts as its start too. Only this reading adds texts |
 | N3 | 83 | reserved names, as above |
 | N4 | 62 | two `\\u` escapes, of a high surrogate and then of a low one, mean one character; the texts are the same |
-| N5 | 207 | a bare document begins at its content, and comment lines before it are prefix; the texts are the same |
+| N5 | 207 | a bare document begins at its content, and comment lines before it belong to the prefix; the texts are the same |
 | N6 | 63 to 67, 110, 121, 127, 131, 136, 201 | nothing is derived if n is negative, or if the standard has no line for the context |
 | N7 | 154, 155 | the 1,024 characters are code points and include the white space after the key |
 | N8 | 137, 140, 150, 183, 186, 187, 195 | at most `DEPTH` of these are open at once, which is a limit of this project (`COLLECTION` of `specs/Literal.antt`) |
@@ -138,27 +137,27 @@ the two sums of an indentation.
 
 ## Meanings
 
-The standard describes meanings in prose. Here a meaning is a function of a derivation, by the productions' names.
+The standard describes meanings in prose. Here a meaning is a function of a derivation, by cases on its productions.
 `content` (`specs/Contents.antt`) returns the text that a derivation adds to a scalar. `tokens` (`specs/Tokens.antt`)
 returns its comments, names, scalars, collections, directives and documents. `said` and `stream_said`
-(`specs/Tokens.antt`, `specs/Readings.antt`) make of the tokens the events, in which a node has the properties before
-it, and the documents, each with its directives.
+(`specs/Tokens.antt`, `specs/Readings.antt`) turn the tokens into events, each node with the properties before it, and
+documents, each with its directives.
 
 | | Production | Meaning | Section |
 |---|---|---|---|
 | content | 29, 30, 72: breaks | a line feed, nothing, a space | 5.4, 6.5 |
 | | 63 to 66: indentation and separation | nothing | 6.1, 6.2 |
-| | 62: an escape | the number that it writes; two adjacent halves of a pair are one character (N4) | 5.7 |
+| | 62: an escape | the number that it writes; two halves of a surrogate pair are one character (N4) | 5.7 |
 | | 109, 120: quoted scalars | the text between the quotes | 7.3 |
 | | 112: an escaped break | its white space and empty lines, without the backslash | 7.3.1 |
 | | 117: two single quotes | one quote | 7.3.2 |
 | | 162, 169: a header, comments after a block scalar | nothing | 8.1.1 |
 | | 170, 174: block scalars | the text after the sign and the header | 8.1.2, 8.1.3 |
 | tokens | 28, 63, 66: breaks, indentation, separation | nothing | 5.4, 6.1, 6.2 |
-| | 75: a comment | its place and its text | 6.6 |
-| | 82 to 88, 93: directives | the start and the words of each, then its comments | 6.8 |
-| | 89, 98 to 100: handles and tags | the tag's name and place | 6.8.2, 6.9.1 |
-| | 101, 104: anchors and aliases | the name, and an alias's place | 6.9.2, 7.1 |
+| | 75: a comment | its offset and its text | 6.6 |
+| | 82 to 88, 93: directives | the offset and the words of each, then its comments | 6.8 |
+| | 89, 98 to 100: handles and tags | the tag's name and offset | 6.8.2, 6.9.1 |
+| | 101, 104: anchors and aliases | the name, and an alias's offset | 6.9.2, 7.1 |
 | | 64, 65, 70: fewer spaces, empty lines | nothing | 6.1, 6.4 |
 | | 105, 109, 120, 131: scalars in flow style | a scalar of that style with its content | 7.2, 7.3 |
 | | 137, 140, 150: flow collections, a single pair | the start and the end of a sequence or a mapping | 7.4 |
@@ -168,14 +167,14 @@ it, and the documents, each with its directives.
 | | 207, 208: documents | a document with its node's tokens, and whether `---` is written | 9.1 |
 | both | all others | the meanings of their parts, in order | |
 
-`meaning_laws` of `yf_standard` proves that each derivation with the reading rules means what the program reads, for plain,
-single-quoted and double-quoted scalars (131, 120, 109), the content of literal and folded scalars (173, 182), block
-scalars (170, 174), comments (79), separation (80), aliases (104), node properties (96), flow nodes (161), block nodes
-(196) and streams (211). The laws on quoted scalars, block scalars and nodes hold for those that cover no forbidden line.
-For a node the program reads its events, its comments, the offsets of its tags, and the offsets of escapes that write no
-character; for a stream its documents, each with its directives, and all comments. So all derivations of a text that has
-a reading mean the documents, directives, comments and bad escapes of that reading. The tokens do not have the offsets of
-nodes, entries and documents, nor whether `...` ends a document.
+`meaning_laws` of `yf_standard` proves that each derivation with the reading rules means what the program reads, for
+plain, single-quoted and double-quoted scalars (131, 120, 109), the content of literal and folded scalars (173, 182),
+block scalars (170, 174), comments (79), separation (80), aliases (104), node properties (96), flow nodes (161), block
+nodes (196) and streams (211). The laws on quoted scalars, block scalars and nodes hold for those that cover no
+forbidden line. The meaning of a node is its events, its comments, the offsets of its tags, and the offsets of escapes
+that write no character; that of a stream is its documents, each with its directives, and all comments. So all
+derivations of a text that has a reading mean the documents, directives, comments and bad escapes of that reading. The
+tokens have neither the offsets of nodes, entries and documents, nor whether `...` ends a document.
 
 ## The productions
 """
