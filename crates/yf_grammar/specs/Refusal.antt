@@ -1,4 +1,4 @@
--- Why the readers of nodes return no node. P are the parts that may be read from the offset: an end and a part of the
+-- Why the readers of nodes return no node. P says which parts may be read from the offset: an end and a part of the
 -- text up to it, with no more collections open at once than the limit.
 use Rattle.std.specs.Prelude.{◌≡◌, ℕ, ◌<◌, Bool, ◌==◌, ◌||◌, List, ◌∷◌, count_by, drop}
 use Rattle.yf_chars.specs.Chain.{Stuck, Chosen}

@@ -15,8 +15,8 @@ ghost use Rattle.yf_stream.specs.Laws.{ReadTextsHaveNoFault, ReadingsAreOne};
 /// unique, breaks none of the standard's other rules (sections 5.7, 6.8, 6.9 and 7.1). Without the reading rules the
 /// productions derive it too. A fault says which of these conditions fails. A text has at most one reading. If it has
 /// one, `read_stream` fails only for lack of memory. If `read_stream` fails for another reason, the text has none. Each
-/// such text has a formatting in each style. The formatting is such a text too, keeps content and comments, is its own
-/// formatting, and has no fixable finding.
+/// text with a reading has a formatting in each style. The formatting has a reading too, keeps content and comments, is
+/// its own formatting, and has no fixable finding.
 ///
 /// Each reading of a text has trees. Its comments and its offsets are in the order of the text, and its scalars can be
 /// spelled in their styles.
@@ -40,15 +40,15 @@ pub fn rules_are_mended()
     ensures { RulesAreMended }
 {}
 
-/// A text that has a formatting is one of the standard, with one reading. Its formatting is such a text too, and has no
-/// fixable finding.
+/// A text that has a formatting is accepted by the standard's productions and rules, and has one reading. Both hold
+/// for its formatting too, which has no fixable finding.
 #[inline(always)]
 pub fn formattings_hold()
     ensures { FormattingsHold }
 {}
 
 /// What the settings promise about the readings of a text and of its formatting. Each document of the formatting begins
-/// with a `---`, except for a first one that `document_start` leaves without. Each quoted scalar is, from quote to
+/// with a `---`, except that `document_start` may leave it out for the first one. Each quoted scalar is, from quote to
 /// quote, spelled as the house style spells it. Under `invisible = "escaped"` no quoted scalar holds a hidden character
 /// unescaped, so the rule hidden-character finds each one that is left, except for byte order marks. Under `comments =
 /// "block"` a comment on its own line at the column of an open collection stays at the column of that collection,

@@ -1,26 +1,26 @@
-//! The passes give what the definitions state.
+//! The passes compute what the definitions state.
 ghost use Rattle.yf_laws.specs.PassLaws.{FormattingsAreKept, LayoutsArePrinted, NormalFormsAreMade, TrailsAreFound};
 
-/// The text printed for the normal form of a text's reading, from the measures and forms of the reading, is the
-/// formatting of the text, with all its promises.
+/// The text printed for the normal form of a text's reading, from what the passes measured and decided for the reading,
+/// is the formatting of the text, with all its promises.
 #[inline(always)]
 pub fn formattings_are_kept()
     ensures { FormattingsAreKept }
 {}
 
-/// The events made from the measures and forms of a reading are those of its normal form.
+/// The events made from what the passes measured and decided for a reading are those of its normal form.
 #[inline(always)]
 pub fn normal_forms_are_made()
     ensures { NormalFormsAreMade }
 {}
 
-/// The text printed for a normal form from its measures and forms is its layout.
+/// The text printed for a normal form, from what the passes measured and decided for it, is its layout.
 #[inline(always)]
 pub fn layouts_are_printed()
     ensures { LayoutsArePrinted }
 {}
 
-/// The comments that the pass finds to trail are those that trail in the layout.
+/// The comments that the pass marks as ending a line are those that end a line of the layout.
 #[inline(always)]
 pub fn trails_are_found()
     ensures { TrailsAreFound }

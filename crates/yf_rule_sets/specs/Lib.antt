@@ -6,5 +6,5 @@ pub mod RuleOf
 pub mod Sets
 -- the set of each rule
 pub mod RuleSets
--- the state of passes, for private clauses
+-- the states of passes over a reading, for the clauses of private functions
 pub mod Passes

@@ -1,4 +1,4 @@
--- the state of passes, for private clauses
+-- the states of passes over a reading, for the clauses of private functions
 pub mod LineFlags
 pub mod FarthestEnds
 pub mod BlockLines

@@ -40,7 +40,8 @@ line_breaks_at src reading style offsets = offsets ≡ first_return src.text src
 abbrev pub trailing_blanks_at : Table → Lists → Style → List ℕ → Type 0
 trailing_blanks_at src reading style offsets = Exactly (TrailingBlank src reading) offsets
 
--- for a reading with trees, which it has if and only if it is well placed
+-- indentation: the faults, if the reading has trees, which it has if and only if it is well placed; otherwise any
+-- offsets
 abbrev pub indentation_at : Table → Lists → Style → List ℕ → Type 0
 indentation_at src reading style offsets = (trees : List DocumentTree) → TreesOf reading trees → Exactly (IndentFault src style trees) offsets
 
@@ -56,7 +57,8 @@ byte_order_mark_at src reading style offsets = Exactly (LooseMark src.text readi
 abbrev pub blank_lines_at : Table → Lists → Style → List ℕ → Type 0
 blank_lines_at src reading style offsets = Exactly (MisplacedBlank src reading) offsets
 
--- for a reading with trees, with its comments in the order of the text
+-- flow-layout: the faults, if the reading has trees and its comments are in the order of the text; otherwise any
+-- offsets
 abbrev pub flow_layout_at : Table → Lists → Style → List ℕ → Type 0
 flow_layout_at src reading style offsets =
     (trees : List DocumentTree) → TreesOf reading trees → CommentsAscend reading → Exactly (LayoutFault src reading style) offsets
@@ -67,11 +69,11 @@ comment_space_at src reading style offsets = Exactly (CloseComment src.text read
 abbrev pub line_length_at : Table → Lists → Style → List ℕ → Type 0
 line_length_at src reading style offsets = Exactly (BeyondLimit src style.max_line) offsets
 
--- for a reading with trees
+-- repeated-keys: the faults, if the reading has trees; otherwise any offsets
 abbrev pub repeated_keys_at : Table → Lists → Style → List ℕ → Type 0
 repeated_keys_at src reading style offsets = (trees : List DocumentTree) → TreesOf reading trees → Exactly (RepeatedKey reading trees) offsets
 
--- for a reading of a text
+-- key-mark: the faults, if the reading is like those of texts; otherwise any offsets
 abbrev pub key_mark_at : Table → Lists → Style → List ℕ → Type 0
 key_mark_at src reading style offsets = (w : IsTextual reading) → Exactly (NeedlessMark src reading style w.trees) offsets
 

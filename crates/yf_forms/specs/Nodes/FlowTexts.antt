@@ -10,12 +10,12 @@ use Rattle.yf_forms.specs.NormalForms.Measures.{AreMeasures}
 use Rattle.yf_forms.specs.NormalForms.Normal.{LayoutSetting}
 use Rattle.yf_forms.specs.Passes.OneLinePass.{between, run}
 
--- the result for the flow collection that the event at an index begins, for any measured text
+-- `answer` is the text on one line of the flow collection that the event at index i begins, or `None` if it may not be
+-- kept, for each text t and setting c with which the flow collections have the measures ms
 pub record TellsFlow (es : List EventInText) (s : Style) (ms : List Measure) (i : ℕ) (answer : Option (List ℕ)) : Type 0 where
   pub tells : (t : List ℕ) (c : LayoutSetting) → c.style ≡ s → AreMeasures t c (flows_alone 0 es) ms → (x : Node) → NodeAt es i x → is_flow x ≡ true
       → answer ≡ kept_text_of t c x
 
--- the result for any measures: the text of the events from an index to the last one of the measure there, if the
--- measure allows keeping it
+-- the text of the events from the index i to the last one of the measure m, if m allows keeping it on one line
 abbrev pub text_measured : Style → List EventInText → ℕ → Measure → Option (List ℕ)
 text_measured house es i m = if m.can_be_kept then Some (run house [] (between i m.last es)) else None

@@ -1,4 +1,4 @@
--- The events of a reading, with those outside of its flow collections replaced by events that mean nothing.
+-- The events of a reading, with each event outside of its flow collections replaced by `stream_starts` without a span.
 use Rattle.std.specs.Prelude.{ℕ, zero, suc, Bool, false, not, if◌then◌else◌, List, [], ◌∷◌, Option, None}
 use Rattle.yf_events.specs.Event.{EventValue, EventInText, sequence_starts, sequence_ends, mapping_starts, mapping_ends, stream_starts}
 use Rattle.yf_events.specs.Tree.{Node, scalar, alias, sequence, mapping}

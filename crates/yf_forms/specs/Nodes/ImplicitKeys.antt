@@ -13,8 +13,8 @@ abbrev pub begins_implicit : List (ℕ × Bool) → ℕ → Bool
 begins_implicit [] i = false
 begins_implicit (k ∷ ks) i = ((k.0 == i) && k.1) || begins_implicit ks i
 
--- the result of whether the event at an index begins an implicit key of a block mapping in the normal form of the
--- reading r of the text t, if r is a reading as texts have them
+-- `answer` is whether the event at index i begins an implicit key of a block mapping in the normal form of the reading
+-- r of the text t, if r is a reading as texts have them
 pub record TellsImplicit (t : List ℕ) (r : Lists) (s : Style) (i : ℕ) (answer : Bool) : Type 0 where
   pub is : (w : IsTextual r) → answer ≡ begins_implicit (block_keys t r s w.trees) i
 

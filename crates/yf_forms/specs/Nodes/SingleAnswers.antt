@@ -1,5 +1,5 @@
--- Single results about a reading: the text of one flow collection that may be kept on one line, and the implicit
--- keys.
+-- Results for single nodes of a reading: the text of one flow collection that may be kept on one line, and the implicit
+-- keys, each by the index of an event.
 use Rattle.std.specs.Prelude.{◌≡◌, ℕ, ◌+◌, Bool, true, false, ◌&&◌, if◌then◌else◌, List, [], ◌∷◌, ◌++◌, length, map, Option, Some, None}
 use Rattle.yf_events.specs.Event.{EventInText}
 use Rattle.yf_events.specs.declared.lists.Lists.{Lists}

@@ -35,6 +35,7 @@ leads r c = (documents_before r c.offset == 1) && (leaves_before r c.offset == 0
 abbrev pub has_lead : Lists → Bool
 has_lead r = list_any (leads r) r.comments
 
--- the style keeps it so, and no comment would be moved out of the document
+-- the first document stays without `---`: it has none in the text, the style keeps that, and no comment would be moved
+-- out of the document
 abbrev pub is_bare : Lists → Style → Bool
 is_bare r s = keeps_starts s && (begins_bare r.events && not (has_lead r))

@@ -31,7 +31,7 @@ index_between cs from (s ∷ ss) = first_index (λ c. nat_lt from c.offset && na
 abbrev pub key_comment_index : List CommentValue → Node → Node → Option ℕ
 key_comment_index cs k v = if is_text v || is_filled_flow v then index_between cs (key_start k) (leaves v) else None
 
--- Sites.
+-- Sites: the margins and the role of each node.
 
 -- the margins of a node, and its role
 pub record Site : Type 0 where
@@ -47,7 +47,7 @@ site_at margins = record { margins = margins; is_implicit = false; key_comment =
 abbrev pub key_site : Style → ℕ → Node → Site
 key_site s column k = record { margins = key_margins s column k; is_implicit = is_implicit s column k; key_comment = None }
 
--- a comment trails an implicit key, with the value's form settled
+-- the index of the comment that trails the key k, if k is implicit; the form of the value v is settled before
 abbrev pub value_comment : LayoutSetting → ℕ → Node → Node → Option ℕ
 value_comment c column k v =
     if is_implicit c.style column k then key_comment_index c.comments k (settled c (value_margins c column k v) v) else None
@@ -75,7 +75,7 @@ form_of s site x = record {
   column = up_to_greatest site.margins.entries;
 }
 
--- the forms of the events within a collection, if it is kept on one line and if it is not
+-- the forms of the events within a collection: no forms if the flag says that it is kept on one line, else `inner`
 abbrev pub forms_within : Bool → ℕ → List Form → List Form
 forms_within true count inner = replicate count no_form
 forms_within false count inner = inner
@@ -152,9 +152,9 @@ abbrev pub documents_are_placed : List DocumentTree → Bool
 documents_are_placed [] = true
 documents_are_placed (d ∷ ds) = is_placed d.root && documents_are_placed ds
 
--- Decisions: these are the forms of the events of the reading r in the house style s, if its comments ascend and its
--- trees are placed like those of texts. The text and the comments of the measures ms may be any, in that style; ms
--- gives the widths of its scalars.
+-- Decisions: fs are the forms of the events of the reading r in the house style s, if its comments ascend and its trees
+-- are placed like those of texts, for any text t and comments cs that give the measures ms. These give the widths of
+-- the scalars in that style.
 pub record AreForms (r : Lists) (s : Style) (ms : List Measure) (fs : List Form) : Type 0 where
   pub are : IsNonDecreasingBy (λ c. c.offset) r.comments → (t : List ℕ) (cs : List CommentValue) (ds : List DocumentTree) → TreesOf r ds
       → documents_are_placed ds ≡ true → AreMeasures t (record { style = s; comments = cs }) r.events ms

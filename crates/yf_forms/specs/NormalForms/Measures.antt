@@ -101,6 +101,6 @@ pub record AreMeasures (t : List ℕ) (c : LayoutSetting) (es : List EventInText
 pub record IsKeptText (t : List ℕ) (c : LayoutSetting) (es : List EventInText) (i : ℕ) (answer : Option (List ℕ)) : Type 0 where
   pub is : (x : Node) → NodeAt es i x → answer ≡ kept_text_of t c x
 
--- the result from measures, for any text that they measure
+-- `answer` is the text of `IsKeptText` for each text t and setting c that give the measures ms
 pub record TellsKept (es : List EventInText) (s : Style) (ms : List Measure) (i : ℕ) (answer : Option (List ℕ)) : Type 0 where
   pub tells : (t : List ℕ) (c : LayoutSetting) → c.style ≡ s → AreMeasures t c es ms → IsKeptText t c es i answer

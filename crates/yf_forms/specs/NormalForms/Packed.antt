@@ -1,4 +1,5 @@
--- Measures and forms in rows: for each optional number, a note whether it is present.
+-- The measure and the form that a packed one holds: it has a flag for each optional number, which is true if the number
+-- is present.
 use Rattle.std.specs.Prelude.{ℕ, Bool, true, false, Option, Some, None}
 use Rattle.yf_forms.specs.declared.form.decide.Form.{Form}
 use Rattle.yf_forms.specs.declared.form.forms.PackedForm.{PackedForm}

@@ -158,7 +158,7 @@ next_stack g e i m (level ∷ stack) =
 
 -- Events.
 
--- the forms so far, the open block collections, and the index of the last event that needs no look
+-- the forms so far, the open block collections, and the index of the last event that is already decided
 pub record DecideState : Type 0 where
   pub list : List Form
   pub stack : List LayoutFrame
@@ -178,7 +178,8 @@ form_at s place m = record {
   column = place.entries;
 }
 
--- whether the node needs no look at further events, or is only this event
+-- whether the first event of a node decides all of it: the node is kept on one line, is a leaf with characters, or has
+-- only this event
 abbrev pub is_whole : ℕ → Measure → Bool → Bool
 is_whole i m kept = if kept then true else (if is_leaf_at i m.first_leaf then true else m.last == i)
 
@@ -198,6 +199,7 @@ abbrev pub outside : List LayoutFrame → List LayoutFrame
 outside [] = []
 outside (level ∷ stack) = stack
 
+-- the state after the event at index i, which begins a node with the measure m or begins none
 abbrev pub past : DecideInput → EventValue → ℕ → Measure → List Form → List LayoutFrame → DecideState
 past g (scalar_node props style text) i m list stack = node g (scalar_node props style text) i m false list stack
 past g (alias_node name) i m list stack = node g (alias_node name) i m false list stack
@@ -207,13 +209,14 @@ past g sequence_ends i m list stack = state (list ++ no_form ∷ []) (outside st
 past g mapping_ends i m list stack = state (list ++ no_form ∷ []) (outside stack) i
 past g _ i m list stack = state (list ++ no_form ∷ []) stack i
 
--- the event at the index after the forms so far; it gets no look within a node on one line
+-- the state after the next event, which has the number of forms so far as its index; within a node that is already
+-- decided the event gets `no_form`
 abbrev pub next : DecideInput → List Measure → EventValue → DecideState → DecideState
 next g ms e f =
     if nat_lt f.done (length f.list) then past g e (length f.list) (get_or ms (length f.list) no_measure) f.list f.stack
     else state (f.list ++ no_form ∷ []) f.stack f.done
 
--- past all these events
+-- the state after all these events
 unfoldable pub pass : DecideInput → List Measure → List EventInText → DecideState → DecideState
 pass g ms [] f = f
 pass g ms (e ∷ es) f = pass g ms es (next g ms e.event f)

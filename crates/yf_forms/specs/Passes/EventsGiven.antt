@@ -1,4 +1,4 @@
--- The input when the form of a node is decided.
+-- The input of the pass that decides forms, from an event of a reading with the style.
 use Rattle.yf_forms.specs.Passes.DecidePass.{DecideInput, given}
 use Rattle.yf_forms.specs.declared.form.layout_context.EventFacts.{EventFacts}
 

@@ -15,16 +15,17 @@ pub data Halves (offsets : List ℕ) (offset : ℕ) : ℕ → ℕ → ℕ → Ty
   before_middle : {low high end : ℕ} → low < high → offset ≤ slice_index offsets (middle low high) → Halves offsets offset low (middle low high) end
       → Halves offsets offset low high end
 
--- the index of an offset at or after one and before another, by halving: the end of the search for the first, if the
--- offset there is before the second
+-- the index of an offset that is at `from` or after it, and before `to`: the index at which the search for `from` ends,
+-- if its offset is before `to`
 pub data HalvesBetween (offsets : List ℕ) (from to : ℕ) : Option ℕ → Type 0 where
   found : {k : ℕ} → Halves offsets from 0 (length offsets) k → k < length offsets → slice_index offsets k < to → HalvesBetween offsets from to (Some k)
   not_found : {k : ℕ} → Halves offsets from 0 (length offsets) k → (k < length offsets → to ≤ slice_index offsets k) → HalvesBetween offsets from to None
 
--- a search may begin there and find the results of halving: `near` is unknown, or the offsets are in order
+-- a search that begins near the index `near` finds the result of halving: the offsets are in order, or `near` is
+-- `UNKNOWN`, and the search is by halving from the start
 abbrev pub MayBegin : {X : Type 0} → (X → ℕ) → List X → ℕ → Type 0
 MayBegin offset_of xs near = (near ≡ UNKNOWN) ⊎ IsNonDecreasingBy offset_of xs
 
--- if `near` is unknown to one search, it is unknown to the next
+-- if one search got `UNKNOWN` as the index to begin near, the next search gets it too
 abbrev pub StaysUnknown : ℕ → ℕ → Type 0
 StaysUnknown near next = near ≡ UNKNOWN → next ≡ UNKNOWN

@@ -149,7 +149,7 @@ abbrev pub popped : ℕ → List Measure → List Open → MeasuredSoFar
 popped i list [] = record { list = list; stack = [] }
 popped i list (o ∷ os) = noted o.start (closed o i) (record { list = list; stack = os })
 
--- past the event at index i, which is already in the list
+-- the results after the event at index i, which is already in the list
 abbrev pub passed : List ℕ → LayoutSetting → ℕ → Option Span → EventValue → MeasuredSoFar → MeasuredSoFar
 passed t c i span (scalar_node props style text) f = noted i (ended_scalar c.style i span props style text) f
 passed t c i span (alias_node name) f = noted i (ended_alias i name) f
@@ -159,11 +159,11 @@ passed t c i span sequence_ends f = popped i f.list f.stack
 passed t c i span mapping_ends f = popped i f.list f.stack
 passed t c i span _ f = f
 
--- past the next event, with its place in the list
+-- the results after the next event, which is also added to the list
 abbrev pub past : List ℕ → LayoutSetting → EventInText → MeasuredSoFar → MeasuredSoFar
 past t c e f = passed t c (length f.list) e.span e.event (record { list = f.list ++ no_measure ∷ []; stack = f.stack })
 
--- past all these events
+-- the results after all these events
 unfoldable pub pass : List ℕ → LayoutSetting → List EventInText → MeasuredSoFar → MeasuredSoFar
 pass t c [] f = f
 pass t c (e ∷ es) f = pass t c es (past t c e f)

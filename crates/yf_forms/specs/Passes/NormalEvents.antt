@@ -9,7 +9,7 @@ use Rattle.yf_forms.specs.NormalForms.Forms.{no_form}
 use Rattle.yf_forms.specs.NormalForms.Measures.{no_measure}
 use Rattle.yf_forms.specs.NormalForms.Restyled.{restyled}
 
--- the index of the last event of the collection on one line that was met last
+-- the index of the last event of the collection on one line that an event begins, or `until` if it begins none
 abbrev pub kept_until : ℕ → Measure → Form → ℕ
 kept_until until m f = if f.is_kept then m.last else until
 

@@ -30,7 +30,7 @@ expected_after is_alias Key = value_of is_alias
 expected_after is_alias Value = Key
 expected_after is_alias ValueOfAlias = Key
 
--- The separators and the next nodes in open brackets, the innermost first. Outside of all brackets, nothing comes
+-- The separators and the next nodes in open brackets, the innermost first. Outside of all brackets, no separator comes
 -- before a node.
 abbrev pub separator_in : List Expected → List ℕ
 separator_in [] = []

@@ -55,16 +55,18 @@ pub record Columns : Type 0 where
   pub sequence : Option ℕ
   pub mapping : Option ℕ
 
--- after an indicator that ends at i: both if only spaces are up to p, in a compact form
+-- after an indicator that ends at i, a sequence and a mapping may begin at p, in a compact form, if the flag is true
+-- and only spaces are between i and p
 pub data Compact (t : List ℕ) : Bool → ℤ → ℕ → ℕ → Columns → Type 0 where
   compact_columns : {m i l : ℕ} → Spaces t i l → Compact t true (pos m) i (i + l) (record { sequence = Some (m + 1 + l); mapping = Some (m + 1 + l) })
   no_columns : {b : Bool} {n : ℤ} {i p : ℕ} → (b ≡ true → Spaces t i (p - i) → ⊥) → Compact t b n i p (record { sequence = None; mapping = None })
 
--- at the first character p of a line with m spaces from k on
+-- the column m of the offset p, if p is right after the m spaces from k on and m is at least `least`
 pub data ColumnIf (k m p : ℕ) (least : ℤ) : Option ℕ → Type 0 where
   column_there : p ≡ k + m → least ≤ℤ pos m → ColumnIf k m p least (Some m)
   column_not : (p ≡ k + m → least ≤ℤ pos m → ⊥) → ColumnIf k m p least None
 
+-- the columns at which a sequence or a mapping may begin at p, the first character of a line with m spaces from k on
 pub record LineColumns (n : ℤ) (c : Ctx) (k m p : ℕ) (cols : Columns) : Type 0 where
   pub sequence : ColumnIf k m p (least_column true n c) cols.sequence
   pub mapping : ColumnIf k m p (least_column false n c) cols.mapping
@@ -87,7 +89,7 @@ pub record PropertiesHeld : Type 0 where
   pub end : ℕ
 
 -- the text before an awaited node: nothing, and the node is not empty; an indicator, which ends at the offset, and the
--- node may be empty; or properties, and the node may have nothing else
+-- node may be empty; or properties, after which the node may be empty
 pub data Ahead : Type 0 where
   Nothing : Ahead
   Indicator : ℕ → Ahead
@@ -167,24 +169,25 @@ pub data Keyless (t : List ℕ) (e : ℕ) (n : ℤ) (i : ℕ) : Type 0 where
   node_unfit : {o : Option ParsedNode} → Parses t e (ANode n FlowOut i) o → NoKey t i o → Keyless t e n i
   properties_end_line : {g l : ℕ} {q : PropertiesValue} {ds : List CommentValue} → Chosen (Properties t (pos 0) FlowKey i) g q → LineEnd t g l ds → Keyless t e n i
 
--- the next entry of a collection of that kind and column is on the line; no such entry and no deeper line; a deeper
--- line
+-- the line at k has the next entry of a collection with this kind and the column m
 pub data NextEntry (t : List ℕ) : Bool → ℕ → ℕ → Type 0 where
   next_item : {m k p : ℕ} → LineText t k m p → DashAt t (k + m) → NextEntry t true m k
   next_pair : {m k p : ℕ} → LineText t k m p → NextEntry t false m k
 
+-- the line at k has no such entry and is not deeper, or no line is there
 pub record NoEntry (t : List ℕ) (sequence : Bool) (m k : ℕ) : Type 0 where
   pub no_next : NextEntry t sequence m k → ⊥
   pub not_deeper : (l p : ℕ) → LineText t k l p → l ≤ m
 
+-- the line at k is deeper: it has more than m spaces
 pub record DeeperLine (t : List ℕ) (m k : ℕ) : Type 0 where
   pub column : ℕ
   pub first : ℕ
   pub line : LineText t k column first
   pub deep : m < column
 
--- an entry after others; or the first one, whose key was read in the node's indentation, before the reader knew that a
--- mapping begins with it, and so with one collection less open
+-- an entry after others; or the first entry. The key of a first entry was read before the reader knew that a mapping
+-- begins with it: in the indentation n of the awaited node, and before the mapping counted as open
 pub data Origin : Type 0 where
   Later : Origin
   First : ℤ → Origin
@@ -245,13 +248,13 @@ pub record NoSign (t : List ℕ) (cols : Columns) (p : ℕ) : Type 0 where
   pub no_question : {m : ℕ} → cols.mapping ≡ Some m → SignAt t 63 p → ⊥
   pub no_colon : {m : ℕ} → cols.mapping ≡ Some m → SignAt t 58 p → ⊥
 
--- and none with a key: none may begin there, or the flow node there is no key
+-- no collection begins at p with a key: no mapping may begin there, or the flow node there is no key
 pub data NoKeyAt (t : List ℕ) (e : ℕ) (n : ℤ) (cols : Columns) (p : ℕ) : Type 0 where
   no_column : cols.mapping ≡ None → NoKeyAt t e n cols p
   unfit_node : {o : Option ParsedNode} → Parses t e (ANode (n +ℤ pos 1) FlowOut p) o → NoKey t p o → NoKeyAt t e n cols p
 
--- the awaited node may be a flow node without properties of its own: none begin there, and after properties it is no
--- alias
+-- the awaited node may be a flow node without properties of its own: no properties begin at p, and if properties are
+-- before the node, no alias begins at p
 pub record MayLeaf (t : List ℕ) (a : Ahead) (p : ℕ) : Type 0 where
   pub no_props : begins_properties (code t p) ≡ false
   pub no_alias : {h : PropertiesHeld} → a ≡ Props h → begins_alias (code t p) ≡ false

@@ -1,5 +1,6 @@
 -- The open collections of a block node, the innermost first, as the stack of a reader: the part of each that has been
--- read, and its outcome once the awaited node of the innermost one is read.
+-- read, and its outcome once the awaited node of the innermost one is read. The last halt of a node or an entry is its
+-- part up to the last offset at which it may end (`Halts`).
 use Rattle.std.specs.Prelude.{◌≡◌, ℕ, suc, ◌+◌, pos, Bool, true, false, List, [], ◌∷◌, Option, None}
 use Rattle.yf_chars.specs.declared.context.Ctx.TheVariants.{BlockOut}
 use Rattle.yf_comments.specs.Comment.{CommentValue}
@@ -9,8 +10,8 @@ use Rattle.yf_grammar.specs.BlockReader.BlockParser.{SignAt, Ahead, Indicator, O
 use Rattle.yf_grammar.specs.BlockReader.BlockAwaits.{after_entries}
 use Rattle.yf_grammar.specs.BlockReader.BlockSteps.{TaskAwaited, TaskHalted, made_or, as_item, as_lone_key, as_lone_value, as_value, as_collection, as_after}
 
--- the progress of the present entry of a collection: its `-` is at the offset, or its `?`, and the key is awaited, or a
--- `:` without a key; or a key was found, with its `:` at the second offset
+-- the progress of the present entry, which begins at the first offset: the node after a `-` is awaited, the key after a
+-- `?`, the value after a `:` without a key, or the value after a key that was found, with its `:` at the second offset
 pub data Stage : Type 0 where
   AtItem : ℕ → Stage
   AtKey : ℕ → Stage

@@ -1,6 +1,6 @@
 -- The states of a reader of block nodes with a stack, as far as the relations `Whole` and `Halts` determine them: the
 -- part that has been read, and the outermost node. In each state h is the outermost node's last halt if the text goes
--- wrong next.
+-- wrong next: its part up to the last offset at which it may end.
 use Rattle.std.specs.Prelude.{◌≡◌, ℕ, suc, max, ◌<◌, ◌≤◌, Bool, List, [], ◌∷◌, true, Option, Some, None}
 use Rattle.yf_comments.specs.Comment.{CommentValue}
 use Rattle.yf_grammar.specs.Productions.Grammar.{ColonLine}
@@ -86,12 +86,12 @@ outcome_before Nothing ds = ds
 outcome_before (Indicator i) ds = ds
 outcome_before (Props h) ds = []
 
--- the line at an offset, or the end of the lines, ends a collection after its present node; or several, the innermost
--- first
+-- the line at an offset, or the end of the lines, ends the collection after its present node
 pub record EndsHere (t : List ℕ) (at : ℕ) (l : Layer) : Type 0 where
   pub no_entry : NoEntry t l.sequence l.column at
   pub no_colon : asks l.stage ≡ true → ColonLine t l.column at → ⊥
 
+-- the line at an offset, or the end of the lines, ends all these collections, the innermost first
 pub data AllEnd (t : List ℕ) (at : ℕ) : List Layer → Type 0 where
   all_ended : AllEnd t at []
   one_ends : {l : Layer} {ls : List Layer} → EndsHere t at l → AllEnd t at ls → AllEnd t at (l ∷ ls)
@@ -101,11 +101,12 @@ pub data AllDeeper (m : ℕ) : List Layer → Type 0 where
   no_more : AllDeeper m []
   one_deeper : {l : Layer} {ls : List Layer} → m < l.column → AllDeeper m ls → AllDeeper m (l ∷ ls)
 
--- collections with no column greater than m; and collections that are all at least as deep as one round it
+-- collections with no column greater than m
 pub data AllWithin (m : ℕ) : List Layer → Type 0 where
   none_within : AllWithin m []
   one_within : {l : Layer} {ls : List Layer} → l.column ≤ m → AllWithin m ls → AllWithin m (l ∷ ls)
 
+-- collections, the innermost first: the column of each is at least that of every collection around it
 pub data LayersDeepen : List Layer → Type 0 where
   none_deepens : LayersDeepen []
   one_deepens : {l : Layer} {ls : List Layer} → AllWithin l.column ls → LayersDeepen ls → LayersDeepen (l ∷ ls)

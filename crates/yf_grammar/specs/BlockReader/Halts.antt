@@ -1,7 +1,7 @@
--- The rest of a broken node: `Halts t e ws task o` means that o is the part of a task up to the last offset at which it
--- may end, without the text after that offset. ws are the columns of the entries with a `?` round the task whose values
--- would be empty then: it may not end before their `:`. `Halts` uses `Whole` for the end of an entry that others
--- follow.
+-- The part of a broken node that is read: `Halts t e ws task o` means that o is the part of a task up to the last
+-- offset at which it may end, without the text after that offset. ws are the columns of the entries around the task
+-- that have a `?`, and would have no value if the part ended there: so the part may not end before a `:` of one of
+-- these entries. `Halts` uses `Whole` for the end of an entry that others follow.
 use Rattle.std.specs.Prelude.{◌≡◌, ℕ, suc, ◌+◌, ◌<◌, ◌≤◌, ℤ, pos, ◌+ℤ◌, Bool, true, false, List, [], ◌∷◌, Option, Some, None, encode_utf8_all}
 use Rattle.yf_chars.specs.declared.context.Ctx.{Ctx}
 use Rattle.yf_chars.specs.declared.context.Ctx.TheVariants.{BlockOut, BlockIn, FlowOut, FlowKey}
@@ -44,7 +44,7 @@ pub data Alone (t : List ℕ) (ws : List ℕ) (a : Ahead) (i : ℕ) : Option Par
   alone_to : {k : ℕ} {ds : List CommentValue} → Chosen (MayEnd t ws i) k ds → Alone t ws a i (alone a k ds)
   alone_nowhere : Stuck (MayEnd t ws i) → Alone t ws a i None
 
--- nothing is found, or P does not hold at its end
+-- nothing was found, or P does not hold at the end of the part that was found
 pub data NoneAfter (P : ℕ → Type 0) : Option ParsedNode → Type 0 where
   not_found : NoneAfter P None
   not_after : {f : ParsedNode} → (P f.end → ⊥) → NoneAfter P (Some f)

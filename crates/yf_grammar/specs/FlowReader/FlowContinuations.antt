@@ -10,7 +10,7 @@ use Rattle.yf_props.specs.Names.{Properties, PropertiesValue}
 use Rattle.yf_grammar.specs.Productions.Meaning.{Meaning, ◌⊕◌, meaning_after, noting, collection, entering, with_props}
 use Rattle.yf_grammar.specs.FlowReader.Parser.{ParsedNode, Gap, ColonAt, ANode, AContent, TheEntries, AnEntry, AnExplicit, AnImplicit, AValue, Parses, begins_content, only}
 
--- the collection that begins at i, of entries x with h collections open at once, and of further ones
+-- the collection from i on with the entries x, in which h collections are open at once, and with the further entries g
 abbrev pub closed : Bool → ℕ → ℕ → Meaning → ParsedNode → ParsedNode
 closed sequence i h x g =
     record { end = g.end + 1; height = suc (max h g.height); json = true; meaning = collection sequence true i (g.end + 1) (x ⊕ g.meaning) }
@@ -43,24 +43,25 @@ abbrev pub wrapped : Bool → ℕ → Meaning → Meaning
 wrapped false s x = x
 wrapped true s x = entering s None (collection false true s x.finish x)
 
--- after `?` and its separation: x is the part so far of the entry that begins at s, and the rest is awaited at p
+-- the rest of an entry that begins at s is awaited at p, after `?` and its separation; x is the part so far
 pub record RestAwaited (t : List ℕ) (e : ℕ) (sequence : Bool) (n : ℤ) (d : Ctx) (pair : Bool) (s : ℕ) (x : Meaning) (p : ℕ) : Type 0 where
   pub some : (f : ParsedNode) → Parses t e (AnExplicit n d s p) (Some f)
       → IsEntry t (with_pair pair e) sequence n d s f.end (with_pair pair f.height) (wrapped pair s (x ⊕ f.meaning))
   pub none : Parses t e (AnExplicit n d s p) None → Parses t (with_pair pair e) (AnEntry sequence n d s) None
 
--- likewise for a key, or for a value without one
+-- a key, or a value without a key, is awaited at p in the entry that begins at s; x is the part so far
 pub record KeyAwaited (t : List ℕ) (e : ℕ) (sequence : Bool) (n : ℤ) (d : Ctx) (pair : Bool) (s : ℕ) (x : Meaning) (p : ℕ) : Type 0 where
   pub some : (f : ParsedNode) → Parses t e (AnImplicit n d s p) (Some f)
       → IsEntry t (with_pair pair e) sequence n d s f.end (with_pair pair f.height) (wrapped pair s (x ⊕ f.meaning))
   pub none : Parses t e (AnImplicit n d s p) None → Parses t (with_pair pair e) (AnEntry sequence n d s) None
 
--- for a value, from its `:` at v on, after a key of that kind with h collections open at once
+-- a value is awaited, from its `:` at v on, after a key with h collections open at once; `json` says that the key is
+-- like those of JSON
 pub record ValueAwaited (t : List ℕ) (e : ℕ) (sequence : Bool) (n : ℤ) (d : Ctx) (pair : Bool) (s : ℕ) (json : Bool) (h : ℕ) (x : Meaning) (v : ℕ) : Type 0 where
   pub some : (g : ParsedNode) → Parses t e (AValue json n d v) (Some g)
       → IsEntry t (with_pair pair e) sequence n d s g.end (with_pair pair (max h g.height)) (wrapped pair s (x ⊕ g.meaning))
 
--- for the node of that value at p, and for the end of the entry if no node is there
+-- the node of a value is awaited at p, after the `:` and a separation if there is one
 pub record ValueNodeAwaited (t : List ℕ) (e : ℕ) (sequence : Bool) (n : ℤ) (d : Ctx) (pair : Bool) (s h : ℕ) (x : Meaning) (p : ℕ) : Type 0 where
   pub some : (g : ParsedNode) → Parses t e (ANode n d p) (Some g)
       → IsEntry t (with_pair pair e) sequence n d s g.end (with_pair pair (max h g.height)) (wrapped pair s (x ⊕ g.meaning))
@@ -101,7 +102,7 @@ pub data NodeOver (t : List ℕ) (n : ℤ) (d : Ctx) : ℕ → ℕ → Before �
   properties_there : {i g k : ℕ} {p : PropertiesValue} {cs : List CommentValue} → Chosen (Properties t n d i) g p → Chosen (Separate t n d g) k cs
       → begins_content (code t k) ≡ true → NodeOver t n d i k (Propertied p cs i g)
 
--- from the end of an entry at j to an offset before or after its separation, if it has one
+-- an offset after an entry that ends at j: j itself, or the end of the separation, if there is one, with its comments
 pub data Within (t : List ℕ) (n : ℤ) (d : Ctx) (j : ℕ) : ℕ → List CommentValue → Type 0 where
   not_yet : Within t n d j j []
   gap_past : {k : ℕ} {cs : List CommentValue} → Gap t n d j k cs → Within t n d j k cs

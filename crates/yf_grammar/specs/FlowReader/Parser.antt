@@ -32,7 +32,7 @@ pub data Gap (t : List ℕ) (n : ℤ) (c : Ctx) : ℕ → ℕ → List CommentVa
   longest_gap : {i j : ℕ} {cs : List CommentValue} → Chosen (Separate t n c i) j cs → Gap t n c i j cs
   no_gap : {i : ℕ} → Stuck (Separate t n c i) → Gap t n c i i []
 
--- no character of a break is between the offsets
+-- no line break is between the offsets
 pub record OnOneLine (t : List ℕ) (i j : ℕ) : Type 0 where
   pub each : (h : ℕ) → i ≤ h → h < j → is_break_char (code t h) ≡ false
 
@@ -49,7 +49,7 @@ begins_content c = (c == 39) || (c == 34) || (c == 91) || (c == 123)
 unfoldable pub begins_plain : ℕ → Bool
 begins_plain c = not (begins_alias c || begins_properties c || begins_content c)
 
--- the `:` of a value is after a node of that kind
+-- the `:` of a value is at i, after a node that is like those of JSON if `json` is true
 pub record ColonAt (t : List ℕ) (json : Bool) (c : Ctx) (i : ℕ) : Type 0 where
   pub colon : code t i ≡ 58
   pub follows : MayBeColon json t (i + 1) c
@@ -70,11 +70,11 @@ pub data Task : Type 0 where
   -- entries up to the closing bracket, from an entry or that bracket on; one entry
   TheEntries : Bool → ℤ → Ctx → ℕ → Task
   AnEntry : Bool → ℤ → Ctx → ℕ → Task
-  -- the rest after `?` and its separation of an entry of a mapping that begins at the first offset
+  -- the rest after `?` and its separation, at the second offset, of a mapping's entry that begins at the first
   AnExplicit : ℤ → Ctx → ℕ → ℕ → Task
-  -- a key or a lone value of an entry of a mapping that begins at the first offset
+  -- a key or a lone value at the second offset, in a mapping's entry that begins at the first
   AnImplicit : ℤ → Ctx → ℕ → ℕ → Task
-  -- the `:` after a node of that kind, and the value
+  -- the `:` and the value; the flag says whether the node before the `:` is like those of JSON
   AValue : Bool → ℤ → Ctx → ℕ → Task
 
 -- a node with its properties from i to g and the separation after them

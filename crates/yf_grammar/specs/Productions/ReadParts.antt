@@ -13,8 +13,8 @@ use Rattle.yf_events.specs.declared.part.Part.{Part}
 use Rattle.yf_grammar.specs.Productions.Grammar.{Production, FlowNode, NodeOf, BlockNode, Derives}
 use Rattle.yf_grammar.specs.Productions.Meaning.{Meaning}
 
--- the walk back from the offset over white space, breaks and marks meets a line of only white space that begins at the
--- floor or after it
+-- going back from the offset over white space, breaks and byte order marks, one comes to the end of a line of only
+-- white space, which is at `floor` or after it
 pub data BlankSince (t : List ℕ) (floor : ℕ) : ℕ → Type 0 where
   blank_line : {i j : ℕ} → floor ≤ i → Blank t i → Break t i j → BlankSince t floor j
   past_gap : {i : ℕ} → BlankSince t floor i → is_gap (code t i) ≡ true → BlankSince t floor (next t i)
@@ -23,11 +23,12 @@ pub data NotedSince (t : List ℕ) (floor i : ℕ) : Bool → Type 0 where
   noted : BlankSince t floor i → NotedSince t floor i true
   not_noted : (BlankSince t floor i → ⊥) → NotedSince t floor i false
 
--- the lines of a block scalar, up to its end, are no blank lines
+-- the end of a span, or the floor without a span
 abbrev pub end_or : ℕ → Option Span → ℕ
 end_or floor None = floor
 end_or floor (Some span) = span.end
 
+-- the floor after an event: the lines of a block scalar, up to its end, are no blank lines
 abbrev pub floor_after_event : ℕ → EventInText → EventValue → ℕ
 floor_after_event floor e (scalar_node _ Literal _) = end_or floor e.span
 floor_after_event floor e (scalar_node _ Folded _) = end_or floor e.span

@@ -1,4 +1,4 @@
--- A style of scalars can spell a text if some text has such a scalar.
+-- A style of scalars can spell a text if the grammar derives, from some input, a scalar in that style with that text.
 use Rattle.std.specs.Prelude.{◌≡◌, ℕ, List, [], ◌∷◌}
 use Rattle.std.specs.Str.{IsUtf8}
 use Rattle.yf_events.specs.Event.{EventValue, sequence_starts, mapping_starts, scalar_node}
@@ -7,7 +7,7 @@ use Rattle.yf_events.specs.declared.event.ScalarStyle.TheVariants.{Plain}
 use Rattle.yf_grammar.specs.Productions.Grammar.{Production, Derives}
 use Rattle.yf_grammar.specs.Productions.Meaning.{Meaning}
 
--- for a collection, only its properties
+-- the event itself; for the start of a collection, an empty plain scalar with the collection's properties
 abbrev pub as_leaf : EventValue → EventValue
 as_leaf (sequence_starts flow props) = scalar_node props Plain []
 as_leaf (mapping_starts flow props) = scalar_node props Plain []

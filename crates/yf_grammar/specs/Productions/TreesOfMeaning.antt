@@ -5,7 +5,7 @@ use Rattle.yf_events.specs.Alike.{Alike, AlikeItems, AlikePairs}
 use Rattle.yf_events.specs.Tree.{Node, scalar, alias, sequence, mapping, Items, no_items, item, Pairs, no_pairs, pair, flat, flat_items, flat_pairs}
 use Rattle.yf_grammar.specs.Productions.Meaning.{Meaning}
 
--- the offsets of a key and its value have no condition
+-- any offsets are allowed for a key and its value
 abbrev pub Anywhere : Node → Node → Node → Node → Type 0
 Anywhere k v l w = Unit {0}
 

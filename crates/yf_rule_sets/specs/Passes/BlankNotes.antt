@@ -7,13 +7,15 @@ use Rattle.yf_rule_sets.specs.RuleSets.BlankLines.{DirectiveOf, HasOffset, IsBla
 use Rattle.yf_rule_sets.specs.Passes.LineFlags.{ListTells}
 use Rattle.yf_rule_sets.specs.RuleSets.Whites.{IsAlone, WhitesEnd}
 
--- the line k holds a `---` at the offset `start`, which is written and has only white space after it
+-- a document that begins at the offset `start`, on the line k, has a `---` (the flag `marked`), with only white space
+-- after it
 pub record MarkerThere (src : Table) (marked : Bool) (start k : ℕ) : Type 0 where
   pub written : marked ≡ true
   pub alone : IsAlone src.text start
   pub there : HasOffset src start k
 
--- the three lists flag the blank lines, the lines with such a `---`, and the lines with a directive
+-- the three lists flag the blank lines, the lines with a `---` that only white space follows, and the lines with a
+-- directive
 pub record AreNotes (src : Table) (r : Lists) (blank markers directives : List Bool) : Type 0 where
   pub count : length blank ≡ length src.lines
   pub is_blank : ListTells blank (IsBlank src r)
@@ -30,7 +32,7 @@ pub data IsBeforeMarker (src : Table) (r : Lists) (k : ℕ) : Type 0 where
   marker_next : {l : Line} → slice_get src.lines (k + 1) ≡ Some l → IsForbiddenLine src.text l.start → IsBeforeMarker src r k
   directive_next : {m : ℕ} → DirectiveOf src r m (k + 1) → IsBeforeMarker src r k
 
--- a line of only white space, if the flag is false
+-- the flag is false, and the line k has only white space
 pub data BlankUnless (src : Table) (k : ℕ) : Bool → Type 0 where
   is_white : {l : Line} → slice_get src.lines k ≡ Some l → WhitesEnd src.text l.start l.end l.start → BlankUnless src k false
 

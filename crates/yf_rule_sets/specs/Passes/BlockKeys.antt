@@ -66,14 +66,14 @@ roles st (e ∷ es) = next_role st ∷ roles (next e.event st) es
 abbrev pub role_at : EventValue → List Role → Role
 role_at v st = if begins_node v then next_role st else Item
 
--- the event v of the index i begins a node with that role, which is a key after the `?` at the offset, and the house
--- style writes the atom v without `?` as a key
+-- the event v of the index i begins a key, by its role, after the `?` at the offset; v is a scalar or an alias, which
+-- the house style writes without `?` as a key
 pub record MarkedAtom (t : List ℕ) (r : Lists) (house : Style) (i : ℕ) (role : Role) (v : EventValue) (offset : ℕ) : Type 0 where
   pub key : is_key role ≡ true
   pub implicit : is_implicit_atom house v ≡ true
   pub marked : IsMarked t r i offset
 
--- `answer` is the `?` before such an atom, and v is an atom if it is a key after a `?`
+-- `answer` is the `?` before such a key, if there is one; and v is a scalar or an alias if it is a key after a `?`
 pub record AnswersAtom (t : List ℕ) (r : Lists) (house : Style) (i : ℕ) (role : Role) (v : EventValue) (answer : Option ℕ) : Type 0 where
   pub exact : IsTheOne (MarkedAtom t r house i role v) answer
   pub atom : is_key role ≡ true → (offset : ℕ) → IsMarked t r i offset → is_atom v ≡ true

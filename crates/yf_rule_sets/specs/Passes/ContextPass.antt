@@ -23,19 +23,21 @@ stand_of (scalar_node props style text) st column first = stand_in st None 0
 stand_of (alias_node name) st column first = stand_in st None 0
 stand_of _ st column first = record { outer = Unknown; is_implicit_value = false; column = None; first = 0 }
 
--- the event of index i is passed: afterwards these collections are open, and the context is `told`
+-- the step for the event of index i leads from the state `old` to `new`: afterwards the collections st are open, and
+-- the context `stand` is `told`
 pub record EventPass (t : List ℕ) (es : List EventInText) (i : ℕ) (st : List ContextFrame) (told : NodeContext) (old new : Pass) (stand : NodeContext) : Type 0 where
   pub stack : reverse new.stack.items ≡ st
   pub tells : stand ≡ told
   pub kept : new.columns.items ≡ old.columns.items
   pub later : IsPass t es new.columns.items new.begun (i + 1)
 
--- the step for the start of a collection, and for any event
+-- the step for the event of index i, if it starts a collection: a mapping if `is_map` is true, otherwise a sequence
 abbrev pub OpeningPass : List ℕ → List EventInText → ℕ → Bool → Pass → Pass → NodeContext → Type 0
 OpeningPass t es i is_map old new stand = IsPass t es old.columns.items old.begun i
     → EventPass t es i (opened is_map (column_at t es old.columns.items i) ∷ after (unmarked_at t es i) (reverse old.stack.items))
     (stand_in (reverse old.stack.items) (column_at t es old.columns.items i) (unwrap_or (entries_from t (drop i es)) 0)) old new stand
 
+-- the step for any event e, of index i
 abbrev pub Passes : List ℕ → List EventInText → ℕ → EventValue → Pass → Pass → NodeContext → Type 0
 Passes t es i e old new stand = IsPass t es old.columns.items old.begun i
     → EventPass t es i (next e (column_at t es old.columns.items i) (unmarked_at t es i) (reverse old.stack.items))

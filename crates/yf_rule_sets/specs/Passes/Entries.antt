@@ -30,20 +30,22 @@ abbrev pub entries_from : List ℕ → List EventInText → Option ℕ
 entries_from t [] = None
 entries_from t (e ∷ es) = if starts_block e.event then start_at t (first_entry es) else None
 
--- the offsets of the first entries of all block collections among them
+-- these offsets, after another one if it is present
 abbrev pub and_those : Option ℕ → List ℕ → List ℕ
 and_those None os = os
 and_those (Some o) os = o ∷ os
 
+-- the offsets of the first entries of all block collections that these events begin
 abbrev pub all_entries : List ℕ → List EventInText → List ℕ
 all_entries t [] = []
 all_entries t (e ∷ es) = and_those (entries_from t (e ∷ es)) (all_entries t es)
 
--- the column of the entries of the block collection that begins at an index, from the columns for all block collections
+-- the column, if the offset is present
 abbrev pub if_any : Option ℕ → ℕ → Option ℕ
 if_any None column = None
 if_any (Some o) column = Some column
 
+-- the column of the entries of the block collection that begins at an index, from the columns for all block collections
 abbrev pub column_at : List ℕ → List EventInText → List ℕ → ℕ → Option ℕ
 column_at t es columns i = if_any (entries_from t (drop i es)) (get_or columns (length (all_entries t es) - length (all_entries t (drop i es))) 0)
 

@@ -17,7 +17,7 @@ pub record AllBegin (spans : List Span) (count offset : ℕ) : Type 0 where
 pub record NoneBegins (spans : List Span) (count offset : ℕ) : Type 0 where
   pub none : (k : ℕ) (s : Span) → slice_get spans k ≡ Some s → count ≤ k → offset < s.start
 
--- a character of a kind begins at k, and `reach` is not after k
+-- a character of a kind begins at k, and k is at `reach` or after it
 pub data IsBeyond (Kind : ℕ → Type 0) (t : List ℕ) (reach k : ℕ) : ℕ → Type 0 where
   is_beyond : Kind (code t k) → reach ≤ k → IsBeyond Kind t reach k k
 

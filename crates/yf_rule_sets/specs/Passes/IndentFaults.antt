@@ -29,21 +29,22 @@ pub data ContentAt (src : Table) (r : Lists) (i : ℕ) : ℕ × ℕ → Type 0 w
       → LinesBegunAt src.lines (content_start src.text s props) follows → BlockContent src.lines text follows first indent
       → ContentAt src r i (content_start src.text s props, indent)
 
--- these two numbers in the code
+-- the offset of the header and the indentation of the content, as the code has them, if there is a content line
 abbrev pub if_content : ℕ → Option ContentStart → Option (ℕ × ℕ)
 if_content start None = None
 if_content start (Some content) = Some (start, content.indent)
 
+-- these two numbers from the lines of a scalar: a block scalar with a content line has them
 abbrev pub content_in : Option ScalarLines → Option (ℕ × ℕ)
 content_in None = None
 content_in (Some lines) = if_content lines.start lines.content
 
--- the first entry, if it is at another column than wanted; the header, if the content has another indentation than
--- wanted
+-- the first entry, if it is at another column than wanted
 abbrev pub entry_fault : ℕ → Option ℕ → Option ℕ → Option ℕ
 entry_fault offset None wanted = None
 entry_fault offset (Some column) wanted = if is_other column wanted then Some offset else None
 
+-- the header, if the content has another indentation than wanted
 abbrev pub content_fault : Option (ℕ × ℕ) → Option ℕ → Option ℕ
 content_fault None wanted = None
 content_fault (Some content) wanted = if is_other content.1 wanted then Some content.0 else None
@@ -55,11 +56,12 @@ fault_of house (mapping_starts flow props) s content = entry_fault s.first s.col
 fault_of house (scalar_node props style text) s content = content_fault content (wanted_indent house s.outer)
 fault_of house _ s content = None
 
--- the context of a node, and its fault
+-- the context of the node s
 abbrev pub standing_at : List ℕ → Lists → List ℕ → Stood → NodeContext
 standing_at t r columns s =
     record { outer = s.around; is_implicit_value = s.beside; column = column_at t r.events columns s.at; first = unwrap_or (entries_from t (drop s.at r.events)) 0 }
 
+-- the offset of the fault of the node s, if it has one
 pub data AtFault (src : Table) (r : Lists) (house : Style) (columns : List ℕ) (s : Stood) : ℕ → Type 0 where
   at_fault : {e : EventValue} {o : ℕ} (content : Option (ℕ × ℕ)) → slice_get (events_of r) s.at ≡ Some e → IsTheOne (ContentAt src r s.at) content
       → fault_of house e (standing_at src.text r columns s) content ≡ Some o → AtFault src r house columns s o
@@ -69,7 +71,7 @@ pub record FoundBy (P : Stood → ℕ → Type 0) (nodes : List Stood) (offsets 
   pub only : (o : ℕ) → Contains offsets o → (s : Stood) × Contains nodes s × P s o
   pub all : (s : Stood) (o : ℕ) → Contains nodes s → P s o → Contains offsets o
 
--- a pass over the events is before the index i, with these open collections, and has found these offsets
+-- the state of the pass before the event of index i: the collections st are open, and these offsets have been found
 pub record IndentPassAt (src : Table) (r : Lists) (house : Style) (columns : List ℕ) (begun i : ℕ) (st : List ContextFrame) (offsets : List ℕ) : Type 0 where
   pub nodes : List Stood
   pub pass : IsPass src.text r.events columns begun i

@@ -1,7 +1,7 @@
 -- Lists of flags, one for each line, by the line's index.
 use Rattle.std.specs.Prelude.{◌≡◌, ℕ, ◌<◌, ◌⊎◌, Bool, true, false, List, length, get_or}
 
--- the new list also flags the lines with P
+-- the new list also flags the lines k for which P k holds
 pub record FlagsAdded (old new : List Bool) (P : ℕ → Type 0) : Type 0 where
   pub len : length new ≡ length old
   pub only : (k : ℕ) → get_or new k false ≡ true → (get_or old k false ≡ true) ⊎ P k
@@ -13,7 +13,7 @@ pub record FlagsOf (list : List Bool) (n : ℕ) (P : ℕ → ℕ → Type 0) : T
   pub only : (k : ℕ) → get_or list k false ≡ true → (i : ℕ) × (i < n) × P i k
   pub all : (i k : ℕ) → i < n → k < length list → P i k → get_or list k false ≡ true
 
--- the list flags exactly the lines with P
+-- the list flags exactly the lines k for which P k holds
 pub record ListTells (list : List Bool) (P : ℕ → Type 0) : Type 0 where
   pub only : (k : ℕ) → get_or list k false ≡ true → P k
   pub all : (k : ℕ) → P k → get_or list k false ≡ true

@@ -1,6 +1,7 @@
--- What holds each node of a reading: a pass over its events, step by step, and the result in trees. An index counts
--- events from 0. Here two functions of an index give the column of the entries of the block collection that begins
--- there, and whether an entry that begins there has no `?`.
+-- What is around each node of a reading: nothing, or a collection with the column of its entries, if known. A pass over
+-- the events finds it step by step; so do functions on trees. An index counts events from 0. Here two functions of an
+-- index give the column of the entries of the block collection that begins there, and whether an entry that begins
+-- there has no `?`.
 use Rattle.std.specs.Prelude.{ℕ, ◌+◌, Bool, true, false, ◌&&◌, if◌then◌else◌, List, [], ◌∷◌, ◌++◌, drop, length, Option, Some, None}
 use Rattle.std.specs.List.{Contains}
 use Rattle.yf_events.specs.Event.{EventValue, EventInText, stream_starts, stream_ends, document_starts, document_ends, sequence_starts, sequence_ends, mapping_starts, mapping_ends, scalar_node, alias_node}
@@ -11,7 +12,7 @@ use Rattle.yf_rule_sets.specs.declared.facts.node_context.Around.TheVariants.{No
 use Rattle.yf_rule_sets.specs.declared.facts.node_context.ContextFrame.{ContextFrame}
 use Rattle.yf_rule_sets.specs.declared.facts.node_context.NodeContext.{NodeContext}
 
--- what holds the nodes of a collection with entries at that column
+-- what is around the nodes in a collection with entries at that column
 abbrev pub held : Option ℕ → Around
 held None = Unknown
 held (Some column) = Entries column
@@ -21,7 +22,7 @@ abbrev pub turned : Bool → Option Bool → Option Bool
 turned m None = Some m
 turned m (Some n) = None
 
--- a collection after a node in it
+-- the state of an open collection after a node in it
 abbrev pub past : Bool → ContextFrame → ContextFrame
 past m l = record { column = l.column; is_map = l.is_map; key = if l.is_map then turned m l.key else l.key }
 
@@ -38,11 +39,12 @@ abbrev pub after : Bool → List ContextFrame → List ContextFrame
 after m [] = []
 after m (l ∷ st) = past m l ∷ st
 
--- what holds the next node, and whether the node is the value of a key without `?`
+-- what is around the next node
 abbrev pub outer : List ContextFrame → Around
 outer [] = Nothing
 outer (l ∷ st) = held l.column
 
+-- whether the next node is the value of a key without `?`
 abbrev pub beside : List ContextFrame → Bool
 beside [] = false
 beside (l ∷ st) = l.is_map && is_beside l.key
@@ -64,7 +66,7 @@ next (alias_node name) c m st = after m st
 abbrev pub stand_in : List ContextFrame → Option ℕ → ℕ → NodeContext
 stand_in st column first = record { outer = outer st; is_implicit_value = beside st; column = column; first = first }
 
--- a node, by the index of the event that begins it: what holds it, and whether it is the value of a key without `?`
+-- a node, by the index of the event that begins it: what is around it, and whether it is the value of a key without `?`
 pub record Stood : Type 0 where
   pub at : ℕ
   pub around : Around
@@ -73,6 +75,7 @@ pub record Stood : Type 0 where
 abbrev pub stood : ℕ → Around → Bool → Stood
 stood i a b = record { at = i; around = a; beside = b }
 
+-- the node that an event begins, with what is around it, or nothing
 abbrev pub begun : EventValue → ℕ → List ContextFrame → List Stood
 begun stream_starts i st = []
 begun stream_ends i st = []
@@ -85,7 +88,7 @@ begun mapping_ends i st = []
 begun (scalar_node props style text) i st = stood i (outer st) (beside st) ∷ []
 begun (alias_node name) i st = stood i (outer st) (beside st) ∷ []
 
--- from the event of index i on
+-- the nodes that the events begin, the first of which has the index i, with what is around them
 abbrev pub run : (ℕ → Option ℕ) → (ℕ → Bool) → ℕ → List ContextFrame → List EventInText → List Stood
 run c m i st [] = []
 run c m i st (e ∷ es) = begun e.event i st ++ run c m (i + 1) (next e.event (c i) (m i) st) es
@@ -112,7 +115,7 @@ abbrev pub stood_in_documents : (ℕ → Option ℕ) → (ℕ → Bool) → ℕ 
 stood_in_documents c m i [] = []
 stood_in_documents c m i (d ∷ ds) = stood_in c m (i + 1) Nothing false d.root ++ stood_in_documents c m (i + length (flat_document d)) ds
 
--- What holds a node, as a relation on the nodes of trees.
+-- What is around a node, as a relation on the nodes of trees.
 
 pub data IsHeld (c : ℕ → Option ℕ) (m : ℕ → Bool) (trees : List DocumentTree) (y : NumberedNode) : Around → Bool → Type 0 where
   by_nothing : Contains (roots_from 1 trees) y → IsHeld c m trees y Nothing false

@@ -22,8 +22,8 @@ starts_flow _ = false
 pub record IsOutsideFlow (es : List EventInText) (i : ℕ) : Type 0 where
   pub outside : (j : ℕ) (y : Node) → NodeAt es j y → is_flow y ≡ true → j < i → j + length (flat y) ≤ i
 
--- the last of the flow collections that begin before the index i ends with the event of the index `done`, or all end
--- before i
+-- each flow collection that begins before the index i ends before i, or at the latest with the event of the index
+-- `done`; `done` is 0 or the index of the last event of one of them
 pub record FlowsDone (es : List EventInText) (i done : ℕ) : Type 0 where
   pub bound : (j : ℕ) (y : Node) → NodeAt es j y → is_flow y ≡ true → j < i → (j + length (flat y) ≤ i) ⊎ (j + length (flat y) ≤ done + 1)
   pub reached : (done ≡ 0) ⊎ ((j : ℕ) × (y : Node) × NodeAt es j y × (is_flow y ≡ true) × (j < i) × (done + 1 ≡ j + length (flat y)))

@@ -24,7 +24,7 @@ pub data IsUnmarked (t : List ℕ) : Bool → Bool → ℕ → ℕ → Type 0 wh
   without_marker : {o : ℕ} → IsUnmarked t false false o o
   not_alone : {o : ℕ} {may_be_bare : Bool} → (IsAlone t o → ⊥) → IsUnmarked t true may_be_bare o o
 
--- document-start: the start of such a document, of that index
+-- document-start: the start of the document of index k, if its `---` is missing or not alone on its line (`IsUnmarked`)
 pub data NoMarkerLine (t : List ℕ) (r : Lists) (s : Style) (k : ℕ) : ℕ → Type 0 where
   of_document : {d : Doc} {marked : Bool} {o : ℕ} → slice_get r.documents k ≡ Some d → slice_get (markers_in (events_of r)) k ≡ Some marked
       → IsUnmarked t marked (may_be_bare s k) d.start o → NoMarkerLine t r s k o

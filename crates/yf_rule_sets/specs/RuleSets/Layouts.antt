@@ -19,7 +19,7 @@ pub record OuterFlow (r : Lists) (i : ℕ) (x : Node) : Type 0 where
   pub flow : is_flow x ≡ true
   pub outer : IsOutsideFlow r.events i
 
--- its wanted text from bracket to bracket, or `None` if it may not be kept on one line
+-- the wanted text of a flow collection from bracket to bracket, or `None` if it may not be kept on one line
 abbrev pub wanted_text : List ℕ → LayoutSetting → Node → Option (List ℕ)
 wanted_text t c x = if is_filled_flow x then kept_text_of t c x else Some (bare c.style x)
 
@@ -33,7 +33,7 @@ pub data IsDisplaced (src : Table) (c : LayoutSetting) (x : Node) (inside : Span
   other_text : wanted_text src.text c x ≢ Some (slice_range src.text inside.start inside.end) → IsDisplaced src c x inside
   too_wide : is_filled_flow x ≡ true → EndsPastLimit src c.style.max_line inside.end → IsDisplaced src c x inside
 
--- flow-layout: the opening bracket of such a flow collection that is in no other one
+-- flow-layout: the opening bracket of a flow collection that is in no other one and is displaced (`IsDisplaced`)
 pub data LayoutFault (src : Table) (r : Lists) (house : Style) (i : ℕ) : ℕ → Type 0 where
   displaced : {x : Node} {s : Span} → OuterFlow r i x → (standing x).span ≡ Some s
       → IsDisplaced src (setting_of r house) x (bracketed src.text (props_of x) s) → LayoutFault src r house i (content_start src.text s (props_of x))

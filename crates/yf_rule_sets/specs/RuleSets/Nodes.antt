@@ -38,13 +38,13 @@ abbrev pub roots_from : ℕ → List DocumentTree → List NumberedNode
 roots_from i [] = []
 roots_from i (d ∷ ds) = (i + 1, d.root) ∷ roots_from (i + length (flat_document d)) ds
 
--- directly in a node, as an item, a key or a value
+-- a node is directly in the node x, as an item, a key or a value
 pub data IsChildOf (x : NumberedNode) : NumberedNode → Type 0 where
   as_item : {y : NumberedNode} → Contains (items_of x.0 x.1) y → IsChildOf x y
   as_key : {k v : NumberedNode} → Contains (pairs_of x.0 x.1) (k, v) → IsChildOf x k
   as_value : {k v : NumberedNode} → Contains (pairs_of x.0 x.1) (k, v) → IsChildOf x v
 
--- anywhere in these trees
+-- a node is in these trees: a root, or in another node
 pub data IsNodeOf (trees : List DocumentTree) : NumberedNode → Type 0 where
   is_root : {x : NumberedNode} → Contains (roots_from 1 trees) x → IsNodeOf trees x
   is_inner : {x y : NumberedNode} → IsNodeOf trees x → IsChildOf x y → IsNodeOf trees y

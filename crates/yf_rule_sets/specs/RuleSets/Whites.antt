@@ -1,4 +1,4 @@
--- White space at the end of a span, and comments close after other text.
+-- White space at the end of a span, and comments that other text precedes without exactly two spaces between them.
 use Rattle.std.specs.Prelude.{◌≡◌, ℕ, ◌+◌, ◌-◌, ◌≤◌, ◌⊎◌, false, true, List, length, slice_get, Some}
 use Rattle.yf_chars.specs.Chain.{Many}
 use Rattle.yf_chars.specs.Class.{is_break_char, is_white}
