@@ -20,6 +20,7 @@ mod limits;
 mod memory;
 mod overview;
 mod owner;
+mod parts;
 mod program;
 mod replacing;
 mod server;

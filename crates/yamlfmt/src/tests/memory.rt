@@ -4,7 +4,7 @@ use std::alloc::Global;
 use yf_files::{FileSystem, MemoryFiles, ReplaceError, RewriteError};
 use yf_forms::style::Style;
 use yf_lines::fault::Fault;
-use yf_program::files::rewrite_in;
+use yf_program::files::{NewText, rewrite_in};
 
 const FILE: &str = "folder/a.yaml";
 
@@ -123,7 +123,8 @@ fn is_rewritten(alloc: Global, call: usize, is_left: bool) -> bool {
         return false;
     }
     let first = files.moment();
-    let answer = rewrite_in(alloc, &mut files, FILE, &Style::house());
+    let style = Style::house();
+    let answer = rewrite_in(alloc, &mut files, FILE, &NewText::Formatted(&style));
     leaves_either(&files, first)
         && leaves(&files, files.moment(), allowed_after(&answer))
         && is_told(&files, &answer)
