@@ -17,6 +17,7 @@ mod fmt_check;
 mod hostile;
 mod laws;
 mod limits;
+mod lines_option;
 mod memory;
 mod overview;
 mod owner;

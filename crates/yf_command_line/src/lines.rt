@@ -40,7 +40,7 @@ fn refusal_of_lines(alloc: Global, word: &str) -> Usage
 fn refused_text(alloc: Global, word: &str) -> Result<OwnedText, AllocError> {
     let word = shown_text(alloc, word)?;
     Ok(OwnedText::new(format!(in alloc;
-        "error: invalid value '{word}' for '--lines <LINES>': LINES are lines by their numbers, as in 3-7,12
+        "error: invalid value '{word}' for '--lines <LINES>': LINES are numbers of lines and ranges, as in 3-7,12
 
 For more information, try '--help'.
 "

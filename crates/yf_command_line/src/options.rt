@@ -101,7 +101,7 @@ fn check_command<'a>(alloc: Global) -> Result<Command<'a>, AllocError>
 fn fmt_command<'a>(alloc: Global) -> Result<Command<'a>, AllocError>
     ensures { IfOk result (λ c. IsPart c writing_command) }
 {
-    let lines = lines_option(alloc, "Format only these lines, as in 3-7,12");
+    let lines = lines_option(alloc, "Format only these lines, for example 3-7,12");
     let choosing = with_arg(formatting_command(alloc), lines);
     with_arg(choosing, file_words(alloc))
 }

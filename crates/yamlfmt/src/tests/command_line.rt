@@ -3,10 +3,9 @@
 use crate::tests::answers::words_of;
 use crate::tests::overview::OVERVIEW;
 use std::alloc::Global;
-use yf_command_line::command::{Command, FileList, Fmt, Input, InputList, Part, Request};
+use yf_command_line::command::{Command, FileList, Fmt, Input, InputList, Request};
 use yf_command_line::command_line::parse_line;
 use yf_command_line::usage::Usage;
-use yf_line_ranges::range::LineRange;
 use yf_lines::text::OwnedText;
 use yf_rules::asked::RULE_NAMES;
 
@@ -16,6 +15,8 @@ enum Verb {
     Events,
     Check,
     Fmt,
+    /// `fmt --lines`: the tests `lines_option` have its rows.
+    Part,
     Server,
 }
 
@@ -25,9 +26,6 @@ enum Wanted {
     /// A command: the settings file, the file, whether the file is rewritten, whether it is only checked, whether a
     /// diff is printed, and the number of further files.
     Command(Verb, &'static str, &'static str, bool, bool, bool, usize),
-    /// A command with `--lines`: the lines, the file, whether the file is rewritten, whether it is only checked, and
-    /// whether a diff is printed.
-    Lines(Verb, &'static [[usize; 2]], &'static str, bool, bool, bool),
     /// Wrong words.
     Wrong,
     /// Wrong words, and the reason.
@@ -38,7 +36,7 @@ enum Wanted {
     Version,
 }
 
-static LINES: [(&str, Wanted); 81] = [
+static LINES: [(&str, Wanted); 66] = [
     (
         "events",
         Wanted::Command(Verb::Events, "", "", false, false, false, 0),
@@ -115,35 +113,10 @@ static LINES: [(&str, Wanted); 81] = [
         "--explain server --stdio --config s.toml",
         Wanted::Command(Verb::Server, "s.toml", "", false, false, false, 0),
     ),
-    (
-        "fmt --lines 3-7,12 a",
-        Wanted::Lines(Verb::Fmt, &[[3, 7], [12, 12]], "a", false, false, false),
-    ),
-    (
-        "fmt --lines 4 --check --lines=1-2,4",
-        Wanted::Lines(Verb::Fmt, &[[4, 4], [1, 2], [4, 4]], "", false, true, false),
-    ),
-    (
-        "fmt --check --diff --lines 2 -",
-        Wanted::Lines(Verb::Fmt, &[[2, 2]], "", false, false, true),
-    ),
-    (
-        "fmt a --write --lines 2",
-        Wanted::Lines(Verb::Fmt, &[[2, 2]], "a", true, false, false),
-    ),
     ("", Wanted::Wrong),
     ("server a.yaml", Wanted::Wrong),
     ("server --explain", Wanted::Wrong),
     ("server --stdio --stdio", Wanted::Wrong),
-    ("fmt --lines", Wanted::Wrong),
-    ("fmt --lines= a", Wanted::Wrong),
-    ("fmt --lines 1 --lines 0 a", Wanted::Wrong),
-    ("fmt --lines 1 --write", Wanted::Wrong),
-    ("fmt --lines 1 --write -", Wanted::Wrong),
-    ("fmt --lines 1 --write --check a", Wanted::Wrong),
-    ("fmt --lines 1 --write --diff a", Wanted::Wrong),
-    ("fmt --lines 1 --write a b", Wanted::Wrong),
-    ("events --lines 1 a", Wanted::Wrong),
     ("--explain", Wanted::Wrong),
     ("--explain --explain check a", Wanted::Wrong),
     ("check --explain --explain a", Wanted::Wrong),
@@ -220,26 +193,6 @@ Options:
       --config <FILE>  Read the settings from this TOML file
       --stdio          Use standard input and standard output, as the server always does
   -h, --help           Print help
-",
-        ),
-    ),
-    (
-        "fmt --lines 7-3 a",
-        Wanted::Refused(
-            "error: invalid value '7-3' for '--lines <LINES>': LINES are lines by their numbers, as in 3-7,12
-
-For more information, try '--help'.
-",
-        ),
-    ),
-    (
-        "fmt --lines 1 a b",
-        Wanted::Refused(
-            "error: the argument '--lines' takes one FILE
-
-Usage: yamlfmt fmt [OPTIONS] [FILE]...
-
-For more information, try '--help'.
 ",
         ),
     ),
@@ -395,29 +348,9 @@ fn shape(command: &Command) -> Shape<'_> {
             let FileList { first, rest } = files;
             (Verb::Fmt, first.as_str(), true, false, false, rest.len())
         }
-        Command::Fmt(Fmt::Part { what, .. }) => match what {
-            Part::Print(input) => (Verb::Fmt, name_of(input), false, false, false, 0),
-            Part::Check(input) => (Verb::Fmt, name_of(input), false, true, false, 0),
-            Part::Diff(input) => (Verb::Fmt, name_of(input), false, false, true, 0),
-            Part::Write(file) => (Verb::Fmt, file.as_str(), true, false, false, 0),
-        },
+        Command::Fmt(Fmt::Part { .. }) => (Verb::Part, "", false, false, false, 0),
         Command::Server => (Verb::Server, "", false, false, false, 0),
     }
-}
-
-/// Returns the lines that a command names.
-fn lines_of(command: &Command) -> &[LineRange] {
-    match command {
-        Command::Fmt(Fmt::Part { lines, .. }) => lines.as_slice(),
-        _ => &[],
-    }
-}
-
-/// Returns whether these are the ranges.
-fn are_lines(found: &[LineRange], wanted: &[[usize; 2]]) -> bool {
-    found.len() == wanted.len()
-        && found.iter().zip(wanted).all(|(range, ends)| range.first == ends[0]
-            && range.last == ends[1])
 }
 
 /// Returns whether the result is as expected.
@@ -432,17 +365,6 @@ fn is_found(parsed: &Result<Request, Usage>, wanted: Wanted) -> bool {
                 && diffs == diff
                 && others == more
                 && is_text(&request.config, config)
-                && lines_of(&request.command).is_empty()
-        }
-        (Ok(request), Wanted::Lines(verb, lines, file, write, check, diff)) => {
-            let (is_verb, name, writes, checks, diffs, others) = shape(&request.command);
-            is_verb == verb
-                && name == file
-                && writes == write
-                && checks == check
-                && diffs == diff
-                && others == 0
-                && are_lines(lines_of(&request.command), lines)
         }
         (Err(Usage::Wrong(_)), Wanted::Wrong) => true,
         (Err(Usage::Wrong(text)), Wanted::Refused(wanted)) => text.as_str() == wanted,

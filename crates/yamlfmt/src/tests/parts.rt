@@ -1,5 +1,7 @@
 //! What `fmt --lines` shows of a text, and what it writes to a file.
 
+use crate::tests::answer::answers_line;
+use crate::tests::answer_rows::{BEFORE, Row as AnswerRow};
 use crate::tests::answers::answer_to_task;
 use std::alloc::{AllocError, Global};
 use yf_files::{FileSystem, MemoryFiles};
@@ -223,4 +225,75 @@ fn writes_lines_formatted(rt: HostRuntime) {
     let fifth = LineRange { first: 5, last: 5 };
     assert!(rt; is_written(rt.alloc(), fourth, "---\na:  1\nb: 2\nc: 3\nd: 4\ne:  5\n"));
     assert!(rt; is_written(rt.alloc(), fifth, THREE));
+}
+
+/// Command lines, and the results of the whole program.
+static ANSWERS: [AnswerRow; 11] = [
+    ("fmt --lines 1", 0, "---\n- \"a\"\n", "", "- ", BEFORE),
+    ("fmt --lines 2", 0, "- 'a'\n", "", "- ", BEFORE),
+    (
+        "fmt --lines 1 --write b.yaml",
+        0,
+        "",
+        "",
+        "",
+        "---\n- \"a\"\n",
+    ),
+    ("fmt --lines 2 --write b.yaml", 0, "", "", "", BEFORE),
+    (
+        "fmt --lines 1 --write none.yaml",
+        3,
+        "",
+        "read failed\n",
+        "",
+        BEFORE,
+    ),
+    (
+        "fmt --lines 2 --check a.yaml",
+        1,
+        "2:8 not formatted\n",
+        "",
+        "a.yaml ",
+        BEFORE,
+    ),
+    ("fmt --lines 1 --check a.yaml", 0, "", "", "a.yaml ", BEFORE),
+    (
+        "fmt --lines 2 --diff a.yaml",
+        1,
+        "--- a.yaml\n+++ a.yaml\n@@ -1,2 +1,2 @@\n ---\n-a: \"x\" # c\n+a: \"x\"  # c\n",
+        "",
+        "a.yaml ",
+        BEFORE,
+    ),
+    (
+        "fmt --lines 1 refused.yaml",
+        2,
+        "",
+        "2:6 refused: unknown-alias\n",
+        "refused.yaml ",
+        BEFORE,
+    ),
+    (
+        "fmt --lines 1 none.yaml",
+        3,
+        "",
+        "read failed\n",
+        "none.yaml ",
+        BEFORE,
+    ),
+    (
+        "fmt --lines 1 --config none.toml a.yaml",
+        3,
+        "",
+        "read failed\n",
+        "none.toml ",
+        BEFORE,
+    ),
+];
+
+#[test]
+fn answers_command_lines_with_lines(rt: HostRuntime) {
+    for row in &ANSWERS {
+        assert!(rt; answers_line(rt.alloc(), row), "{}", row.0);
+    }
 }
