@@ -19,14 +19,15 @@ import subprocess
 import sys
 import tempfile
 
-SETTINGS = ('', 'document_start = "keep"\n', 'indent = 4\nmax_line = 120\n', 'document_start = "keep"\nseq_indent = false\ncomments = "block"\n')
+SETTINGS = ('', 'document_start = "keep"\n', 'indent = 4\nmax_line = 120\n',
+            'document_start = "keep"\nseq_indent = false\ncomments = "block"\n')
 LIMIT = 200_000
 
 
 def files():
-    """The YAML files below the usual folders, in an order that is always the same."""
+    """The YAML files below /usr and /opt, in an order that is always the same."""
     found = set()
-    for folder in ('/usr', '/opt', '/etc', '/var/lib', '/root'):
+    for folder in ('/usr', '/opt'):
         for ending in ('yaml', 'yml'):
             found.update(glob.glob(folder + '/**/*.' + ending, recursive=True))
     found = sorted(path for path in found if os.path.isfile(path) and os.path.getsize(path) < LIMIT)
@@ -57,7 +58,7 @@ def changed(old, new):
 
 
 def one(program, config, path):
-    """What one file gives: lines changed, lines that the whole formatting changes, and whether they are the same text."""
+    """How many lines change, how many the whole formatting changes, and whether the two texts are equal."""
     with open(path, 'rb') as file:
         text = file.read()
     if b'\r' in text:

@@ -169,7 +169,8 @@ def make(room, text, clone):
             and read(room + '/a b.yaml') == GOOD and lost.returncode)
 
 
-TOOLS = {'folder': ('git', folder), 'changed': ('git', changed), 'changed-lines': ('git', changed_lines.changed_lines), 'make': ('make', make), 'git': ('git', git),
+TOOLS = {'folder': ('git', folder), 'changed': ('git', changed),
+         'changed-lines': ('git', changed_lines.changed_lines), 'make': ('make', make), 'git': ('git', git),
          'git-templates': ('git', git_templates), 'pre-commit-skip': ('pre-commit', pre_commit_skip),
          'pre-commit': ('pre-commit', pre_commit), 'pre-commit-package': ('pre-commit', pre_commit_package),
          'pre-commit-templates': ('pre-commit', pre_commit_templates), 'long-lines': ('git', long_lines),
@@ -337,7 +338,8 @@ def main():
     with tempfile.TemporaryDirectory() as clone:
         with_hooks(clone, program)
         failed += sum(not is_good(name, text, clone, program) for name, text in recipes(clone).items())
-        failed += sum(not is_gone(tried, clone) for tried in [*faults.EACH, *left.EACH, *builds.EACH, *changed_lines.EACH])
+        tests = [*faults.EACH, *left.EACH, *builds.EACH, *changed_lines.EACH]
+        failed += sum(not is_gone(tried, clone) for tried in tests)
     good = all([*style_rows(program)])
     print('docs/STYLE.md: %s' % ('tried' if good else 'FAILED'))
     failed += not good
