@@ -1,15 +1,17 @@
 #!/usr/bin/env python3
-"""Writes docs/proving/EDITS.md: which promise each must-fail edit shows, and what holds the promises without an edit.
+"""Prints which promise each must-fail edit shows, and what holds the promises without an edit.
 
-Usage: bench/edits.py [--check]
+Usage: bench/edits.py [--check] [CRATE..]
 
-An edit, crates/NAME/must-fail/*.edit, has one line `# promise: TEXT`. Edits with one text share an item of the page.
+It prints the list of these crates, or of all crates, as Markdown. With --check it prints only what is wrong.
+
+An edit, crates/NAME/must-fail/*.edit, has one line `# promise: TEXT`. Edits with one text share an item of the list.
 The promises without an edit are in docs/proving/promises.txt, a line each: crate, promise and what holds it, with tabs
 between. What holds it names files or tests of yamlfmt in backticks; or it is `-` if there is nothing to hold; or it is
 as `EDIT`, for an edit of the crate that breaks the same clause; or as `EDIT` of CRATE, for an edit of another crate
 that breaks a clause which rests on this one.
 
-With --check it writes nothing, and fails if the page differs. With or without, it fails if
+With or without --check, it fails if
 
 - an edit has no promise or two, or its `old:` text is not in its file exactly once;
 - a promise names a function in backticks that its crate doesn't have;
@@ -25,12 +27,9 @@ import sys
 import textwrap
 
 TOP = os.path.dirname(os.path.dirname(os.path.abspath(__file__)))
-PAGE = 'docs/proving/EDITS.md'
 PROMISES = 'docs/proving/promises.txt'
 PROMISE = '# promise: '
 HEAD = '''# Which edit shows which promise
-
-Made by `bench/edits.py` from the edits and from `promises.txt`; `bench/edits.py --check` fails if this page differs.
 
 Each item is a promise, and after it the edits that break it. An edit's name is the function and what is wrong with it;
 the promise is that function's, if it names no other. One edit stands for a family of promises whose clauses have one
@@ -41,7 +40,7 @@ a promise has no edit, the item says why:
   clause of this crate refused it, and the clause that the named edit breaks rests on that one.
 - *by* tests or files: they hold the promise.
 
-[COST](COST.md#edits) says how to write an edit, and what it costs.
+docs/proving/COST.md says how to write an edit, and what it costs.
 '''
 
 
@@ -162,8 +161,8 @@ def items(found, without):
     return shown
 
 
-def page(wrong):
-    """The page. What is wrong is added to the list."""
+def page(wrong, asked):
+    """The list for the crates that are asked for. All crates are looked at, and what is wrong is added to the list."""
     lines = [HEAD]
     without = others(wrong)
     names = crates()
@@ -176,21 +175,19 @@ def page(wrong):
             wrong.append(f'{crate} has neither an edit nor a line in {PROMISES}')
         for promise in promises:
             wrong.extend(unknown(crate, promise, text))
-        lines += [f'## {crate}', '', *items(found, rest), '']
+        if crate in asked or not asked:
+            lines += [f'## {crate}', '', *items(found, rest), '']
     return '\n'.join(lines[:-1]) + '\n'
 
 
 def main():
-    if sys.argv[1:] not in ([], ['--check']):
+    asked = [word for word in sys.argv[1:] if word != '--check']
+    if not set(asked) <= set(crates()):
         sys.exit(__doc__)
     wrong = []
-    made = page(wrong)
-    where = os.path.join(TOP, PAGE)
-    if not sys.argv[1:]:
-        with open(where, 'w', encoding='utf-8') as file:
-            file.write(made)
-    elif not os.path.exists(where) or read(PAGE) != made:
-        wrong.append(f'{PAGE} differs from the edits: run bench/edits.py')
+    made = page(wrong, asked)
+    if '--check' not in sys.argv[1:]:
+        print(made, end='')
     for line in wrong:
         print(f'edits.py: {line}', file=sys.stderr)
     sys.exit(bool(wrong))

@@ -19,7 +19,7 @@ import signal
 import sys
 
 TOP = os.path.dirname(os.path.dirname(os.path.abspath(__file__)))
-MADE = ('docs/STANDARD.md', 'docs/PROVED_TABLES.md', 'docs/proving/EDITS.md')
+MADE = ('docs/STANDARD.md', 'docs/PROVED_TABLES.md')
 FILE = re.compile(r'[\w.*{}-]+(/[\w.*{},-]+)+/?|[\w*-]+\.(rt|antt|py|md|txt|edit)')
 ITEM = re.compile(r'[A-Za-z]\w*(::\w+)*')
 # In names, a part in capitals means any word: ID_mended, vVERSION.

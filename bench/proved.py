@@ -21,7 +21,7 @@ PAGE = 'docs/PROVED_TABLES.md'
 HEAD = '''# Proved, crate by crate
 
 Made by `bench/proved.py` from the sources; `bench/proved.py --check` fails if this page differs. [PROVED](PROVED.md)
-explains what is proved of the whole program, and [EDITS](proving/EDITS.md) lists the must-fail edits.
+explains what is proved of the whole program, and `bench/edits.py` lists the must-fail edits.
 
 After a crate's name are the numbers of its functions, of those with a contract, and of its must-fail edits. Every
 function is proved safe and terminating. Below are the calls that users of the crates begin with: the clauses that have
