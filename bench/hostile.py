@@ -24,8 +24,11 @@ TOP = os.path.dirname(os.path.dirname(os.path.abspath(__file__)))
 # `explain` is `check --explain`: all explanations of refusals and findings. `block` is `fmt` with `comments = "block"`.
 VERBS = ('events', 'check', 'explain', 'fmt', 'block')
 
-# Bytes of memory per byte of input.
-LIMIT = {'events': 150, 'check': 250, 'explain': 1000, 'fmt': 1000, 'block': 1000}
+# Bytes of memory per byte of input. `lines` is `fmt --lines`, only for the shapes in LINES.
+LIMIT = {'events': 150, 'check': 250, 'explain': 1000, 'fmt': 1000, 'block': 1000, 'lines': 1000}
+
+# The shapes that are made for `fmt --lines`, with the lines that are asked for.
+LINES = {}
 
 # The shapes for which `fmt` writes much more than it reads, with the bytes that it writes per byte of input. It holds all
 # of them before it writes the first, and twice as many while their buffer grows. It may use that memory beside LIMIT.
@@ -45,6 +48,12 @@ def shape(name, make, written=0):
     SHAPES[name] = make
     if written:
         WRITTEN[name] = written
+
+
+def lines_shape(name, make, lines):
+    """A shape for `fmt --lines`."""
+    shape(name, make)
+    LINES[name] = lines
 
 
 def limit(name, verb):
@@ -316,11 +325,21 @@ repeated('refused-open-tag', 'a', '!<')
 repeated('refused-after-documents', '---\na\n', '', 'a: b: c')
 repeated('refused-after-literal', ' a\n', '|\n', 'b: c: d\n@')
 
+# Lines to format. All lines are one hunk; each hunk is one line; one hunk is almost the whole text; and no hunk can be
+# applied without all others, so their number is doubled until all are.
+lines_shape('lines-all', lambda n: '---\n' + '-  a\n' * (n // 5), '1-1000000000')
+lines_shape('lines-alternate', lambda n: '---\n' + '-  a\n- b\n' * (n // 9), '1-1000000000')
+lines_shape('lines-many-ranges', lambda n: '---\n' + '-  a\n- b\n' * (n // 9), ','.join(str(2 + 4 * k) for k in range(10000)))
+lines_shape('lines-one-hunk', lambda n: '---\nk: |\n' + '   a\n' * (n // 5), '3')
+lines_shape('lines-that-grow', lambda n: '---\nk: |\n' + '   a\n\n' * (n // 6), '3')
 
-def command(program, verb, path):
+
+def command(program, verb, path, lines):
     """The arguments of a command; the settings of the last one are in a file beside the text."""
     if verb == 'explain':
         return [program, 'check', '--explain']
+    if verb == 'lines':
+        return [program, 'fmt', '--lines', lines]
     if verb != 'block':
         return [program, verb]
     config = path + '.toml'
@@ -330,10 +349,10 @@ def command(program, verb, path):
     return [program, 'fmt', '--config', config]
 
 
-def run(program, verb, path):
+def run(program, verb, path, lines=None):
     """Processor seconds, peak of resident memory in bytes, and the status (None if the run took too long)."""
     with open(path, 'rb') as source:
-        child = subprocess.Popen(command(program, verb, path), stdin=source, stdout=subprocess.DEVNULL, stderr=subprocess.DEVNULL)
+        child = subprocess.Popen(command(program, verb, path, lines), stdin=source, stdout=subprocess.DEVNULL, stderr=subprocess.DEVNULL)
         deadline = time.monotonic() + 120
         while True:
             pid, status, usage = os.wait4(child.pid, os.WNOHANG)
@@ -350,6 +369,7 @@ class Measure:
     def __init__(self, program, folder):
         self.program, self.folder = program, folder
         self.faults, self.rows = [], []
+        self.lines = None
         self.base = 0
         self.base = self.at(lambda n: '', 'events', 0)[1]
 
@@ -359,7 +379,7 @@ class Measure:
         with open(path, 'wb') as out:
             out.write(make(size).encode())
         size = os.path.getsize(path)
-        seconds, memory, status = min(run(self.program, verb, path) for _ in range(times))
+        seconds, memory, status = min(run(self.program, verb, path, self.lines) for _ in range(times))
         return seconds, memory - self.base, status, size
 
     def start(self, make, verb):
@@ -377,6 +397,7 @@ class Measure:
 
     def verb(self, name, verb):
         make = SHAPES[name]
+        self.lines = LINES.get(name)
         size = self.start(make, verb)
         for times in (1, 3):
             one, two, (seconds, memory, status, length) = self.grows(make, verb, size, times)
@@ -399,8 +420,10 @@ class Measure:
 
 def report(rows):
     """The shapes that take most for each command."""
-    for verb in VERBS:
+    for verb in VERBS + ('lines',):
         mine = [row for row in rows if row[1] == verb]
+        if not mine:
+            continue
         slow = max(mine, key=lambda row: row[3] / row[2])
         wide = sorted(mine, key=lambda row: -row[5])[:5]
         print('%s: slowest %s with %.2f s per MB; most memory %s' % (verb, slow[0], slow[3] / slow[2] * (1 << 20),
@@ -423,7 +446,7 @@ def main():
     with tempfile.TemporaryDirectory() as folder:
         measure = Measure(program, folder)
         for name in words or SHAPES:
-            for verb in VERBS:
+            for verb in VERBS + (('lines',) if name in LINES else ()):
                 measure.verb(name, verb)
     report(measure.rows)
     if measure.faults:

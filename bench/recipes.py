@@ -1,7 +1,8 @@
 #!/usr/bin/env python3
 """Runs each recipe of docs/RECIPES.md as it is written, in a scratch folder, if its tool is installed. Then it tests:
 
-- old faults of the hooks (bench/faults.py), what they leave alone (bench/left.py), how they build (bench/builds.py);
+- old faults of the hooks (bench/faults.py), what they leave alone (bench/left.py), how they build (bench/builds.py),
+  and the lines that differ from a commit (bench/changed.py);
 - the examples of README.md and docs/STYLE.md;
 - whether `--version` prints the newest version of CHANGELOG.md, and the logic of README.md, docs/PROVED.md and
   `rt version`;
@@ -30,6 +31,7 @@ import sys
 import tempfile
 
 import builds
+import changed as changed_lines
 import editors
 import faults
 import left
@@ -167,7 +169,8 @@ def make(room, text, clone):
             and read(room + '/a b.yaml') == GOOD and lost.returncode)
 
 
-TOOLS = {'folder': ('git', folder), 'changed': ('git', changed), 'make': ('make', make), 'git': ('git', git),
+TOOLS = {'folder': ('git', folder), 'changed': ('git', changed),
+         'changed-lines': ('git', changed_lines.changed_lines), 'make': ('make', make), 'git': ('git', git),
          'git-templates': ('git', git_templates), 'pre-commit-skip': ('pre-commit', pre_commit_skip),
          'pre-commit': ('pre-commit', pre_commit), 'pre-commit-package': ('pre-commit', pre_commit_package),
          'pre-commit-templates': ('pre-commit', pre_commit_templates), 'long-lines': ('git', long_lines),
@@ -335,7 +338,8 @@ def main():
     with tempfile.TemporaryDirectory() as clone:
         with_hooks(clone, program)
         failed += sum(not is_good(name, text, clone, program) for name, text in recipes(clone).items())
-        failed += sum(not is_gone(tried, clone) for tried in [*faults.EACH, *left.EACH, *builds.EACH])
+        tests = [*faults.EACH, *left.EACH, *builds.EACH, *changed_lines.EACH]
+        failed += sum(not is_gone(tried, clone) for tried in tests)
     good = all([*style_rows(program)])
     print('docs/STYLE.md: %s' % ('tried' if good else 'FAILED'))
     failed += not good

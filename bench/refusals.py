@@ -213,7 +213,7 @@ def main():
     with tempfile.TemporaryDirectory() as folder:
         runs = Runs(program, folder)
         for stream in STREAMS:
-            for words in (['events'], ['check'], ['fmt'], ['fmt', '--diff']):
+            for words in (['events'], ['check'], ['fmt'], ['fmt', '--diff'], ['fmt', '--lines', '1,3']):
                 runs.in_turn(words, stream.encode())
         for line in ('indent = 9\n', 'indent = 4\n', 'tabs = 1\n'):
             write(os.path.join(folder, 's.toml'), line.encode())
@@ -232,7 +232,8 @@ def main():
         for words in (['check'], ['fmt', '--check'], ['fmt', '--write'], ['check', '--explain'], ['fmt', '--write', '--explain']):
             runs.several(words, several)
         runs.several(['check'], {'a.yaml': b'a:   1\n', 'b.yaml': b'a:   1\n'})
-        for words in (['events', 'a', 'b'], ['check', '--without', 'quotes'], ['fmt', '--write'], ['--help'], ['fmt', '--help']):
+        for words in (['events', 'a', 'b'], ['check', '--without', 'quotes'], ['fmt', '--write'], ['fmt', '--lines', '0'],
+                      ['--help'], ['fmt', '--help']):
             runs.in_turn(words, b'')
         rewrites(runs)
         devices(runs)

@@ -1,45 +1,33 @@
 -- Each line of words either asks for one request or is refused, and never both: `AsksFor` and `RefusesWords` are exact.
 -- The only refusal that is possible for any words is that of memory.
-use Rattle.std.proofs.Common.{◌≡◌, ◌≢◌, ◌⊎◌, ◌<◌, ◌||◌, ℕ, Bool, true, false, List, [], ◌∷◌, map, length, codes}
+use Rattle.std.proofs.Common.{◌≡◌, ◌≢◌, ◌⊎◌, ◌||◌, ℕ, Bool, true, false, List, [], ◌∷◌, map, codes}
 use Rattle.std.proofs.Common.{Vec, Some, None, refl, sym, ap, subst, ◌∙◌, inl, inr, arith}
 use Rattle.std.proofs.Common.{slice_index}
 use Rattle.std.proofs.lemmas.Bool.{false≢true}
 use Rattle.std.proofs.lemmas.Option.{same_Some}
 use Rattle.std.proofs.lemmas.Slice.Eq.{bytes_eq-Decides}
-use Rattle.std.specs.List.{list_any}
 use Rattle.std.specs.Str.{bytes_eq}
 use Rattle.std.specs.declared.alloc.Global.{Global}
 use Rattle.clap.specs.Words.{IsAmong, Row, Text, fault_of, first_of, matches_of, subcommand_of}
 use Rattle.clap.specs.declared.error.kind.ErrorKind.{ErrorKind}
 use Rattle.clap.specs.declared.error.kind.ErrorKind.TheVariants.{DisplayHelp, DisplayVersion}
+use Rattle.yf_line_ranges.specs.declared.range.LineRange.{LineRange}
 use Rattle.yf_command_line.specs.Options.{yamlfmt}
-use Rattle.yf_command_line.specs.Requests.{AsksFor, AsksText, IsCommand, IsFmt, IsNoCommand, IsNoFmt, IsNoRequest}
-use Rattle.yf_command_line.specs.Requests.{IsRequest, Met, RefusesWords, all_files, all_inputs, checks, diffs}
-use Rattle.yf_command_line.specs.Requests.{files_given, first_input, input_of, inputs_of, is_flag, is_standard_input}
-use Rattle.yf_command_line.specs.Requests.{names_given, writes}
-use Rattle.yf_command_line.specs.Requests.IsNoFmt.{no_file, standard_input, written_and_checked}
-use Rattle.yf_command_line.specs.Requests.IsNoFmt.{written_and_compared, several_compared, several_printed}
+use Rattle.yf_command_line.specs.Requests.{AsksFor, AsksText, IsCommand, IsNoCommand, IsNoRequest, IsRequest, Met}
+use Rattle.yf_command_line.specs.Requests.{RefusesWords, all_inputs, files_given, first_input, input_of, inputs_of}
+use Rattle.yf_command_line.specs.Requests.{is_flag, names_given}
 use Rattle.yf_command_line.specs.Requests.IsNoCommand.{other_name, no_rule, no_fmt}
 use Rattle.yf_command_line.specs.Without.{are_rules}
 use Rattle.yf_command_line.specs.declared.command.Command.{Command}
 use Rattle.yf_command_line.specs.declared.command.Command.TheVariants as command
-use Rattle.yf_command_line.specs.declared.command.Fmt.{Fmt}
-use Rattle.yf_command_line.specs.declared.command.Fmt.TheVariants as fmt
 use Rattle.yf_command_line.specs.declared.command.Input.{Input}
 use Rattle.yf_command_line.specs.declared.command.Input.TheVariants.{Standard}
 use Rattle.yf_command_line.specs.declared.command.InputList.{InputList}
 use Rattle.yf_command_line.specs.declared.command.Request.{Request}
 use Rattle.yf_command_line.specs.declared.usage.Usage.TheVariants.{Help, Wrong}
+use Rattle.yf_command_line.proofs.FmtExactness.{SameFmt, fmt_not_both, fmt_once, fmt_or_not}
 
 -- ---- at most one request
-
--- The two are equal, except for the capacity of their vectors.
-abbrev pub SameFmt : Fmt → Fmt → Type 0
-SameFmt (fmt.Print a) (fmt.Print b) = a ≡ b
-SameFmt (fmt.Check a) (fmt.Check b) = all_inputs a ≡ all_inputs b
-SameFmt (fmt.Diff a) (fmt.Diff b) = a ≡ b
-SameFmt (fmt.Write a) (fmt.Write b) = all_files a ≡ all_files b
-SameFmt _ _ = ⊥
 
 -- The two are equal, except for the capacity of their vectors.
 abbrev pub SameCommand : Command → Command → Type 0
@@ -48,24 +36,6 @@ SameCommand (command.Check a v) (command.Check b w) = (all_inputs a ≡ all_inpu
 SameCommand (command.Fmt a) (command.Fmt b) = SameFmt a b
 SameCommand command.Server command.Server = Unit {0}
 SameCommand _ _ = ⊥
-
-fmt_once : (given : List Row) (a b : Fmt) → IsFmt given a → IsFmt given b → SameFmt a b
-fmt_once given (fmt.Print a) (fmt.Print b) p q = cc
-fmt_once given (fmt.Check a) (fmt.Check b) p q = cc
-fmt_once given (fmt.Diff a) (fmt.Diff b) p q = cc
-fmt_once given (fmt.Write a) (fmt.Write b) p q = cc
-fmt_once given (fmt.Print a) (fmt.Check b) p q = cc
-fmt_once given (fmt.Print a) (fmt.Diff b) p q = cc
-fmt_once given (fmt.Print a) (fmt.Write b) p q = cc
-fmt_once given (fmt.Check a) (fmt.Print b) p q = cc
-fmt_once given (fmt.Check a) (fmt.Diff b) p q = cc
-fmt_once given (fmt.Check a) (fmt.Write b) p q = cc
-fmt_once given (fmt.Diff a) (fmt.Print b) p q = cc
-fmt_once given (fmt.Diff a) (fmt.Check b) p q = cc
-fmt_once given (fmt.Diff a) (fmt.Write b) p q = cc
-fmt_once given (fmt.Write a) (fmt.Print b) p q = cc
-fmt_once given (fmt.Write a) (fmt.Check b) p q = cc
-fmt_once given (fmt.Write a) (fmt.Diff b) p q = cc
 
 -- Two texts differ if they differ at an index.
 other_at : (k : ℕ) (a b : Text) → slice_index a k ≢ slice_index b k → a ≢ b
@@ -103,38 +73,6 @@ command_once rules name given command.Server (command.Check b w) p q = absurd (o
 command_once rules name given command.Server (command.Fmt b) p q = absurd (other_names.5 (sym q.0 ∙ p))
 
 -- ---- not both
-
--- With several FILEs there is more than one input.
-several : (files : List Text) (input : Input) → inputs_of files ≡ input ∷ [] → 1 < length files → ⊥
-several [] input one more = omega arith
-several (file ∷ []) input one more = omega arith
-several (file ∷ next ∷ rest) input one more = cc
-
-fmt_not_both : (given : List Row) (a : Fmt) → IsFmt given a → IsNoFmt given → ⊥
-fmt_not_both given (fmt.Print a) p (no_file w e) = cc
-fmt_not_both given (fmt.Print a) p (standard_input w e) = cc
-fmt_not_both given (fmt.Print a) p (written_and_checked w e) = cc
-fmt_not_both given (fmt.Print a) p (written_and_compared w e) = cc
-fmt_not_both given (fmt.Print a) p (several_compared d m) = cc
-fmt_not_both given (fmt.Print a) p (several_printed w c m) = several (files_given given) a p.3 m
-fmt_not_both given (fmt.Check a) p (no_file w e) = cc
-fmt_not_both given (fmt.Check a) p (standard_input w e) = cc
-fmt_not_both given (fmt.Check a) p (written_and_checked w e) = cc
-fmt_not_both given (fmt.Check a) p (written_and_compared w e) = cc
-fmt_not_both given (fmt.Check a) p (several_compared d m) = cc
-fmt_not_both given (fmt.Check a) p (several_printed w c m) = cc
-fmt_not_both given (fmt.Diff a) p (no_file w e) = cc
-fmt_not_both given (fmt.Diff a) p (standard_input w e) = cc
-fmt_not_both given (fmt.Diff a) p (written_and_checked w e) = cc
-fmt_not_both given (fmt.Diff a) p (written_and_compared w e) = cc
-fmt_not_both given (fmt.Diff a) p (several_compared d m) = several (files_given given) a p.2 m
-fmt_not_both given (fmt.Diff a) p (several_printed w c m) = several (files_given given) a p.2 m
-fmt_not_both given (fmt.Write a) p (no_file w e) = cc
-fmt_not_both given (fmt.Write a) p (standard_input w e) = cc
-fmt_not_both given (fmt.Write a) p (written_and_checked w e) = cc
-fmt_not_both given (fmt.Write a) p (written_and_compared w e) = cc
-fmt_not_both given (fmt.Write a) p (several_compared d m) = cc
-fmt_not_both given (fmt.Write a) p (several_printed w c m) = cc
 
 command_not_both : (rules : List Text) (name : Text) (given : List Row) (a : Command)
     → IsCommand rules name given a → IsNoCommand rules name given → ⊥
@@ -191,45 +129,11 @@ not_refused rules words a text p (inl (inl w)) = none_among w.0 _ p.0 w.2
 not_refused rules words a text p (inl (inr w)) = met_not_both rules _ _ a p.1 w.1
 not_refused rules words a text p (inr w) = none_among w.0 _ p.0 w.2
 
--- ---- at least one of the two. The proof assumes only that a vector with given items exists.
+-- ---- at least one of the two. The proof assumes only that vectors with given items exist.
 
 module _ (inputs : List Input → Vec Input Global) (inputs_are : (l : List Input) → (inputs l).items ≡ l)
-    (texts : List Text → Vec Text Global) (texts_are : (l : List Text) → (texts l).items ≡ l) where
-  fmt_by : (given : List Row) (w c d s : Bool) (files : List Text) → writes given ≡ w → checks given ≡ c
-      → diffs given ≡ d → list_any is_standard_input (files_given given) ≡ s → files_given given ≡ files
-      → ((a : Fmt) × IsFmt given a) ⊎ IsNoFmt given
-  fmt_by given true c d s [] ew ec ed es ef = inr (no_file ew ef)
-  fmt_by given true c d true (f ∷ fs) ew ec ed es ef = inr (standard_input ew es)
-  fmt_by given true true d false (f ∷ fs) ew ec ed es ef = inr (written_and_checked ew ec)
-  fmt_by given true false true false (f ∷ fs) ew ec ed es ef = inr (written_and_compared ew ed)
-  fmt_by given true false false false (f ∷ fs) ew ec ed es ef =
-      inl (
-        fmt.Write (record { first = f; rest = texts fs }),
-        (ew, ec, ed, ef ∙ ap (λ l. f ∷ l) (sym (texts_are fs)), es),
-      )
-  fmt_by given false c true s [] ew ec ed es ef = inl (fmt.Diff Standard, (ew, ed, ap inputs_of ef))
-  fmt_by given false c true s (f ∷ []) ew ec ed es ef = inl (fmt.Diff (input_of f), (ew, ed, ap inputs_of ef))
-  fmt_by given false c true s (f ∷ g ∷ fs) ew ec ed es ef =
-      inr (several_compared ed (subst (λ (l : List Text). 1 < length l) (sym ef) (omega arith)))
-  fmt_by given false true false s [] ew ec ed es ef =
-      inl (
-        fmt.Check (record { first = Standard; rest = inputs [] }),
-        (ew, ec, ed, ap inputs_of ef ∙ ap (λ l. Standard ∷ l) (sym (inputs_are []))),
-      )
-  fmt_by given false true false s (f ∷ fs) ew ec ed es ef =
-      inl (
-        fmt.Check (record { first = input_of f; rest = inputs (map input_of fs) }),
-        (ew, ec, ed, ap inputs_of ef ∙ ap (λ l. input_of f ∷ l) (sym (inputs_are (map input_of fs)))),
-      )
-  fmt_by given false false false s [] ew ec ed es ef = inl (fmt.Print Standard, (ew, ec, ed, ap inputs_of ef))
-  fmt_by given false false false s (f ∷ []) ew ec ed es ef =
-      inl (fmt.Print (input_of f), (ew, ec, ed, ap inputs_of ef))
-  fmt_by given false false false s (f ∷ g ∷ fs) ew ec ed es ef =
-      inr (several_printed ew ec (subst (λ (l : List Text). 1 < length l) (sym ef) (omega arith)))
-
-  fmt_or_not : (given : List Row) → ((a : Fmt) × IsFmt given a) ⊎ IsNoFmt given
-  fmt_or_not given = fmt_by given _ _ _ _ _ refl refl refl refl refl
-
+    (texts : List Text → Vec Text Global) (texts_are : (l : List Text) → (texts l).items ≡ l)
+    (ranges : List LineRange → Vec LineRange Global) (ranges_are : (l : List LineRange) → (ranges l).items ≡ l) where
   check_inputs : (files : List Text) → (list : InputList) × (inputs_of files ≡ all_inputs list)
   check_inputs [] = (record { first = Standard; rest = inputs [] }, ap (λ l. Standard ∷ l) (sym (inputs_are [])))
   check_inputs (f ∷ fs) = (
@@ -253,7 +157,10 @@ module _ (inputs : List Input → Vec Input Global) (inputs_are : (l : List Inpu
       inr (no_rule ((bytes_eq-Decides name (codes "check")).0 pc) pr)
   command_by rules name given false false true s r pe pc pf ps pr =
       let named : name ≡ codes "fmt" = (bytes_eq-Decides name (codes "fmt")).0 pf in
-      elim (fmt_or_not given) [ inl a ↦ inl (command.Fmt a.0, (named, a.1)) | inr no_way ↦ inr (no_fmt named no_way) ]
+      elim (fmt_or_not inputs inputs_are texts texts_are ranges ranges_are given) [
+        | inl a ↦ inl (command.Fmt a.0, (named, a.1))
+        | inr no_way ↦ inr (no_fmt named no_way)
+      ]
   command_by rules name given false false false true r pe pc pf ps pr =
       inl (command.Server, (bytes_eq-Decides name (codes "server")).0 ps)
   command_by rules name given false false false false r pe pc pf ps pr =

@@ -1,10 +1,11 @@
 -- The lemmas, each group under the functions that it serves.
 
--- `parse_line`
+-- `parse_line`, `lines_met`
 pub mod RequestLemmas
--- `names_in`, `add_names`, `is_rule`, `has_standard_input`
+-- `names_in`, `add_names`, `is_rule`, `has_standard_input`, `lines_met`
 pub mod WordLemmas
 -- `write_shown`
 pub mod ShownLemmas
 -- `AsksFor` and `RefusesWords`: each line of words asks for one request or is refused
+pub mod FmtExactness
 pub mod Exactness

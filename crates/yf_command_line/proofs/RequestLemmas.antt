@@ -1,5 +1,6 @@
 -- The program's command is one for which the library gives the matches exactly.
 use Rattle.std.proofs.Common.{◌≡◌, ◌⊎◌, true, List, [], Result, Ok, Err, MatchResult, refl, subst, inl, inr}
+use Rattle.std.specs.Prelude.{⊤}
 use Rattle.clap.specs.Words.{Row, Text, fault_of, is_simple, is_simple_and_free, matches_of, subcommand_of, IsAmong}
 use Rattle.clap.specs.declared.error.kind.ErrorKind.{ErrorKind}
 use Rattle.clap.specs.declared.error.kind.ErrorKind.TheVariants.{OutOfMemory}
@@ -41,3 +42,9 @@ refused rules kind words (Help text) (inr among) a = (kind, a, among)
 refused rules kind words (Wrong text) (inl e) a = absurd (a.1 e)
 refused rules kind words (Wrong text) (inr among) a = inl (kind, a.0, among)
 refused rules kind words Memory among a = tt
+
+-- A refusal without a cause is also one by any cause that holds.
+pub refused_for : {cause : Type 0} (usage : Usage) → RefusedBy ⊤ usage → cause → RefusedBy cause usage
+refused_for (Help text) none cause = absurd none
+refused_for (Wrong text) none cause = cause
+refused_for Memory none cause = tt

@@ -6,7 +6,6 @@ use Rattle.std.proofs.lemmas.List.{append_assoc, length-map}
 use Rattle.std.proofs.lemmas.List.Folds.{list_any_at}
 use Rattle.std.specs.Borrow.{Bor}
 use Rattle.std.specs.List.{flat_map, list_any}
-use Rattle.yf_command_line.specs.Without.{between_commas}
 
 -- The texts of some words.
 abbrev pub texts : List (Bor (List ℕ)) → List (List ℕ)
@@ -41,12 +40,12 @@ one_more_text words k d copied more whole text within pushed same left =
     ap (λ x. x ++ rest) pushed ∙ (append_assoc copied (text ∷ []) rest
     ∙ (ap (λ x. copied ++ x) (sym (next_word words k d text within same)) ∙ left))
 
--- The names of one more of the words are added.
-pub one_more_word : (words : List (Bor (List ℕ))) (k : ℕ) (d : Bor (List ℕ)) (names more whole : List (List ℕ))
-    (word : List ℕ) → k < length words → more ≡ names ++ between_commas word → word ≡ (get_or words k d).now
-    → names ++ flat_map between_commas (drop k (texts words)) ≡ whole
-    → more ++ flat_map between_commas (drop (k + 1) (texts words)) ≡ whole
-one_more_word words k d names more whole word within added same left =
-    let rest : List (List ℕ) = flat_map between_commas (drop (k + 1) (texts words)) in
-    ap (λ x. x ++ rest) added ∙ (append_assoc names (between_commas word) rest
-    ∙ (ap (λ x. names ++ flat_map between_commas x) (sym (next_word words k d word within same)) ∙ left))
+-- The items of one more word are added.
+pub one_more_word : {X : Type 0} (f : List ℕ → List X) (words : List (Bor (List ℕ))) (k : ℕ) (d : Bor (List ℕ))
+    (given more whole : List X) (word : List ℕ) → k < length words → more ≡ given ++ f word
+    → word ≡ (get_or words k d).now → given ++ flat_map f (drop k (texts words)) ≡ whole
+    → more ++ flat_map f (drop (k + 1) (texts words)) ≡ whole
+one_more_word {X = X} f words k d given more whole word within added same left =
+    let rest : List X = flat_map f (drop (k + 1) (texts words)) in
+    ap (λ x. x ++ rest) added ∙ (append_assoc given (f word) rest
+    ∙ (ap (λ x. given ++ flat_map f x) (sym (next_word words k d word within same)) ∙ left))

@@ -3,5 +3,6 @@ pub mod Options
 -- the request that the words ask for, and when they are refused
 pub mod Requests
 pub mod Without
+pub mod Lines
 -- how a word is shown in a message
 pub mod Shown

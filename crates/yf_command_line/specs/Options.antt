@@ -33,6 +33,10 @@ abbrev pub without_option : Rule
 without_option =
     record (new_rule (codes "without")) { long = Some (codes "without"); value_names = 1; action = Some Append }
 
+-- `--lines LINES`
+abbrev pub lines_option : Rule
+lines_option = record (new_rule (codes "lines")) { long = Some (codes "lines"); value_names = 1; action = Some Append }
+
 -- `--stdio`
 abbrev pub stdio_flag : Rule
 stdio_flag = record (new_rule (codes "stdio")) { long = Some (codes "stdio"); action = Some SetTrue }
@@ -57,10 +61,13 @@ reading_command name = with_rule (configured name) file_word
 abbrev pub checking_command : App
 checking_command = with_rule (with_rule (configured (codes "check")) without_option) file_words
 
--- `fmt [--config FILE] [--explain] [--write] [--check] [--diff] [FILE..]`
+-- `fmt [--config FILE] [--explain] [--write] [--check] [--diff]`
+abbrev pub formatting_command : App
+formatting_command = with_rule (with_rule (with_rule (configured (codes "fmt")) write_flag) check_flag) diff_flag
+
+-- `fmt [--config FILE] [--explain] [--write] [--check] [--diff] [--lines LINES] [FILE..]`
 abbrev pub writing_command : App
-writing_command =
-    with_rule (with_rule (with_rule (with_rule (configured (codes "fmt")) write_flag) check_flag) diff_flag) file_words
+writing_command = with_rule (with_rule formatting_command lines_option) file_words
 
 -- `server [--config FILE] [--stdio]`
 abbrev pub serving_command : App

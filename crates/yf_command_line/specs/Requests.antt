@@ -7,6 +7,7 @@ use Rattle.std.specs.List.{list_any}
 use Rattle.clap.specs.Words.{Row, Text, all_of, fault_of, first_of, matches_of, subcommand_of, IsAmong}
 use Rattle.clap.specs.declared.error.kind.ErrorKind.{ErrorKind}
 use Rattle.clap.specs.declared.error.kind.ErrorKind.TheVariants.{DisplayHelp, DisplayVersion, OutOfMemory}
+use Rattle.yf_command_line.specs.Lines.{are_lines, lines_in}
 use Rattle.yf_command_line.specs.Options.{yamlfmt}
 use Rattle.yf_command_line.specs.Without.{are_rules, names_in}
 use Rattle.yf_command_line.specs.declared.command.Command.{Command}
@@ -17,6 +18,8 @@ use Rattle.yf_command_line.specs.declared.command.Fmt.TheVariants as fmt
 use Rattle.yf_command_line.specs.declared.command.Input.{Input}
 use Rattle.yf_command_line.specs.declared.command.Input.TheVariants.{Standard, File}
 use Rattle.yf_command_line.specs.declared.command.InputList.{InputList}
+use Rattle.yf_command_line.specs.declared.command.Part.{Part}
+use Rattle.yf_command_line.specs.declared.command.Part.TheVariants as part
 use Rattle.yf_command_line.specs.declared.command.Request.{Request}
 use Rattle.yf_command_line.specs.declared.usage.Usage.{Usage}
 use Rattle.yf_command_line.specs.declared.usage.Usage.TheVariants.{Help, Wrong, Memory}
@@ -56,6 +59,10 @@ files_given given = all_given (codes "file") given
 abbrev pub names_given : List Row → List Text
 names_given given = names_in (all_given (codes "without") given)
 
+-- The words of `--lines`, in order.
+abbrev pub lines_given : List Row → List Text
+lines_given given = all_given (codes "lines") given
+
 -- ---- the inputs that FILEs name
 
 -- Whether a FILE is `-`, the word for standard input.
@@ -86,23 +93,46 @@ all_files files = files.first ∷ files.rest.items
 
 -- ---- the words of each command
 
+-- The task of `fmt --lines` for its text.
+abbrev pub DoesPart : List Row → Part → Type 0
+-- `fmt --lines LINES [FILE]`
+DoesPart given (part.Print input) =
+    (writes given ≡ false) × (checks given ≡ false) × (diffs given ≡ false)
+    × (inputs_of (files_given given) ≡ input ∷ [])
+-- `fmt --lines LINES --check [FILE]`
+DoesPart given (part.Check input) =
+    (writes given ≡ false) × (checks given ≡ true) × (diffs given ≡ false)
+    × (inputs_of (files_given given) ≡ input ∷ [])
+-- `fmt --lines LINES --diff [--check] [FILE]`
+DoesPart given (part.Diff input) =
+    (writes given ≡ false) × (diffs given ≡ true) × (inputs_of (files_given given) ≡ input ∷ [])
+-- `fmt --lines LINES --write FILE`, and the FILE is not `-`
+DoesPart given (part.Write file) =
+    (writes given ≡ true) × (checks given ≡ false) × (diffs given ≡ false)
+    × (files_given given ≡ file ∷ []) × (list_any is_standard_input (files_given given) ≡ false)
+
 -- The task of `fmt` with these rows.
 abbrev pub IsFmt : List Row → Fmt → Type 0
 -- `fmt [FILE]`
 IsFmt given (fmt.Print input) =
-    (writes given ≡ false) × (checks given ≡ false) × (diffs given ≡ false)
+    (lines_given given ≡ []) × (writes given ≡ false) × (checks given ≡ false) × (diffs given ≡ false)
     × (inputs_of (files_given given) ≡ input ∷ [])
 -- `fmt --check [FILE..]`
 IsFmt given (fmt.Check inputs) =
-    (writes given ≡ false) × (checks given ≡ true) × (diffs given ≡ false)
+    (lines_given given ≡ []) × (writes given ≡ false) × (checks given ≡ true) × (diffs given ≡ false)
     × (inputs_of (files_given given) ≡ all_inputs inputs)
 -- `fmt --diff [--check] [FILE]`
 IsFmt given (fmt.Diff input) =
-    (writes given ≡ false) × (diffs given ≡ true) × (inputs_of (files_given given) ≡ input ∷ [])
+    (lines_given given ≡ []) × (writes given ≡ false) × (diffs given ≡ true)
+    × (inputs_of (files_given given) ≡ input ∷ [])
 -- `fmt --write FILE..`, and no FILE is `-`
 IsFmt given (fmt.Write files) =
-    (writes given ≡ true) × (checks given ≡ false) × (diffs given ≡ false)
+    (lines_given given ≡ []) × (writes given ≡ true) × (checks given ≡ false) × (diffs given ≡ false)
     × (files_given given ≡ all_files files) × (list_any is_standard_input (files_given given) ≡ false)
+-- `fmt --lines LINES`, with further flags and at most one FILE
+IsFmt given (fmt.Part lines what) =
+    (lines_given given ≢ []) × (are_lines (lines_given given) ≡ true)
+    × (lines.items ≡ lines_in (lines_given given)) × DoesPart given what
 
 -- The command with this name and these rows. (rules: the names of all rules)
 abbrev pub IsCommand : List Text → Text → List Row → Command → Type 0
@@ -155,6 +185,10 @@ pub data IsNoFmt (given : List Row) : Type 0 where
   several_compared : diffs given ≡ true → 1 < length (files_given given) → IsNoFmt given
   -- several FILEs without a flag
   several_printed : writes given ≡ false → checks given ≡ false → 1 < length (files_given given) → IsNoFmt given
+  -- several FILEs with `--lines`
+  several_parts : lines_given given ≢ [] → 1 < length (files_given given) → IsNoFmt given
+  -- `--lines` with a word that is no range of lines, nor several with commas between
+  no_lines : are_lines (lines_given given) ≡ false → IsNoFmt given
 
 -- Why a name and the rows after it are not a command.
 pub data IsNoCommand (rules : List Text) (name : Text) (given : List Row) : Type 0 where

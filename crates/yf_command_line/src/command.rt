@@ -1,5 +1,6 @@
 //! The request of a command line. A combination that the command line refuses has no value here.
 
+use yf_line_ranges::range::LineRange;
 use yf_lines::text::OwnedText;
 
 /// The source of a text.
@@ -40,6 +41,26 @@ pub enum Fmt {
     Diff(Input),
     /// Writes the formatted text to the file that was read (`--write`).
     Write(FileList),
+    /// Formats only some lines (`--lines`).
+    Part {
+        /// The lines to format, in the order of the command line.
+        lines: Vec<LineRange>,
+        /// The text, and the task for it.
+        what: Part,
+    },
+}
+
+/// The task of `fmt --lines`.
+#[derive(Drop)]
+pub enum Part {
+    /// Prints the text with these lines formatted.
+    Print(Input),
+    /// Reports whether a line would change (`--check`).
+    Check(Input),
+    /// Prints how the text would change (`--diff`).
+    Diff(Input),
+    /// Writes the text to the file that was read (`--write`).
+    Write(OwnedText),
 }
 
 /// A command with its inputs.

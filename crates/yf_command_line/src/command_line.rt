@@ -1,14 +1,15 @@
 //! Parses the words of a command line into a request.
-ghost use Rattle.std.specs.Prelude.{◌≡◌, codes, map, MatchResult, string_bytes, true, false};
+ghost use Rattle.std.specs.Prelude.{◌≡◌, codes, map, MatchResult, string_bytes, true, false, []};
 ghost use Rattle.clap.specs.Words.{found_of, rows_of, subcommand_rows_of};
 ghost use Rattle.yf_command_line.specs.Requests.{AsksFor, IsCommand, IsFmt, IsNoCommand, IsNoFmt, IsNoRequest};
-ghost use Rattle.yf_command_line.specs.Requests.{IsRequest, RefusedBy, RefusesWords, writes};
+ghost use Rattle.yf_command_line.specs.Requests.{IsRequest, RefusedBy, RefusesWords, lines_given, writes};
 
 use crate::command::{Command, Fmt, Request};
 use crate::inputs::{files_of, first_input, has_standard_input, inputs_of};
 use crate::options::{
-    CHECK, CONFIG, DIFF, EVENTS, EXPLAIN, FILE, FMT, SERVER, WITHOUT, WRITE, yamlfmt_command,
+    CHECK, CONFIG, DIFF, EVENTS, EXPLAIN, FILE, FMT, LINES, SERVER, WITHOUT, WRITE, yamlfmt_command,
 };
+use crate::part::part_met;
 use crate::refused_words::{
     NO_COMMAND, NO_FILE, NO_STANDARD_INPUT, NOT_SHOWN, NOTHING_WRITTEN, SEVERAL_DIFFS,
     SEVERAL_FILES,
@@ -25,8 +26,10 @@ use std::alloc::Global;
 /// - `events [--config FILE] [--explain] [FILE]`
 /// - `check [--config FILE] [--explain] [--without RULES] [FILE..]`. RULES are names of rules, separated by commas. The
 ///   option may be given more than once.
-/// - `fmt [--config FILE] [--explain] [--write] [--check] [--diff] [FILE..]`. `--write` needs a FILE, and no FILE may
-///   be `-`. It excludes `--check` and `--diff`. Several FILEs need `--write`, or `--check` without `--diff`.
+/// - `fmt [--config FILE] [--explain] [--write] [--check] [--diff] [--lines LINES] [FILE..]`. `--write` needs a FILE,
+///   and no FILE may be `-`. It excludes `--check` and `--diff`. Several FILEs need `--write`, or `--check` without
+///   `--diff`. `--lines` takes at most one FILE. LINES are numbers of lines and ranges, as in `3-7,12`. The option may
+///   be given more than once.
 /// - `server [--config FILE] [--stdio]`. It always reads standard input, and `--stdio` changes nothing: editors pass it.
 ///
 /// A FILE `-` is standard input. Without a FILE a command reads standard input.
@@ -120,6 +123,18 @@ fn fmt_met(alloc: Global, given: &ArgMatches<'_>) -> Result<Fmt, Usage>
     ensures { MatchResult result (IsFmt (rows_of (found_of given.now)))
         (RefusedBy (IsNoFmt (rows_of (found_of given.now)))) }
 {
+    match words_given(given, LINES) {
+        [] => whole_met(alloc, given),
+        [_, ..] => part_met(alloc, given),
+    }
+}
+
+// Returns `fmt` without `--lines`, with these matches.
+fn whole_met(alloc: Global, given: &ArgMatches<'_>) -> Result<Fmt, Usage>
+    requires { lines_given (rows_of (found_of given.now)) ≡ [] }
+    ensures { MatchResult result (IsFmt (rows_of (found_of given.now)))
+        (RefusedBy (IsNoFmt (rows_of (found_of given.now)))) }
+{
     if is_given(given, WRITE) {
         return write_met(alloc, given);
     }
@@ -139,9 +154,10 @@ fn fmt_met(alloc: Global, given: &ArgMatches<'_>) -> Result<Fmt, Usage>
     Ok(Fmt::Print(first_input(alloc, files)?))
 }
 
-// Returns `fmt --write` with these matches.
+// Returns `fmt --write` without `--lines`, with these matches.
 fn write_met(alloc: Global, given: &ArgMatches<'_>) -> Result<Fmt, Usage>
-    requires { writes (rows_of (found_of given.now)) ≡ true }
+    requires whole { lines_given (rows_of (found_of given.now)) ≡ [] }
+    requires writes { writes (rows_of (found_of given.now)) ≡ true }
     ensures { MatchResult result (IsFmt (rows_of (found_of given.now)))
         (RefusedBy (IsNoFmt (rows_of (found_of given.now)))) }
 {

@@ -76,7 +76,8 @@ fn further_files(alloc: Global, files: &[&str]) -> Result<Vec<OwnedText>, AllocE
     Ok(texts)
 }
 
-fn text_of(alloc: Global, word: &str) -> Result<OwnedText, AllocError>
+// Returns a word as an owned text.
+pub(crate) fn text_of(alloc: Global, word: &str) -> Result<OwnedText, AllocError>
     ensures { IfOk result (λ text. text ≡ word.now) }
 {
     Ok(OwnedText::new(String::from_str(alloc, word)?))

@@ -2,7 +2,8 @@
 ghost use Rattle.std.specs.Prelude.{◌≡◌, IfOk};
 ghost use Rattle.clap.specs.Words.{App, Rule, app_of, new_app, with_rule, with_subcommand};
 ghost use Rattle.yf_command_line.specs.Options.{bare_command, check_flag, checking_command, config_option, configured};
-ghost use Rattle.yf_command_line.specs.Options.{diff_flag, explain_flag, file_word, file_words, write_flag};
+ghost use Rattle.yf_command_line.specs.Options.{diff_flag, explain_flag, file_word, file_words, formatting_command};
+ghost use Rattle.yf_command_line.specs.Options.{lines_option, write_flag};
 ghost use Rattle.yf_command_line.specs.Options.{reading_command, serving_command, stdio_flag, without_option};
 ghost use Rattle.yf_command_line.specs.Options.{writing_command, yamlfmt};
 ghost use Rattle.yf_command_line.specs.Options.{IsOption, IsPart};
@@ -28,6 +29,8 @@ pub(crate) const WITHOUT: &str = "without";
 pub(crate) const WRITE: &str = "write";
 
 pub(crate) const DIFF: &str = "diff";
+
+pub(crate) const LINES: &str = "lines";
 
 const STDIO: &str = "stdio";
 
@@ -98,11 +101,19 @@ fn check_command<'a>(alloc: Global) -> Result<Command<'a>, AllocError>
 fn fmt_command<'a>(alloc: Global) -> Result<Command<'a>, AllocError>
     ensures { IfOk result (λ c. IsPart c writing_command) }
 {
+    let lines = lines_option(alloc, "Format only these lines, for example 3-7,12");
+    let choosing = with_arg(formatting_command(alloc), lines);
+    with_arg(choosing, file_words(alloc))
+}
+
+// Returns `fmt` with `--config`, `--explain`, `--write`, `--check` and `--diff`.
+fn formatting_command<'a>(alloc: Global) -> Result<Command<'a>, AllocError>
+    ensures { IfOk result (λ c. IsPart c formatting_command) }
+{
     let command = configured(alloc, FMT, "Format YAML in the house style");
     let writing = with_arg(command, write_flag(alloc));
     let checking = with_arg(writing, check_flag(alloc));
-    let telling = with_arg(checking, diff_flag(alloc));
-    with_arg(telling, file_words(alloc))
+    with_arg(checking, diff_flag(alloc))
 }
 
 fn server_command<'a>(alloc: Global) -> Result<Command<'a>, AllocError>
@@ -202,6 +213,16 @@ fn diff_flag<'a>(alloc: Global) -> Arg<'a>
         .long(DIFF)
         .action(ArgAction::SetTrue)
         .help("Print what would change as a unified diff")
+}
+
+fn lines_option<'a>(alloc: Global, help: &'a str) -> Arg<'a>
+    ensures { IsOption result lines_option }
+{
+    Arg::new(alloc, LINES)
+        .long(LINES)
+        .value_name("LINES")
+        .action(ArgAction::Append)
+        .help(help)
 }
 
 fn stdio_flag<'a>(alloc: Global) -> Arg<'a>

@@ -57,3 +57,11 @@ Usage: yamlfmt fmt [OPTIONS] [FILE]...
 
 For more information, try '--help'.
 ";
+
+/// The message for several files with `fmt --lines`.
+pub(crate) const SEVERAL_PARTS: &str = "error: the argument '--lines' takes one FILE
+
+Usage: yamlfmt fmt [OPTIONS] [FILE]...
+
+For more information, try '--help'.
+";

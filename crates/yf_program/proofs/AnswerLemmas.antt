@@ -10,6 +10,9 @@ use Rattle.yf_command_line.specs.declared.command.Command.{Command}
 use Rattle.yf_command_line.specs.declared.command.Command.TheVariants as command
 use Rattle.yf_command_line.specs.declared.command.Fmt.TheVariants as fmt
 use Rattle.yf_command_line.specs.declared.command.Input.{Input}
+use Rattle.yf_command_line.specs.declared.command.Part.TheVariants as part
+use Rattle.yf_parts.specs.PartRun.{IsPart}
+use Rattle.yf_parts.specs.declared.show.Show.TheVariants as show
 use Rattle.yf_command_line.specs.declared.command.Input.TheVariants.{Standard, File}
 use Rattle.yf_files.specs.Tree.{FilesState}
 use Rattle.yf_files.specs.declared.rewriting.RewriteError.{RewriteError}
@@ -18,7 +21,8 @@ use Rattle.yf_lines.specs.declared.fault.Fault.{Fault}
 use Rattle.yf_rules.specs.Runs.ByteStream.{ByteStream}
 use Rattle.yf_program.specs.Answer.{DoesAll, DoesEach, DoesIn, DoesInput, DoesNamed, DoesOpened, DoesRewrite, EndsRewriting, RewritesInput, ToldMemory, empty_memory, host_in, name_of, task_of}
 use Rattle.yf_program.specs.Answer.DoesEach.{one_done, one_more}
-use Rattle.yf_program.specs.World.{Host, InputClaim, LinkClaim, OutputStreams, StillKnown, WorkClaim, World}
+use Rattle.yf_program.specs.Rewriting.{FormatsBytes}
+use Rattle.yf_program.specs.World.{Host, InputClaim, LinkClaim, OutputStreams, StillKnown, TextClaim, WorkClaim, World}
 use Rattle.yf_program.specs.declared.sources.Sources.{Sources}
 use Rattle.yf_program.specs.declared.task.Task.{Task}
 use Rattle.yf_program.specs.declared.task.Work.TheVariants as work
@@ -61,12 +65,12 @@ module _ {F : Type 0} (P Q : Input → WorkClaim F) (follows : (input : Input) (
   all_by (input ∷ next ∷ inputs) status before after d = each_by d
 
 module _ {F : Type 0} (earlier later : Host F) (known : StillKnown earlier.inputs later.inputs)
-    (rewrites : (first last : F) (name : List ℕ) (style : Style) (result : Result Unit (RewriteError Fault)) → later.Rewrites first last name style result → earlier.Rewrites first last name style result) where
-  rewrite_before : (explain : Bool) (style : Style) (input : Input) (status : ℕ) (before after : World F) → RewritesInput later explain style input status before after
-      → RewritesInput earlier explain style input status before after
-  rewrite_before explain style Standard status before after d = absurd d
-  rewrite_before explain style (File name) status before after d =
-      ((λ noted. d.0 (known.notes noted)), d.1, (d.2.0, d.2.1, rewrites before.files after.files name style d.2.0 d.2.2, d.2.3, d.2.4))
+    (rewrites : (first last : F) (name : List ℕ) (Formats : TextClaim) (result : Result Unit (RewriteError Fault)) → later.Rewrites first last name Formats result → earlier.Rewrites first last name Formats result) where
+  rewrite_before : (explain : Bool) (Formats : TextClaim) (input : Input) (status : ℕ) (before after : World F) → RewritesInput later explain Formats input status before after
+      → RewritesInput earlier explain Formats input status before after
+  rewrite_before explain Formats Standard status before after d = absurd d
+  rewrite_before explain Formats (File name) status before after d =
+      ((λ noted. d.0 (known.notes noted)), d.1, (d.2.0, d.2.1, rewrites before.files after.files name Formats d.2.0 d.2.2, d.2.3, d.2.4))
 
   pub does_in_before : (what : Command) (explain : Bool) (style : Style) (status : ℕ) (before after : World F) → DoesIn later what explain style status before after
       → DoesIn earlier what explain style status before after
@@ -81,7 +85,12 @@ module _ {F : Type 0} (earlier later : Host F) (known : StillKnown earlier.input
       all_by (DoesInput later task) (DoesInput earlier task) (input_before earlier later known task) (all_inputs inputs) status before after d
   does_in_before (command.Fmt (fmt.Diff input)) explain style status before after d = input_before earlier later known (task_of work.Diff explain style) input status before after d
   does_in_before (command.Fmt (fmt.Write files)) explain style status before after d =
-      all_by (RewritesInput later explain style) (RewritesInput earlier explain style) (rewrite_before explain style) (map (λ name. File name) (all_files files)) status before after d
+      let Formats = FormatsBytes style in
+      all_by (RewritesInput later explain Formats) (RewritesInput earlier explain Formats) (rewrite_before explain Formats) (map (λ name. File name) (all_files files)) status before after d
+  does_in_before (command.Fmt (fmt.Part lines (part.Print input))) explain style status before after d = input_before earlier later known (task_of (work.Part (record { lines = lines; show = show.Text })) explain style) input status before after d
+  does_in_before (command.Fmt (fmt.Part lines (part.Check input))) explain style status before after d = input_before earlier later known (task_of (work.Part (record { lines = lines; show = show.Place })) explain style) input status before after d
+  does_in_before (command.Fmt (fmt.Part lines (part.Diff input))) explain style status before after d = input_before earlier later known (task_of (work.Part (record { lines = lines; show = show.Diff })) explain style) input status before after d
+  does_in_before (command.Fmt (fmt.Part lines (part.Write file))) explain style status before after d = rewrite_before explain (IsPart style lines.items) (File file) status before after d
 
 -- the work was done as if for the only file, and then the contents of memory were written
 module _ {F : Type 0} (Does : WorkClaim F) (before after : World F) where
@@ -134,22 +143,22 @@ pub next_file : (names : List (List ℕ)) (k : ℕ) (d name : List ℕ) → name
 next_file names k d name same = ap (λ n. File n) same ∙ sym (get_or-map (λ (n : List ℕ). File n) names k d)
 
 -- a file was rewritten by the name that was read from it
-module _ {F : Type 0} (host : Host F) (explain : Bool) (style : Style) (status : ℕ) (before after : World F) where
-  pub rewritten_by : (said name : List ℕ) → said ≡ name → DoesRewrite host explain style said status before after
-      → RewritesInput host explain style (File name) status before after
-  rewritten_by said name same d = subst (λ (n : List ℕ). DoesRewrite host explain style n status before after) same d
+module _ {F : Type 0} (host : Host F) (explain : Bool) (Formats : TextClaim) (status : ℕ) (before after : World F) where
+  pub rewritten_by : (said name : List ℕ) → said ≡ name → DoesRewrite host explain Formats said status before after
+      → RewritesInput host explain Formats (File name) status before after
+  rewritten_by said name same d = subst (λ (n : List ℕ). DoesRewrite host explain Formats n status before after) same d
 
-  pub named_by_name : (said name : List ℕ) → said ≡ name → DoesNamed said (DoesRewrite host explain style said) status before after
-      → DoesNamed name (RewritesInput host explain style (File name)) status before after
-  named_by_name said name same d = subst (λ (n : List ℕ). DoesNamed n (DoesRewrite host explain style n) status before after) same d
+  pub named_by_name : (said name : List ℕ) → said ≡ name → DoesNamed said (DoesRewrite host explain Formats said) status before after
+      → DoesNamed name (RewritesInput host explain Formats (File name)) status before after
+  named_by_name said name same d = subst (λ (n : List ℕ). DoesNamed n (DoesRewrite host explain Formats n) status before after) same d
 
 -- what was done with the inputs as they are now was done with the inputs as they were
 module _ {I F : Type 0} (claim : I → InputClaim) (tells : Type 0) (state : F → FilesState) (leads : LinkClaim F) (now then : Sources I F) (same : now.inputs ≡ then.inputs) where
-  pub named_before : (explain : Bool) (style : Style) (name : List ℕ) (status : ℕ) (before after : World F)
-      → DoesNamed name (DoesRewrite (host_in claim tells state leads now) explain style name) status before after
-      → DoesNamed name (DoesRewrite (host_in claim tells state leads then) explain style name) status before after
-  named_before explain style name status before after d =
-      subst (λ (i : I). DoesNamed name (DoesRewrite (host_in claim tells state leads (record { inputs = i; files = then.files })) explain style name) status before after) same d
+  pub named_before : (explain : Bool) (Formats : TextClaim) (name : List ℕ) (status : ℕ) (before after : World F)
+      → DoesNamed name (DoesRewrite (host_in claim tells state leads now) explain Formats name) status before after
+      → DoesNamed name (DoesRewrite (host_in claim tells state leads then) explain Formats name) status before after
+  named_before explain Formats name status before after d =
+      subst (λ (i : I). DoesNamed name (DoesRewrite (host_in claim tells state leads (record { inputs = i; files = then.files })) explain Formats name) status before after) same d
 
 -- a rewriting with this result
 pub ends_by : (explain : Bool) (P : Result Unit (RewriteError Fault) → Type 0) (result : Result Unit (RewriteError Fault)) (status : ℕ) (before after : ByteStream) → P result

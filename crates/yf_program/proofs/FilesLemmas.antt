@@ -1,20 +1,13 @@
--- The bytes that the formatter of `rewrite` returns, and why it refuses bytes. Both follow from the contract of
--- `format` for the text of the bytes.
-use Rattle.std.proofs.Common.{◌≡◌, ◌≤◌, ℕ, List, length, refl, subst}
-use Rattle.std.proofs.lemmas.Result.{IfErr-weaker, IfOk-weaker}
-use Rattle.std.specs.Prelude.{Result, Some, IfErr, IfOk}
+-- The bytes that the formatter of `rewrite` returns, and why it refuses bytes. Both follow from the contracts of
+-- `format` and `with_lines_formatted` for the text of the bytes.
+use Rattle.std.proofs.Common.{◌≡◌, ℕ, List, subst}
+use Rattle.std.proofs.lemmas.Result.{IfErr-weaker}
+use Rattle.std.specs.Prelude.{Result, IfErr, IfOk}
 use Rattle.std.specs.Str.{IsUtf8}
-use Rattle.yf_laws.specs.FormatPromises.{FormatKept}
-use Rattle.yf_forms.specs.declared.style.Style.{Style}
 use Rattle.yf_lines.specs.declared.fault.Fault.{Fault}
 use Rattle.yf_lines.specs.declared.fault.Fault.TheVariants.{NotUtf8, Syntax, TooDeep, UnknownHandle, UnknownAlias, RepeatedDirective, BadVersion, EscapeValue, Memory, ReadFailed, WriteFailed, Config}
-use Rattle.yf_laws.specs.Formattings.{FormattingsHold}
-use Rattle.yf_rules.proofs.HeadlineHolds.{rendered_holds}
-use Rattle.yf_rules.specs.Headline.{Headline}
-use Rattle.yf_rules.specs.declared.run.TheConstants.{INPUT_LIMIT}
 use Rattle.yf_stream.proofs.Offsets.FaultsPlaced.{faults_are_placed}
 use Rattle.yf_stream.specs.StreamReader.{StreamFault}
-use Rattle.yf_events.specs.declared.reading.TheConstants.{LONGEST}
 use Rattle.yf_program.specs.Rewriting.{RefusesBytes}
 
 refuses : (t : List ℕ) → IsUtf8 t → (f : Fault) → StreamFault t f → RefusesBytes t f
@@ -35,8 +28,5 @@ module _ (text t : List ℕ) (same : text ≡ t) (u : IsUtf8 t) {B : Type 0} (gi
   pub refuses_bytes : IfErr given (StreamFault text) → IfErr given (RefusesBytes t)
   refuses_bytes w = IfErr-weaker given (StreamFault text) (RefusesBytes t) (λ f v. refuses t u f (subst (λ (x : List ℕ). StreamFault x f) same v)) w
 
-  pub formats_bytes : FormattingsHold → (s : Style) (bytes : B → List ℕ) → length t ≤ INPUT_LIMIT → IfOk given (λ f. FormatKept text s (bytes f))
-      → IfOk given (λ f. length (bytes f) ≤ LONGEST) → IfOk given (λ f. Headline t s (bytes f))
-  formats_bytes laws s bytes within kept fits =
-      IfOk-weaker given _ (λ f. Headline t s (bytes f)) (λ f r. subst (λ (x : List ℕ). Headline x s (bytes f)) r.gave r.headline)
-      (rendered_holds laws s (Some t) t refl within u bytes given (subst (λ (x : List ℕ). IfOk given (λ f. FormatKept x s (bytes f))) same kept) fits)
+  pub given_bytes : (P : List ℕ → B → Type 0) → IfOk given (P text) → IfOk given (P t)
+  given_bytes P w = subst (λ (x : List ℕ). IfOk given (P x)) same w

@@ -13,6 +13,7 @@ use Rattle.yf_command_line.specs.declared.command.Fmt.TheVariants as fmt
 use Rattle.yf_command_line.specs.declared.command.Input.{Input}
 use Rattle.yf_command_line.specs.declared.command.Input.TheVariants.{Standard, File}
 use Rattle.yf_command_line.specs.declared.command.InputList.{InputList}
+use Rattle.yf_command_line.specs.declared.command.Part.TheVariants as part
 use Rattle.yf_command_line.specs.declared.command.Request.{Request}
 use Rattle.yf_command_line.specs.declared.usage.Usage.{Usage}
 use Rattle.yf_command_line.specs.declared.usage.Usage.TheVariants as usage
@@ -26,6 +27,9 @@ use Rattle.yf_files.specs.declared.rewriting.RewriteError.TheVariants as error
 use Rattle.yf_forms.specs.declared.style.Style.{Style}
 use Rattle.yf_lines.specs.declared.fault.Fault.{Fault}
 use Rattle.yf_lines.specs.declared.fault.Fault.TheVariants as fault
+use Rattle.yf_parts.specs.PartRun.{IsPart, PartBroke, PartRun}
+use Rattle.yf_parts.specs.declared.run.PartTask.{PartTask}
+use Rattle.yf_parts.specs.declared.show.Show.TheVariants as show
 use Rattle.yf_rules.specs.AllRules.{FoundWithout, rule_names}
 use Rattle.yf_rules.specs.declared.run.TheConstants.{INPUT_LIMIT}
 use Rattle.yf_rules.specs.Runs.ByteStream.{ByteStream, NoFailure, NothingWritten, Writes, BreaksOff, WrittenOrFailed}
@@ -33,14 +37,14 @@ use Rattle.yf_rules.specs.Runs.Compare.{CompareRun, IsClean, RefusedCompare}
 use Rattle.yf_rules.specs.Runs.Diffed.{DiffRun, RefusedDiff}
 use Rattle.yf_rules.specs.Runs.Input.{ReadRefusal}
 use Rattle.yf_rules.specs.Runs.Run as Runs
-use Rattle.yf_rules.specs.Runs.Run.{Gave, NotationWritten, RefusedEvents, RefusedCheck, RefusedFmt, FormattingWritten, FindingsWritten}
+use Rattle.yf_rules.specs.Runs.Run.{Gave, NotationWritten, RefusedEvents, RefusedCheck, RefusedFmt, RefusedRun, FormattingWritten, FindingsWritten}
 use Rattle.yf_program.specs.Named.{named_lines}
 use Rattle.yf_rules.specs.Quoted.{quoted}
-use Rattle.yf_program.specs.Rewriting.{FileRewrite}
+use Rattle.yf_program.specs.Rewriting.{FileRewrite, FormatsBytes}
 use Rattle.yf_program.specs.Server.{Served}
 use Rattle.yf_program.specs.Report.{check_status, fault_line, fault_status, format_status}
 use Rattle.yf_settings.specs.Settings.{IsHouse, SetsStyle, RefusesSettings}
-use Rattle.yf_program.specs.World.{Host, InputClaim, LinkClaim, OutputStreams, WorkClaim, World}
+use Rattle.yf_program.specs.World.{Host, InputClaim, LinkClaim, OutputStreams, TextClaim, WorkClaim, World}
 use Rattle.yf_program.specs.declared.sources.Sources.{Sources}
 use Rattle.yf_program.specs.declared.task.Task.{Task}
 use Rattle.yf_program.specs.declared.task.Work.{Work}
@@ -195,6 +199,16 @@ RanFmtDiff name task status reader left before after =
     ⊎ ((f : Fault) × RefusedDiff task.style (quoted name) reader left before.output after.output f
     × EndsOver task.explain reader.contents f status before.errors after.errors)
 
+-- `fmt --lines` showed the text with the lines formatted, or was refused.
+abbrev pub RanPart : PartTask → List ℕ → RunClaim
+RanPart part name task status reader left before after =
+    ((same : Bool) × PartRun part name task.style reader before.output after.output same × NoFailure reader left
+    × (status ≡ format_status same) × NothingWritten before.errors after.errors)
+    ⊎ ((f : Fault)
+    × RefusedRun (PartBroke part name task.style reader before.output after.output) reader left before.output
+    after.output f
+    × EndsOver task.explain reader.contents f status before.errors after.errors)
+
 -- The work was done with a reader of the input.
 abbrev pub RanWork : Work → Input → RunClaim
 RanWork work.Events input = RanEvents
@@ -202,6 +216,7 @@ RanWork (work.Check without) input = RanCheck without.items
 RanWork work.Print input = RanFmt
 RanWork work.Compare input = RanFmtCheck
 RanWork work.Diff input = RanFmtDiff (name_of input)
+RanWork (work.Part part) input = RanPart part (name_of input)
 RanWork work.Serve input = λ task. Served task.style
 
 abbrev pub Ran : Input → RunClaim
@@ -238,7 +253,7 @@ DoesInput host task input status before after =
 abbrev pub host_in : {I F : Type 0} → (I → InputClaim) → Type 0 → (F → FilesState) → LinkClaim F → Sources I F → Host F
 host_in claim tells state leads sources = record {
   inputs = claim sources.inputs;
-  Rewrites = λ first last name style. FileRewrite tells (state first) (state last) (leads first name) style;
+  Rewrites = λ first last name Formats. FileRewrite tells (state first) (state last) (leads first name) Formats;
 }
 
 -- The fault of a file that is not rewritten.
@@ -272,10 +287,11 @@ EndsRewriting explain Rewrites status before after =
     × TellsRewriting result status before told × TellsMore explain AnyLines told after
 
 -- A file was rewritten: no input was opened, and nothing was written to the output.
-abbrev pub DoesRewrite : {F : Type 0} → Host F → Bool → Style → List ℕ → WorkClaim F
-DoesRewrite host explain style name status before after =
+-- (Formats: what the new text is, by the bytes that the file holds)
+abbrev pub DoesRewrite : {F : Type 0} → Host F → Bool → TextClaim → List ℕ → WorkClaim F
+DoesRewrite host explain Formats name status before after =
     (host.inputs.notes → after.opened ≡ before.opened) × NothingWritten before.streams.output after.streams.output
-    × EndsRewriting explain (host.Rewrites before.files after.files name style) status
+    × EndsRewriting explain (host.Rewrites before.files after.files name Formats) status
     before.streams.errors after.streams.errors
 
 -- ---- The same is done with several files
@@ -343,10 +359,10 @@ DoesAll Does (input ∷ next ∷ inputs) status before after =
 -- ---- The whole program
 
 -- A file is rewritten by its name.
-abbrev pub RewritesInput : {F : Type 0} → Host F → Bool → Style → Input → WorkClaim F
-RewritesInput host explain style Standard status before after = ⊥
-RewritesInput host explain style (File name) status before after =
-    DoesRewrite host explain style name status before after
+abbrev pub RewritesInput : {F : Type 0} → Host F → Bool → TextClaim → Input → WorkClaim F
+RewritesInput host explain Formats Standard status before after = ⊥
+RewritesInput host explain Formats (File name) status before after =
+    DoesRewrite host explain Formats name status before after
 
 -- The command was done in a style.
 abbrev pub DoesIn : {F : Type 0} → Host F → Command → Bool → Style → WorkClaim F
@@ -359,7 +375,15 @@ DoesIn host (command.Fmt (fmt.Check inputs)) explain style =
     DoesAll (DoesInput host (task_of work.Compare explain style)) (all_inputs inputs)
 DoesIn host (command.Fmt (fmt.Diff input)) explain style = DoesInput host (task_of work.Diff explain style) input
 DoesIn host (command.Fmt (fmt.Write files)) explain style =
-    DoesAll (RewritesInput host explain style) (map (λ name. File name) (all_files files))
+    DoesAll (RewritesInput host explain (FormatsBytes style)) (map (λ name. File name) (all_files files))
+DoesIn host (command.Fmt (fmt.Part lines (part.Print input))) explain style =
+    DoesInput host (task_of (work.Part (record { lines = lines; show = show.Text })) explain style) input
+DoesIn host (command.Fmt (fmt.Part lines (part.Check input))) explain style =
+    DoesInput host (task_of (work.Part (record { lines = lines; show = show.Place })) explain style) input
+DoesIn host (command.Fmt (fmt.Part lines (part.Diff input))) explain style =
+    DoesInput host (task_of (work.Part (record { lines = lines; show = show.Diff })) explain style) input
+DoesIn host (command.Fmt (fmt.Part lines (part.Write file))) explain style =
+    DoesRewrite host explain (IsPart style lines.items) file
 
 -- The settings are refused, and no other input was opened; or the command was done in the style that they set.
 abbrev pub RequestDone : {F : Type 0} → Host F → Request → WorkClaim F

@@ -2,7 +2,6 @@
 use Rattle.std.specs.Prelude.{◌≡◌, ℕ, List, Option, None, Result}
 use Rattle.yf_command_line.specs.declared.command.Input.{Input}
 use Rattle.yf_files.specs.declared.rewriting.RewriteError.{RewriteError}
-use Rattle.yf_forms.specs.declared.style.Style.{Style}
 use Rattle.yf_lines.specs.declared.fault.Fault.{Fault}
 use Rattle.yf_program.specs.declared.sources.Sources.{Sources}
 use Rattle.yf_rules.specs.Runs.ByteStream.{ByteStream}
@@ -43,9 +42,13 @@ pub record StillKnown (before after : InputClaim) : Type 0 where
   pub holds : (input : Input) → after.holds input ≡ before.holds input
   pub fails : (input : Input) → after.fails input → before.fails input
 
--- What rewriting the file at a name in a style does: a relation of two states of the files and the result.
+-- What the new text of a file is, for the bytes that the file holds.
+abbrev pub TextClaim : Type 1
+TextClaim = List ℕ → List ℕ → Type 0
+
+-- What rewriting the file at a name with a new text does: a relation of two states of the files and the result.
 abbrev pub RewriteClaim : Type 0 → Type 1
-RewriteClaim F = F → F → List ℕ → Style → Result Unit (RewriteError Fault) → Type 0
+RewriteClaim F = F → F → List ℕ → TextClaim → Result Unit (RewriteError Fault) → Type 0
 
 -- The second name is the name of the file to which the first one leads.
 abbrev pub LinkClaim : Type 0 → Type 1

@@ -5,9 +5,10 @@ ghost use Rattle.yf_program.specs.Answer.{AnyLines, DoesIn, EndsTold, InputsOpen
 ghost use Rattle.yf_program.specs.World.{StillKnown, world_in};
 
 use crate::each::{do_input, do_inputs};
-use crate::files::Links;
+use crate::files::{Links, NewText};
 use crate::further::report_settings;
 use crate::inputs::Inputs;
+use crate::parts::do_part;
 use crate::program::{answer_usage, read_style, written_out};
 use crate::rewrites::rewrite_files;
 use crate::sources::Sources;
@@ -198,6 +199,10 @@ fn do_fmt<I: Inputs, S: Links, W: Sink, E: Sink>(
             };
             do_input(alloc, &task, &input, sources, streams)
         }
-        Fmt::Write(files) => rewrite_files(alloc, explain, &style, &files, sources, streams),
+        Fmt::Write(files) => {
+            let new_text = NewText::Formatted(&style);
+            rewrite_files(alloc, explain, &new_text, &files, sources, streams)
+        }
+        Fmt::Part { lines, what } => do_part(alloc, lines, what, explain, style, sources, streams),
     }
 }

@@ -3,7 +3,7 @@ ghost use Rattle.std.specs.Prelude.{◌≡◌, ℕ, List, string_bytes, IfErr, I
 ghost use Rattle.yf_lines.specs.declared.fault.Fault.TheVariants.{ReadFailed};
 ghost use Rattle.yf_rules.specs.Runs.ByteStream.{WrittenOrFailed, stream_of};
 ghost use Rattle.yf_program.specs.Answer.{fault_of, rewrite_line, unwritten_line};
-ghost use Rattle.yf_program.specs.Rewriting.{FileRewrite, FormatsBytes, IsUnfound, LeadsNowhere, RefusesBytes, RewritesFile};
+ghost use Rattle.yf_program.specs.Rewriting.{FileRewrite, IsNewText, IsUnfound, LeadsNowhere, RefusesBytes, RewritesFile};
 ghost use Rattle.yf_program.specs.Report.{fault_status};
 
 use crate::report::report;
@@ -13,10 +13,11 @@ use std::rt::Files;
 use yf_chars::utf8::{BadByte, check_utf8};
 use yf_files::{FileSystem, Formatter, MemoryFiles, ReplaceError, RewriteError};
 use yf_forms::style::Style;
-use yf_laws::every_text::formattings_hold;
+use yf_line_ranges::range::LineRange;
 use yf_lines::fault::Fault;
 use yf_lines::output::write_text;
 use yf_lines::watched::Sink;
+use yf_parts::run::with_lines_formatted;
 use yf_rules::format::format;
 use yf_rules::run::INPUT_LIMIT;
 
@@ -67,12 +68,21 @@ impl Links for MemoryFiles {
     }
 }
 
-/// Rewrites the file at this name in the house style. If the name is a link, the file to which it leads is rewritten.
+/// The new text of a file.
+#[derive(Clone, Copy)]
+pub enum NewText<'a> {
+    /// The formatting of its text in a style.
+    Formatted(&'a Style),
+    /// Its text with these lines formatted in a style.
+    Part(&'a Style, &'a [LineRange]),
+}
+
+/// Rewrites the file at this name with its new text. If the name is a link, the file to which it leads is rewritten.
 ///
-/// The function first reads and formats the whole text. If the text is in the house style already, nothing else
-/// happens. Otherwise it writes a new file, whose name is the file's name with `.yamlfmt-new` after it, and renames it
-/// to the file. So at any moment, even if the run or the machine stops, the file holds its old text or exactly the
-/// formatting of that text. Every name except the new one has what it had.
+/// The function first reads and formats the whole text. If the new text equals the text, nothing else happens. Otherwise
+/// it writes a new file, whose name is the file's name with `.yamlfmt-new` after it, and renames it to the file. So at
+/// any moment, even if the run or the machine stops, the file holds its old text or exactly the new text. Every name
+/// except the new one has what it had.
 ///
 /// # Errors
 ///
@@ -87,40 +97,34 @@ pub fn rewrite<S: Links>(
     alloc: Global,
     files: &mut S,
     name: &str,
-    style: &Style,
+    new_text: &NewText<'_>,
 ) -> Result<(), RewriteError<Fault>>
     ensures { FileRewrite S.tells (S.state files.old) (S.state files.new)
-        (S.leads files.old name.now) style.now result }
+        (S.leads files.old name.now) (IsNewText new_text.now) result }
 {
     match files.followed(alloc, name) {
-        Ok(None) => rewrite_in(alloc, files, name, style),
-        Ok(Some(file)) => rewrite_in(alloc, files, file.as_str(), style),
+        Ok(None) => rewrite_in(alloc, files, name, new_text),
+        Ok(Some(file)) => rewrite_in(alloc, files, file.as_str(), new_text),
         Err(error) => Err(error),
     }
 }
 
-/// Rewrites a file of a file system in the house style, as `rewrite` does.
+/// Rewrites a file of a file system with its new text, as `rewrite` does.
 pub fn rewrite_in<S: FileSystem>(
     alloc: Global,
     files: &mut S,
     file: &str,
-    style: &Style,
+    new_text: &NewText<'_>,
 ) -> Result<(), RewriteError<Fault>>
-    ensures { RewritesFile S.tells (S.state files.old) (S.state files.new) file.now style.now result }
+    ensures { RewritesFile S.tells (S.state files.old) (S.state files.new) file.now (IsNewText new_text.now) result }
 {
-    yf_files::rewrite(alloc, files, &InStyle { style }, file)
+    yf_files::rewrite(alloc, files, new_text, file)
 }
 
-// The formatter that returns the formatting of a text in a style, as bytes.
-#[derive(Clone, Copy)]
-struct InStyle<'a> {
-    style: &'a Style,
-}
-
-impl Formatter for InStyle<'_> {
+impl Formatter for NewText<'_> {
     type Error = Fault;
 
-    ghost Formats = { λ it bytes text. FormatsBytes it.style.now bytes text };
+    ghost Formats = { λ it bytes text. IsNewText it bytes text };
 
     ghost Refuses = { λ _ bytes fault. RefusesBytes bytes fault };
 
@@ -132,8 +136,10 @@ impl Formatter for InStyle<'_> {
         if bytes.len() > INPUT_LIMIT {
             return Err(Fault::Memory);
         }
-        formattings_hold();
-        format(alloc, text, self.style)
+        match *self {
+            NewText::Formatted(style) => format(alloc, text, style),
+            NewText::Part(style, lines) => with_lines_formatted(alloc, text, style, lines),
+        }
     }
 }
 

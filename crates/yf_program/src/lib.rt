@@ -15,6 +15,7 @@ pub mod left;
 pub mod memory;
 pub mod memory_inputs;
 pub mod named;
+pub mod parts;
 pub mod problems;
 pub mod program;
 pub mod replacing;

@@ -9,6 +9,7 @@ ghost use Rattle.yf_rules.specs.Quoted.{quoted};
 
 use crate::each::name_of;
 use crate::further::{report_input, tell_findings};
+use crate::parts::run_lines;
 use crate::report::report;
 use crate::server::run_server;
 use crate::streams::Streams;
@@ -33,7 +34,7 @@ use yf_settings::settings::{no_key, style_from_toml};
 pub const GOOD: u8 = 0;
 
 /// The status of a check that found something, and of a text that is not in the house style.
-const FINDINGS: u8 = 1;
+pub const FINDINGS: u8 = 1;
 
 /// The status if the words on the command line are refused.
 const USAGE: u8 = 3;
@@ -56,6 +57,7 @@ pub fn run<R: Source, W: Sink, E: Sink>(
         Work::Print => run_writer(alloc, task, reader, streams),
         Work::Compare => run_comparer(alloc, task, reader, streams),
         Work::Diff => run_differ(alloc, task, name_of(input), reader, streams),
+        Work::Part(part) => run_lines(alloc, task, part, name_of(input), reader, streams),
         Work::Serve => run_server(alloc, &task.style, reader, streams),
     }
 }

@@ -4,10 +4,10 @@ ghost use Rattle.yf_command_line.specs.Requests.{all_files};
 ghost use Rattle.yf_command_line.specs.declared.command.Input.TheVariants.{File};
 ghost use Rattle.yf_rules.specs.Runs.ByteStream.{stream_of};
 ghost use Rattle.yf_program.specs.Answer.{AnyLines, DoesAll, DoesEach, DoesNamed, DoesRewrite, EndsRewriting, RewritesInput, TellsMore, host_in};
-ghost use Rattle.yf_program.specs.Rewriting.{FileRewrite};
+ghost use Rattle.yf_program.specs.Rewriting.{FileRewrite, IsNewText};
 ghost use Rattle.yf_program.specs.World.{world_in};
 
-use crate::files::{Links, report_rewrite, rewrite};
+use crate::files::{Links, NewText, report_rewrite, rewrite};
 use crate::further::tell_file;
 use crate::inputs::Inputs;
 use crate::memory::tell_memory;
@@ -17,7 +17,6 @@ use crate::streams::{Streams, in_memory};
 use std::alloc::Global;
 use yf_command_line::command::FileList;
 use yf_files::RewriteError;
-use yf_forms::style::Style;
 use yf_lines::fault::Fault;
 use yf_lines::watched::Sink;
 
@@ -25,20 +24,21 @@ use yf_lines::watched::Sink;
 pub fn rewrite_files<I: Inputs, S: Links, W: Sink, E: Sink>(
     alloc: Global,
     explain: bool,
-    style: &Style,
+    new_text: &NewText<'_>,
     files: &FileList,
     sources: &mut Sources<I, S>,
     streams: &mut Streams<W, E>,
 ) -> u8
-    ensures { DoesAll (RewritesInput (host_in I.claim S.tells S.state S.leads sources.old) explain style.now)
+    ensures { DoesAll
+        (RewritesInput (host_in I.claim S.tells S.state S.leads sources.old) explain (IsNewText new_text.now))
         (map (λ name. File name) (all_files files.now)) result (world_in I.opened sources.old streams.old)
         (world_in I.opened sources.new streams.new) }
 {
     if files.rest.is_empty() {
         let name = files.first.as_str();
-        return rewrite_file(alloc, explain, style, name, sources, streams);
+        return rewrite_file(alloc, explain, new_text, name, sources, streams);
     }
-    rewrite_each(alloc, explain, style, files, sources, streams)
+    rewrite_each(alloc, explain, new_text, files, sources, streams)
 }
 
 // Rewrites each file, in order, and returns the greatest status. Each line of the output begins with the name of its
@@ -46,19 +46,20 @@ pub fn rewrite_files<I: Inputs, S: Links, W: Sink, E: Sink>(
 fn rewrite_each<I: Inputs, S: Links, W: Sink, E: Sink>(
     alloc: Global,
     explain: bool,
-    style: &Style,
+    new_text: &NewText<'_>,
     files: &FileList,
     sources: &mut Sources<I, S>,
     streams: &mut Streams<W, E>,
 ) -> u8
-    ensures { DoesEach (RewritesInput (host_in I.claim S.tells S.state S.leads sources.old) explain style.now)
+    ensures { DoesEach
+        (RewritesInput (host_in I.claim S.tells S.state S.leads sources.old) explain (IsNewText new_text.now))
         (world_in I.opened sources.old streams.old) (map (λ name. File name) (all_files files.now)) result
         (world_in I.opened sources.new streams.new) }
 {
     let first = files.first.as_str();
-    let mut greatest = rewrite_named(alloc, explain, style, first, sources, streams);
+    let mut greatest = rewrite_named(alloc, explain, new_text, first, sources, streams);
     for name in files.rest.as_slice() {
-        let status = rewrite_named(alloc, explain, style, name.as_str(), sources, streams);
+        let status = rewrite_named(alloc, explain, new_text, name.as_str(), sources, streams);
         greatest = greatest.max(status);
     }
     greatest
@@ -69,35 +70,36 @@ fn rewrite_each<I: Inputs, S: Links, W: Sink, E: Sink>(
 fn rewrite_named<I: Inputs, S: Links, W: Sink, E: Sink>(
     alloc: Global,
     explain: bool,
-    style: &Style,
+    new_text: &NewText<'_>,
     name: &str,
     sources: &mut Sources<I, S>,
     streams: &mut Streams<W, E>,
 ) -> u8
     ensures does { DoesNamed name.now (DoesRewrite (host_in I.claim S.tells S.state S.leads sources.old) explain
-        style.now name.now) result (world_in I.opened sources.old streams.old)
+        (IsNewText new_text.now) name.now) result (world_in I.opened sources.old streams.old)
         (world_in I.opened sources.new streams.new) }
     ensures inputs { sources.new.inputs ≡ sources.old.inputs }
 {
     let mut memory = in_memory(alloc);
-    let status = rewrite_file(alloc, explain, style, name, sources, &mut memory);
+    let status = rewrite_file(alloc, explain, new_text, name, sources, &mut memory);
     tell_memory(alloc, name, status, &memory, streams)
 }
 
-// Rewrites a file and returns the status. Reports the reason if the file is not rewritten.
-fn rewrite_file<I: Inputs, S: Links, W: Sink, E: Sink>(
+/// Rewrites a file and returns the status. Reports the reason if the file is not rewritten.
+pub fn rewrite_file<I: Inputs, S: Links, W: Sink, E: Sink>(
     alloc: Global,
     explain: bool,
-    style: &Style,
+    new_text: &NewText<'_>,
     name: &str,
     sources: &mut Sources<I, S>,
     streams: &mut Streams<W, E>,
 ) -> u8
-    ensures does { DoesRewrite (host_in I.claim S.tells S.state S.leads sources.old) explain style.now name.now result
-        (world_in I.opened sources.old streams.old) (world_in I.opened sources.new streams.new) }
+    ensures does { DoesRewrite (host_in I.claim S.tells S.state S.leads sources.old) explain
+        (IsNewText new_text.now) name.now result (world_in I.opened sources.old streams.old)
+        (world_in I.opened sources.new streams.new) }
     ensures inputs { sources.new.inputs ≡ sources.old.inputs }
 {
-    let rewritten = rewrite(alloc, &mut sources.files, name, style);
+    let rewritten = rewrite(alloc, &mut sources.files, name, new_text);
     report_rewriting(
         alloc,
         explain,

@@ -2,6 +2,7 @@
 
 use yf_forms::style::Style;
 use yf_lines::text::OwnedText;
+use yf_parts::run::PartTask;
 
 /// What is done with the text of an input.
 #[derive(Drop)]
@@ -16,6 +17,8 @@ pub enum Work {
     Compare,
     /// The diff of it and its formatting is printed.
     Diff,
+    /// Some of its lines are formatted, and the result is shown.
+    Part(PartTask),
     /// It is read as the messages of an editor, which are answered.
     Serve,
 }

@@ -107,7 +107,7 @@ fn is_answered(alloc: Global, words: &[String], row: &Row) -> bool {
 }
 
 /// Returns whether the command line of a row has the results of the row.
-fn answers_line(alloc: Global, row: &Row) -> bool {
+pub fn answers_line(alloc: Global, row: &Row) -> bool {
     match &words_of(alloc, row.0) {
         Ok(words) => is_answered(alloc, words.as_slice(), row),
         Err(AllocError) => false,

@@ -40,7 +40,7 @@ pub struct Answer {
 impl Answer {
     /// Returns whether the status is this one and the command wrote only this text. If the status is above 1, the text
     /// is on standard error, otherwise on standard output.
-    fn is(&self, status: u8, text: &str) -> bool {
+    pub fn is(&self, status: u8, text: &str) -> bool {
         let (written, other) = if status < 2 {
             (&self.output, &self.line)
         } else {
@@ -69,10 +69,15 @@ pub fn task(alloc: Global, asked: Asked, style: &Style) -> Task {
 
 /// Runs a command on an input and returns the results.
 pub fn answer_to(alloc: Global, asked: Asked, style: &Style, input: &[u8]) -> Answer {
+    answer_to_task(alloc, &task(alloc, asked, style), input)
+}
+
+/// Does a task with an input and returns the results.
+pub fn answer_to_task(alloc: Global, task: &Task, input: &[u8]) -> Answer {
     let mut streams = in_memory(alloc);
     let status = run(
         alloc,
-        &task(alloc, asked, style),
+        task,
         &Input::Standard,
         &mut Watched::new(input),
         &mut streams,

@@ -15,6 +15,8 @@ enum Verb {
     Events,
     Check,
     Fmt,
+    /// `fmt --lines`: the tests `lines_option` have its rows.
+    Part,
     Server,
 }
 
@@ -346,6 +348,7 @@ fn shape(command: &Command) -> Shape<'_> {
             let FileList { first, rest } = files;
             (Verb::Fmt, first.as_str(), true, false, false, rest.len())
         }
+        Command::Fmt(Fmt::Part { .. }) => (Verb::Part, "", false, false, false, 0),
         Command::Server => (Verb::Server, "", false, false, false, 0),
     }
 }

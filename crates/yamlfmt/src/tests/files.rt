@@ -9,7 +9,7 @@ use std::{fs, io};
 use yf_files::{ReplaceError, RewriteError};
 use yf_forms::style::Style;
 use yf_lines::fault::Fault;
-use yf_program::files::rewrite;
+use yf_program::files::{NewText, rewrite};
 use yf_program::replacing::{Held, SystemFiles};
 
 /// Makes an empty folder.
@@ -53,8 +53,9 @@ where
     R::File: Held,
 {
     let mut files = SystemFiles::new(files);
+    let style = Style::house();
     is_answer(
-        &rewrite(rt.alloc(), &mut files, path, &Style::house()),
+        &rewrite(rt.alloc(), &mut files, path, &NewText::Formatted(&style)),
         wanted,
     )
 }

@@ -4,7 +4,7 @@ use std::alloc::Global;
 use yf_files::{FileSystem, MemoryFiles, ReplaceError, RewriteError};
 use yf_forms::style::Style;
 use yf_lines::fault::Fault;
-use yf_program::files::{rewrite, rewrite_in};
+use yf_program::files::{NewText, rewrite, rewrite_in};
 
 const FILE: &str = "folder/a.yaml";
 
@@ -123,7 +123,8 @@ fn is_rewritten(alloc: Global, call: usize, is_left: bool) -> bool {
         return false;
     }
     let first = files.moment();
-    let answer = rewrite_in(alloc, &mut files, FILE, &Style::house());
+    let style = Style::house();
+    let answer = rewrite_in(alloc, &mut files, FILE, &NewText::Formatted(&style));
     leaves_either(&files, first)
         && leaves(&files, files.moment(), allowed_after(&answer))
         && is_told(&files, &answer)
@@ -138,7 +139,7 @@ fn stops_leave_the_old_text_or_the_new_one(rt: HostRuntime) {
     }
 }
 
-/// Makes a folder with the file in it, and links to both, to nothing and to itself.
+/// Makes a folder with the file in it, and links to both, to a free name, and to itself.
 fn put_links(files: &mut MemoryFiles) -> bool {
     files.folder("folder").is_ok()
         && put(files, FILE, OLD)
@@ -149,10 +150,11 @@ fn put_links(files: &mut MemoryFiles) -> bool {
         && files.link("to itself", "to itself").is_ok()
 }
 
-/// Whether nothing is rewritten by a name.
+/// Returns whether a name leads to no file that can be rewritten.
 fn is_unreadable(alloc: Global, files: &mut MemoryFiles, name: &str) -> bool {
+    let style = Style::house();
     matches!(
-        rewrite(alloc, files, name, &Style::house()),
+        rewrite(alloc, files, name, &NewText::Formatted(&style)),
         Err(RewriteError::Unreadable)
     )
 }
@@ -164,7 +166,8 @@ fn links_are_followed(rt: HostRuntime) {
     for name in ["folder", "to folder", "to nothing", "to itself"] {
         assert!(rt; is_unreadable(rt.alloc(), &mut files, name), "{name}");
     }
-    assert!(rt; rewrite(rt.alloc(), &mut files, "first", &Style::house()).is_ok());
+    let style = Style::house();
+    assert!(rt; rewrite(rt.alloc(), &mut files, "first", &NewText::Formatted(&style)).is_ok());
     let now = files.at_moment(files.moment());
     assert!(rt; files.found(FILE, now.changes, now.contents) == Some(NEW.as_bytes()));
     assert!(rt; files.led("first") == Some(FILE));

@@ -2,6 +2,5 @@ use Rattle.yf_command_line.proofs.options.fmt_command.Goals as goal
 
 pub returns : goal.returns
 returns c =
-    let writing = c.with_arg-writing.ensures _ _ c.configured-command.ensures c.write_flag.ensures in
-    let checking = c.with_arg-checking.ensures _ _ writing c.check_flag.ensures in
-    c.with_arg.ensures _ _ (c.with_arg-telling.ensures _ _ checking c.diff_flag.ensures) c.file_words.ensures
+    let choosing = c.with_arg-choosing.ensures _ _ c.formatting_command.ensures c.lines_option-lines.ensures in
+    c.with_arg.ensures _ _ choosing c.file_words.ensures

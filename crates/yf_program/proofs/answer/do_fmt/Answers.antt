@@ -11,3 +11,6 @@ returns-in-Diff g c = rw c.in-Diff.is c.do_input-in-Diff.ensures.does
 
 pub returns-in-Write : goal.returns-in-Write
 returns-in-Write g c = rw c.in-Write.is c.rewrite_files.ensures
+
+pub returns-in-Part : goal.returns-in-Part
+returns-in-Part g c = rw c.in-Part.is c.do_part.ensures

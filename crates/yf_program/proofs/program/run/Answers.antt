@@ -17,3 +17,6 @@ returns-in-Diff g c = rw (c.in-Diff.is, ← c.name_of.ensures) c.run_differ.ensu
 
 pub returns-in-Serve : goal.returns-in-Serve
 returns-in-Serve g c = rw c.in-Serve.is c.run_server.ensures
+
+pub returns-in-Part : goal.returns-in-Part
+returns-in-Part g c = rw (c.in-Part.is, ← c.name_of-in-Part.ensures) c.run_lines.ensures

@@ -1,0 +1,100 @@
+//! `fmt --lines`: formatting only some lines of a text.
+ghost use Rattle.std.specs.Prelude.{◌≡◌};
+ghost use Rattle.yf_rules.specs.Runs.ByteStream.{stream_of};
+ghost use Rattle.yf_program.specs.Answer.{DoesIn, RanPart, host_in, task_of};
+ghost use Rattle.yf_program.specs.World.{world_in};
+
+use crate::each::do_input;
+use crate::files::{Links, NewText};
+use crate::further::report_input;
+use crate::inputs::Inputs;
+use crate::program::{FINDINGS, GOOD};
+use crate::rewrites::rewrite_file;
+use crate::sources::Sources;
+use crate::streams::Streams;
+use crate::task::{Task, Work};
+use std::alloc::Global;
+use yf_command_line::command::{Command, Fmt, Part};
+use yf_forms::style::Style;
+use yf_line_ranges::range::LineRange;
+use yf_lines::watched::{Sink, Source};
+use yf_parts::run::{PartTask, run_part};
+use yf_parts::show::Show;
+
+/// Formats some lines of a text in a style, and shows the result or writes it to the file.
+pub fn do_part<I: Inputs, S: Links, W: Sink, E: Sink>(
+    alloc: Global,
+    lines: Vec<LineRange>,
+    what: Part,
+    explain: bool,
+    style: Style,
+    sources: &mut Sources<I, S>,
+    streams: &mut Streams<W, E>,
+) -> u8
+    ensures { DoesIn (host_in I.claim S.tells S.state S.leads sources.old) (Command.Fmt (Fmt.Part lines what)) explain
+        style result (world_in I.opened sources.old streams.old) (world_in I.opened sources.new streams.new) }
+{
+    match what {
+        Part::Print(input) => {
+            let task = part_task(lines, Show::Text, style, explain);
+            do_input(alloc, &task, &input, sources, streams)
+        }
+        Part::Check(input) => {
+            let task = part_task(lines, Show::Place, style, explain);
+            do_input(alloc, &task, &input, sources, streams)
+        }
+        Part::Diff(input) => {
+            let task = part_task(lines, Show::Diff, style, explain);
+            do_input(alloc, &task, &input, sources, streams)
+        }
+        Part::Write(file) => {
+            let new_text = NewText::Part(&style, lines.as_slice());
+            rewrite_file(alloc, explain, &new_text, file.as_str(), sources, streams)
+        }
+    }
+}
+
+// Returns the task that shows a text with some lines formatted.
+fn part_task(lines: Vec<LineRange>, show: Show, style: Style, explain: bool) -> Task
+    ensures { result ≡ task_of (Work.Part (record { lines = lines; show = show })) explain style }
+{
+    Task {
+        work: Work::Part(PartTask { lines, show }),
+        style,
+        explain,
+    }
+}
+
+/// Shows a text with some lines formatted, and returns the status.
+pub fn run_lines<R: Source, W: Sink, E: Sink>(
+    alloc: Global,
+    task: &Task,
+    part: &PartTask,
+    name: &str,
+    reader: &mut R,
+    streams: &mut Streams<W, E>,
+) -> u8
+    ensures { RanPart part.now name.now task.now result (stream_of R.remaining R.has_failed reader.old)
+        (stream_of R.remaining R.has_failed reader.new) streams.old streams.new }
+{
+    let mut bytes = Vec::new(alloc);
+    match run_part(
+        alloc,
+        part,
+        name,
+        &task.style,
+        reader,
+        &mut bytes,
+        &mut streams.output,
+    ) {
+        Ok(true) => GOOD,
+        Ok(false) => FINDINGS,
+        Err(fault) => report_input(
+            alloc,
+            task.explain,
+            bytes.as_slice(),
+            fault,
+            &mut streams.errors,
+        ),
+    }
+}
