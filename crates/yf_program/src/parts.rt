@@ -1,7 +1,6 @@
 //! `fmt --lines`: formatting only some lines of a text.
-ghost use Rattle.std.specs.Prelude.{◌≡◌};
 ghost use Rattle.yf_rules.specs.Runs.ByteStream.{stream_of};
-ghost use Rattle.yf_program.specs.Answer.{DoesIn, RanPart, host_in, task_of};
+ghost use Rattle.yf_program.specs.Answer.{DoesIn, RanPart, host_in};
 ghost use Rattle.yf_program.specs.World.{world_in};
 
 use crate::each::do_input;
@@ -36,32 +35,42 @@ pub fn do_part<I: Inputs, S: Links, W: Sink, E: Sink>(
 {
     match what {
         Part::Print(input) => {
-            let task = part_task(lines, Show::Text, style, explain);
+            let task = Task {
+                work: Work::Part(PartTask {
+                    lines,
+                    show: Show::Text,
+                }),
+                style,
+                explain,
+            };
             do_input(alloc, &task, &input, sources, streams)
         }
         Part::Check(input) => {
-            let task = part_task(lines, Show::Place, style, explain);
+            let task = Task {
+                work: Work::Part(PartTask {
+                    lines,
+                    show: Show::Place,
+                }),
+                style,
+                explain,
+            };
             do_input(alloc, &task, &input, sources, streams)
         }
         Part::Diff(input) => {
-            let task = part_task(lines, Show::Diff, style, explain);
+            let task = Task {
+                work: Work::Part(PartTask {
+                    lines,
+                    show: Show::Diff,
+                }),
+                style,
+                explain,
+            };
             do_input(alloc, &task, &input, sources, streams)
         }
         Part::Write(file) => {
             let new_text = NewText::Part(&style, lines.as_slice());
             rewrite_file(alloc, explain, &new_text, file.as_str(), sources, streams)
         }
-    }
-}
-
-// Returns the task that shows a text with some lines formatted.
-fn part_task(lines: Vec<LineRange>, show: Show, style: Style, explain: bool) -> Task
-    ensures { result ≡ task_of (Work.Part (record { lines = lines; show = show })) explain style }
-{
-    Task {
-        work: Work::Part(PartTask { lines, show }),
-        style,
-        explain,
     }
 }
 
