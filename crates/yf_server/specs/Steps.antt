@@ -172,6 +172,7 @@ IsNote Outcome.Done sent = sent ≡ None
 IsNote Outcome.NotOpen sent = IsLogged sent
 IsNote Outcome.OldVersion sent = IsLogged sent
 IsNote Outcome.ReversedRange sent = IsLogged sent
+IsNote Outcome.Lost sent = IsLogged sent
 
 -- a client hears of what could not be done with a notification, and of one on a document whose parameters are malformed
 abbrev pub IsNoteOf : Encoding → List OpenDocument → List ℕ → Option Event → Option Data → Type 0
