@@ -6,13 +6,14 @@
 PROGRAM is the built program (crates/yamlfmt/out/yamlfmt). The script opens documents, edits them at random, formats
 them, and compares each answer with a model of its own: the text that the edits must give, and what PROGRAM itself prints
 for that text by `fmt` and `check`. It asks for the edits, the code actions and the problems in each way that there is.
-Then it sends what a broken client sends. With --times it measures how long an edit in a document of 1 MB and of 16 MB
-takes until its diagnostics are there.
+Then it sends what a broken client sends, and runs a session with too little memory. With --times it measures how long an
+edit in a document of 1 MB and of 16 MB takes until its diagnostics are there.
 """
 import argparse
 import json
 import os
 import random
+import resource
 import subprocess
 import sys
 import time
@@ -29,9 +30,11 @@ CAPABILITIES = {
 class Server:
     """A running server, and its pipes."""
 
-    def __init__(self, program, words=('server',)):
+    def __init__(self, program, words=('server',), limit=None):
+        """limit: how many bytes of memory it may have"""
+        refuse = (lambda: resource.setrlimit(resource.RLIMIT_AS, (limit, limit))) if limit else None
         self.process = subprocess.Popen([program, *words], stdin=subprocess.PIPE, stdout=subprocess.PIPE,
-                                        stderr=subprocess.PIPE)
+                                        stderr=subprocess.PIPE, preexec_fn=refuse)
         self.next_id = 0
 
     def write(self, data):
@@ -355,6 +358,61 @@ def broken_clients(program):
     server.process.wait()
 
 
+def with_memory(program, limit, breaks):
+    """A session in which a change adds many lines. Returns what became of it."""
+    server = Server(program, limit=limit)
+    outcome = 'kept'
+    try:
+        initialize(server)
+        server.open('a:   1\n')
+        check_diagnostics(program, server.receive(), 'a:   1\n', 1, 'utf-16')
+        server.change(2, [{'range': {'start': {'line': 0, 'character': 6}, 'end': {'line': 0, 'character': 6}},
+                           'text': '\n' * breaks}])
+        text = 'a:   1' + '\n' * (breaks + 1)
+        answer, before = server.request('textDocument/formatting', {'textDocument': {'uri': NAME}})
+        if 'error' in answer:
+            assert answer['error']['code'] == -32803, answer
+        else:
+            assert apply(text, answer['result'], 'utf-16') == run(program, ['fmt'], text)[1], 'the edits are wrong'
+        server.change(3, [{'range': {'start': {'line': 0, 'character': 0}, 'end': {'line': 0, 'character': 0}},
+                           'text': '# c\n'}])
+        answer, after = server.request('textDocument/codeAction', {
+            'textDocument': {'uri': NAME}, 'context': {'only': ['quickfix']}})
+        said = before + after
+        if 'error' in answer:
+            assert answer['error']['code'] == -32803 and 'open it again' in answer['error']['message'], answer
+            outcome = 'lost, told' if said else 'lost'
+            published = [m['params'] for m in said if m['method'] == 'textDocument/publishDiagnostics']
+            assert not published or published[-1] == {'uri': NAME, 'diagnostics': []}, published
+        else:
+            assert answer['result'] == [], answer
+            outcome = 'kept' if len(said) == 2 else 'unpublished'
+            assert [m['params']['version'] for m in said] in ([], [2], [3], [2, 3]), said
+        server.change(4, [{'text': 'b:   [1,  2]\n'}])
+        check_diagnostics(program, server.receive(), 'b:   [1,  2]\n', 4, 'utf-16')
+        check_document(program, server, 'b:   [1,  2]\n', 'utf-16')
+        server.request('shutdown')
+        server.notify('exit')
+        assert server.end() == (0, b'', b''), 'the end of a session'
+    except (BrokenPipeError, TypeError):
+        # the server ended in the middle of the session, so nothing more can be received
+        status, _, errors = server.end()
+        assert status == 3 and b'memory' in errors, (limit, status, errors)
+        return 'ended'
+    return outcome
+
+
+def refused_memory(program):
+    """Runs the session with more memory each time, until all of it is done."""
+    outcomes = []
+    limit = 4 << 20
+    while not outcomes or outcomes[-1] != 'kept':
+        outcomes.append(with_memory(program, limit, 500_000))
+        limit += 1 << 20
+    assert any(outcome.startswith('lost') for outcome in outcomes), outcomes
+    return {name: outcomes.count(name) for name in sorted(set(outcomes))}
+
+
 def one_time(program, size):
     line = 'key_%07d: some value of a line\n'
     text = '---\n' + ''.join(line % k for k in range(size // len(line % 0)))
@@ -397,6 +455,8 @@ def main():
     print('life cycle: as expected')
     broken_clients(program)
     print('broken clients: as expected')
+    counts = ', '.join(f'{count} {name}' for name, count in refused_memory(program).items())
+    print(f'less memory than the session needs: as expected ({counts})')
     for encoding in ('utf-16', 'utf-8', 'utf-32'):
         random_edits(program, given.edits, given.seed, encoding)
         print(f'{given.edits} random edits in {encoding}: as expected')

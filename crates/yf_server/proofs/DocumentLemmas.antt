@@ -1,5 +1,5 @@
 -- The documents of a list by their URIs.
-use Rattle.std.proofs.Common.{◌≡◌, ℕ, ◌+◌, ◌<◌, List, [], ◌∷◌, ◌++◌, length, take, drop, get_or, suc, true, false, Option, None, Some, ⊎_elim, refl, sym, ap, ◌∙◌, arith, set, string_bytes, subst, append-nil}
+use Rattle.std.proofs.Common.{◌≡◌, ℕ, ◌+◌, ◌<◌, List, [], ◌∷◌, ◌++◌, length, take, drop, get_or, suc, true, false, Option, None, Some, option_map, ⊎_elim, refl, sym, ap, ◌∙◌, arith, set, string_bytes, subst, append-nil}
 use Rattle.std.specs.Prelude.{ℤ, bytes_eq, int_lt}
 use Rattle.std.specs.List.{remove}
 use Rattle.std.specs.Option.{option_or}
@@ -7,10 +7,11 @@ use Rattle.std.proofs.lemmas.Bool.{cases_Bool}
 use Rattle.std.proofs.lemmas.List.{take_more, drop_more, take-append-drop, take-set, drop-set-lt, length-set, get_or-set_same}
 use Rattle.std.proofs.lemmas.Slice.Eq.{bytes_eq-Decides}
 use Rattle.yf_server.specs.declared.documents.OpenDocument.{OpenDocument}
-use Rattle.yf_server.specs.declared.documents.Outcome.TheVariants.{Done, OldVersion, ReversedRange}
+use Rattle.yf_server.specs.declared.documents.Outcome.{Outcome}
+use Rattle.yf_server.specs.declared.documents.Outcome.TheVariants.{Done, OldVersion}
 use Rattle.yf_positions.specs.declared.encoding.Encoding.{Encoding}
-use Rattle.yf_positions.specs.Changes.{TextChange, all_changed}
-use Rattle.yf_server.specs.Documents.{IsFirst, OpenText, Updates, change_outcome, changed_by, close_outcome, find, text_of}
+use Rattle.yf_positions.specs.Changes.{TextChange}
+use Rattle.yf_server.specs.Documents.{IsFirst, OpenText, Updates, change_outcome, changed_by, close_outcome, find, start_of, text_after, text_of, text_outcome, without_text}
 
 -- the first of both lists
 pub find_append : (u : List ℕ) (xs ys : List OpenDocument) → find u (xs ++ ys) ≡ option_or (find u xs) (find u ys)
@@ -149,23 +150,42 @@ pub updates_to : (before after : List OpenDocument) (u : List ℕ) (now same : O
     → Updates before after u now → Updates before after u same
 updates_to before after u now same e h = subst (Updates before after u) e h
 
--- a change that is too old, a reversed one, and one that is made
+-- a text that is lost
+pub lost_none : (u : List ℕ) (xs : List OpenDocument) → find u xs ≡ None
+    → Updates xs xs u (option_map without_text (find u xs))
+lost_none u xs h = updates_to xs xs u (find u xs) (option_map without_text (find u xs))
+    (h ∙ sym (ap (option_map without_text) h)) (unchanged u xs)
+
+pub lost_first : (u : List ℕ) (xs : List OpenDocument) (i : ℕ) (x d : OpenDocument) → IsFirst xs u i → x ≡ get_or xs i x
+    → d.uri ≡ x.uri → text_of d ≡ without_text (text_of x)
+    → Updates xs (set xs i d) u (option_map without_text (find u xs))
+lost_first u xs i x d f is uri made =
+    let same : x ≡ f.document =
+    is ∙ ap (λ l. get_or l 0 x) (sym (drop_more xs i x f.within) ∙ f.rest) in
+    let named : bytes_eq u (string_bytes d.uri) ≡ true =
+    ap (λ v. bytes_eq u (string_bytes v)) uri ∙ ap (λ y. bytes_eq u (string_bytes y.uri)) same ∙ f.named in
+    updates_to xs (set xs i d) u (Some (text_of d)) (option_map without_text (find u xs))
+    (ap Some made ∙ sym (ap (option_map without_text) (found_at u xs i x f is))) (put_first u xs i d f named)
+
+-- a change that is too old, one that leads to no text, and one that is made
 pub too_old : (e : Encoding) (was : Option OpenText) (x : OpenDocument) (version : ℤ) (changes : List TextChange)
     → was ≡ Some (text_of x) → int_lt x.version version ≡ false
     → (was ≡ changed_by e was version changes) × (OldVersion ≡ change_outcome e was version changes)
 too_old e was x version changes is h = rw is (rw h (refl, refl))
 
-pub reversed : (e : Encoding) (was : Option OpenText) (x : OpenDocument) (version : ℤ) (changes : List TextChange)
-    → was ≡ Some (text_of x) → int_lt x.version version ≡ true → all_changed e x.document changes ≡ None
-    → (was ≡ changed_by e was version changes) × (ReversedRange ≡ change_outcome e was version changes)
-reversed e was x version changes is h none = rw is (rw (h, none) (refl, refl))
+pub kept : (e : Encoding) (was : Option OpenText) (x : OpenDocument) (version : ℤ) (changes : List TextChange)
+    (outcome : Outcome) → was ≡ Some (text_of x) → int_lt x.version version ≡ true
+    → (text_after e x.document changes ≡ None) × (text_outcome e changes (start_of x.document changes) ≡ outcome)
+    → (was ≡ changed_by e was version changes) × (outcome ≡ change_outcome e was version changes)
+kept e was x version changes outcome is h t = rw is (rw (h, t.0) (refl, sym t.1))
 
 pub made : (e : Encoding) (was : Option OpenText) (x : OpenDocument) (version : ℤ) (changes : List TextChange)
     (text : List ℕ) → was ≡ Some (text_of x) → int_lt x.version version ≡ true
-    → all_changed e x.document changes ≡ Some text
-    → (Some (record { version = version; text = text }) ≡ changed_by e was version changes)
+    → (text_after e x.document changes ≡ Some text)
+    × (text_outcome e changes (start_of x.document changes) ≡ Done)
+    → (Some (record { version = version; text = Some text }) ≡ changed_by e was version changes)
     × (Done ≡ change_outcome e was version changes)
-made e was x version changes text is h all = rw is (rw (h, all) (refl, refl))
+made e was x version changes text is h t = rw is (rw (h, t.0) (refl, sym t.1))
 
 pub was_open : (was : Option OpenText) (x : OpenText) → was ≡ Some x → Done ≡ close_outcome was
 was_open was x is = rw is refl

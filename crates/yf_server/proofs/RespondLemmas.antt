@@ -5,7 +5,6 @@ use Rattle.serde_json.specs.Data.{Data}
 use Rattle.serde_json.specs.declared.value.Value.{Value}
 use Rattle.serde_json.specs.View.{view}
 use Rattle.yf_json_rpc.specs.declared.error_code.ErrorCode.{ErrorCode}
-use Rattle.yf_json_rpc.specs.Messages.{reply}
 use Rattle.yf_positions.specs.declared.encoding.Encoding.{Encoding}
 use Rattle.yf_server.specs.declared.documents.OpenDocument.{OpenDocument}
 use Rattle.yf_server.specs.Analysis.{TextClaim}
@@ -13,33 +12,30 @@ use Rattle.yf_server.specs.Documents.{OpenText, find, text_of}
 use Rattle.yf_server.specs.declared.query.Query.{Query}
 use Rattle.yf_server.specs.Edits.{FailsWith, named_uri}
 use Rattle.yf_server.specs.Queries.{query_of}
-use Rattle.yf_server.specs.Responses.{AnswersFor, AnswersQuery, AnswersRequest, AnswersUri, IsResult}
+use Rattle.yf_server.specs.Responses.{AnswersFor, AnswersQuery, AnswersRequest, AnswersText, AnswersUri}
 use Rattle.yf_server.specs.Steps.{response_ids}
 
 -- the answer for an open document
-answer_open : (claim : TextClaim) (e : Encoding) (id : Data) (query : Query) (uri : List ℕ) (was : Option OpenText)
-    (x : OpenDocument) (value answer : Data) → was ≡ Some (text_of x) → IsResult claim e query uri x.document value
-    → answer ≡ reply id value → AnswersFor claim e id query uri was (Some answer)
-answer_open claim e id query uri was x value answer is h a =
-    rw is (record { value = value; is = ap Some a; holds = h })
-
 pub answers_open : (claim : TextClaim) (e : Encoding) (id : Data) (query : Query) (uri : List ℕ) (was : Option OpenText)
-    (x : OpenDocument) (value : Data) (r : Result Value AllocError) → was ≡ Some (text_of x)
-    → IsResult claim e query uri x.document value → IfOk r (λ answer. view answer ≡ reply id value)
+    (x : OpenDocument) (r : Result Value AllocError) → was ≡ Some (text_of x)
+    → IfOk r (λ answer. AnswersText claim e id query uri x.document (Some (view answer)))
     → IfOk r (λ answer. AnswersFor claim e id query uri was (Some (view answer)))
-answers_open claim e id query uri was x value (Ok answer) is h a =
-    answer_open claim e id query uri was x value (view answer) is h a
-answers_open claim e id query uri was x value (Err refused) is h a = tt
+answers_open claim e id query uri was x r is h = rw is h
 
 -- each response is one, with the id
 failed_once : (id : Data) (code : ErrorCode) (sent : Option Data) → FailsWith id code sent
     → response_ids (option_to_list sent) ≡ id ∷ []
 failed_once id code sent h = rw h.is refl
 
+text_once : (claim : TextClaim) (e : Encoding) (id : Data) (query : Query) (uri : List ℕ) (text : Option (List ℕ))
+    (sent : Option Data) → AnswersText claim e id query uri text sent → response_ids (option_to_list sent) ≡ id ∷ []
+text_once claim e id query uri None sent h = rw h.is refl
+text_once claim e id query uri (Some text) sent h = rw h.is refl
+
 for_once : (claim : TextClaim) (e : Encoding) (id : Data) (query : Query) (uri : List ℕ) (was : Option OpenText)
     (sent : Option Data) → AnswersFor claim e id query uri was sent → response_ids (option_to_list sent) ≡ id ∷ []
 for_once claim e id query uri None sent h = rw h.is refl
-for_once claim e id query uri (Some was) sent h = rw h.is refl
+for_once claim e id query uri (Some was) sent h = text_once claim e id query uri was.text sent h
 
 uri_once : (claim : TextClaim) (e : Encoding) (documents : List OpenDocument) (id : Data) (query : Query)
     (uri : Option (List ℕ)) (sent : Option Data) → AnswersUri claim e documents id query uri sent

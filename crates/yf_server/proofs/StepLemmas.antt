@@ -50,6 +50,7 @@ notes Outcome.Done sent h = rw h refl
 notes Outcome.NotOpen sent h = rw h.is refl
 notes Outcome.OldVersion sent h = rw h.is refl
 notes Outcome.ReversedRange sent h = rw h.is refl
+notes Outcome.Lost sent h = rw h.is refl
 
 logged_none : (sent : Option Data) → IsLogged sent → response_ids (option_to_list sent) ≡ []
 logged_none sent h = rw h.is refl

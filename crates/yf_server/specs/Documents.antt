@@ -1,18 +1,19 @@
--- The open documents of a server, by their URIs, and the actions of a client on them.
-use Rattle.std.specs.Prelude.{◌≡◌, ℕ, ℤ, ◌+◌, ◌<◌, List, [], ◌∷◌, length, take, drop, true, ⊤, bytes_eq, int_lt, string_bytes, Option, None, Some, if◌then◌else◌}
+-- The open documents of a server, by their URIs, and what a client does with them.
+use Rattle.std.specs.Prelude.{◌≡◌, ℕ, ℤ, ◌+◌, ◌<◌, List, [], ◌∷◌, length, take, drop, true, ⊤, bytes_eq, int_lt, string_bytes, Option, None, Some, option_and_then, if◌then◌else◌}
 use Rattle.yf_positions.specs.declared.encoding.Encoding.{Encoding}
+use Rattle.yf_positions.specs.declared.position.LspRange.{LspRange}
 use Rattle.yf_positions.specs.Changes.{TextChange, all_changed}
 use Rattle.yf_server.specs.declared.documents.DocumentAct.{DocumentAct}
 use Rattle.yf_server.specs.declared.documents.DocumentAct.TheVariants as Read
 use Rattle.yf_server.specs.declared.documents.DocumentEvent.{DocumentEvent}
 use Rattle.yf_server.specs.declared.documents.OpenDocument.{OpenDocument}
 use Rattle.yf_server.specs.declared.documents.Outcome.{Outcome}
-use Rattle.yf_server.specs.declared.documents.Outcome.TheVariants.{Done, NotOpen, OldVersion, ReversedRange}
+use Rattle.yf_server.specs.declared.documents.Outcome.TheVariants.{Done, NotOpen, OldVersion, ReversedRange, Lost}
 
--- the version and the text of a document
+-- the version and the text of a document; no text if it is lost: the client's text is another one than the server had
 pub record OpenText : Type 0 where
   pub version : ℤ
-  pub text : List ℕ
+  pub text : Option (List ℕ)
 
 abbrev pub text_of : OpenDocument → OpenText
 text_of x = record { version = x.version; text = x.document }
@@ -53,20 +54,39 @@ act_read Read.Close = close
 abbrev pub event_read : DocumentEvent → Event
 event_read event = record { uri = event.uri.now; act = act_read event.act }
 
--- a document with the text after changes; it is unchanged if a range was reversed
+-- a document with the text that changes left; as it was if there is none
 abbrev pub with_text : OpenText → ℤ → Option (List ℕ) → OpenText
 with_text was version None = was
-with_text was version (Some text) = record { version = version; text = text }
+with_text was version (Some text) = record { version = version; text = Some text }
+
+-- the text of a document is lost
+abbrev pub without_text : OpenText → OpenText
+without_text was = record { version = was.version; text = None }
+
+-- The text that changes are made of. If it is lost, there is one only if the first change is of the whole text: then it
+-- does not matter.
+abbrev pub start_by : Option LspRange → Option (List ℕ)
+start_by None = Some []
+start_by (Some range) = None
+
+abbrev pub start_of : Option (List ℕ) → List TextChange → Option (List ℕ)
+start_of (Some text) changes = Some text
+start_of None [] = None
+start_of None (x ∷ rest) = start_by x.range
+
+-- the text after changes
+abbrev pub text_after : Encoding → Option (List ℕ) → List TextChange → Option (List ℕ)
+text_after e was changes = option_and_then (λ text. all_changed e text changes) (start_of was changes)
 
 -- a document is changed only by a version that is higher than its own
 abbrev pub changed_by : Encoding → Option OpenText → ℤ → List TextChange → Option OpenText
 changed_by e None version changes = None
 changed_by e (Some was) version changes =
-    if int_lt was.version version then Some (with_text was version (all_changed e was.text changes)) else Some was
+    if int_lt was.version version then Some (with_text was version (text_after e was.text changes)) else Some was
 
 -- a document after an action
 abbrev pub acted : Encoding → Option OpenText → Act → Option OpenText
-acted e was (open_text version text) = Some (record { version = version; text = text })
+acted e was (open_text version text) = Some (record { version = version; text = Some text })
 acted e was (change version changes) = changed_by e was version changes
 acted e was close = None
 
@@ -82,10 +102,15 @@ abbrev pub range_outcome : Option (List ℕ) → Outcome
 range_outcome None = ReversedRange
 range_outcome (Some text) = Done
 
+-- by the text that the changes are made of
+abbrev pub text_outcome : Encoding → List TextChange → Option (List ℕ) → Outcome
+text_outcome e changes None = Lost
+text_outcome e changes (Some text) = range_outcome (all_changed e text changes)
+
 abbrev pub change_outcome : Encoding → Option OpenText → ℤ → List TextChange → Outcome
 change_outcome e None version changes = NotOpen
 change_outcome e (Some was) version changes =
-    if int_lt was.version version then range_outcome (all_changed e was.text changes) else OldVersion
+    if int_lt was.version version then text_outcome e changes (start_of was.text changes) else OldVersion
 
 abbrev pub close_outcome : Option OpenText → Outcome
 close_outcome None = NotOpen
@@ -103,3 +128,4 @@ StaysAt Done before after = ⊤
 StaysAt NotOpen before after = after ≡ before
 StaysAt OldVersion before after = after ≡ before
 StaysAt ReversedRange before after = after ≡ before
+StaysAt Lost before after = after ≡ before

@@ -11,3 +11,4 @@ pub mod Actions
 pub mod Diagnostics
 pub mod Responses
 pub mod Publish
+pub mod Losses

@@ -25,16 +25,21 @@ abbrev pub publication : Data → Data
 publication params = call (codes "textDocument/publishDiagnostics") params
 
 -- the problems of the text of an open document, with its version
-pub record Publishes (claim : TextClaim) (e : Encoding) (uri : List ℕ) (was : OpenText) (sent : Option Data) : Type 0
-  where
-    pub found : List Found
-    pub finds : claim.Finds was.text found
-    pub is : sent ≡ Some (publication (published uri was.version (diagnostics e was.text found)))
+pub record Publishes (claim : TextClaim) (e : Encoding) (uri : List ℕ) (version : ℤ) (text : List ℕ)
+    (sent : Option Data) : Type 0 where
+  pub found : List Found
+  pub finds : claim.Finds text found
+  pub is : sent ≡ Some (publication (published uri version (diagnostics e text found)))
+
+-- what is published of an open document: no problems if its text is lost
+abbrev pub PublishesText : TextClaim → Encoding → List ℕ → ℤ → Option (List ℕ) → Option Data → Type 0
+PublishesText claim e uri version None sent = sent ≡ Some (publication (cleared uri))
+PublishesText claim e uri version (Some text) sent = Publishes claim e uri version text sent
 
 -- the publication for the document with a URI: no problems if it is not open
 abbrev pub PublishesFor : TextClaim → Encoding → List ℕ → Option OpenText → Option Data → Type 0
 PublishesFor claim e uri None sent = sent ≡ Some (publication (cleared uri))
-PublishesFor claim e uri (Some was) sent = Publishes claim e uri was sent
+PublishesFor claim e uri (Some was) sent = PublishesText claim e uri was.version was.text sent
 
 abbrev pub PublishesUri : TextClaim → Encoding → List OpenDocument → Option (List ℕ) → Option Data → Type 0
 PublishesUri claim e documents None sent = sent ≡ None

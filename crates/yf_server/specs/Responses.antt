@@ -2,7 +2,7 @@
 use Rattle.std.specs.Prelude.{ℕ, List, Option, None, Some, Result, Ok, Err}
 use Rattle.serde_json.specs.Data.{Data}
 use Rattle.yf_json_rpc.specs.declared.error_code.ErrorCode.{ErrorCode}
-use Rattle.yf_json_rpc.specs.declared.error_code.ErrorCode.TheVariants.{InvalidParams}
+use Rattle.yf_json_rpc.specs.declared.error_code.ErrorCode.TheVariants.{InvalidParams, RequestFailed}
 use Rattle.yf_positions.specs.declared.encoding.Encoding.{Encoding}
 use Rattle.yf_server.specs.declared.documents.OpenDocument.{OpenDocument}
 use Rattle.yf_server.specs.declared.query.Query.{Query}
@@ -20,10 +20,15 @@ IsResult claim e Formatting uri text value = IsFormatting claim e text value
 IsResult claim e (Actions wanted) uri text value = AreActions claim e wanted uri text value
 IsResult claim e Problems uri text value = IsReport claim e text value
 
+-- the answer for an open document, or an error if its text is lost
+abbrev pub AnswersText : TextClaim → Encoding → Data → Query → List ℕ → Option (List ℕ) → Option Data → Type 0
+AnswersText claim e id query uri None sent = FailsWith id RequestFailed sent
+AnswersText claim e id query uri (Some text) sent = Replies (IsResult claim e query uri text) id sent
+
 -- the answer for a document, or an error if it is not open
 abbrev pub AnswersFor : TextClaim → Encoding → Data → Query → List ℕ → Option OpenText → Option Data → Type 0
 AnswersFor claim e id query uri None sent = FailsWith id InvalidParams sent
-AnswersFor claim e id query uri (Some was) sent = Replies (IsResult claim e query uri was.text) id sent
+AnswersFor claim e id query uri (Some was) sent = AnswersText claim e id query uri was.text sent
 
 -- the answer for the document of a URI, or an error if the parameters have none
 abbrev pub AnswersUri : TextClaim → Encoding → List OpenDocument → Data → Query → Option (List ℕ) → Option Data → Type 0

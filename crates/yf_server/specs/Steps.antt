@@ -172,6 +172,7 @@ IsNote Outcome.Done sent = sent ≡ None
 IsNote Outcome.NotOpen sent = IsLogged sent
 IsNote Outcome.OldVersion sent = IsLogged sent
 IsNote Outcome.ReversedRange sent = IsLogged sent
+IsNote Outcome.Lost sent = IsLogged sent
 
 -- the warning to the client if a notification could not be handled, or if one on a document has malformed parameters
 abbrev pub IsNoteOf : Encoding → List OpenDocument → List ℕ → Option Event → Option Data → Type 0

@@ -1,6 +1,7 @@
 //! The open documents of a server.
-ghost use Rattle.std.specs.Prelude.{◌≡◌, None, Some, IfOk, MatchOption, OnErr, OnOk, int_lt, string_bytes};
-ghost use Rattle.yf_server.specs.Documents.{IsFirst, FollowsEvent, StaysAt, Updates, act_read, change_outcome, changed_by, close_outcome, event_read, find, outcome_of, text_of};
+ghost use Rattle.std.specs.Prelude.{◌≡◌, [], None, Some, IfOk, IsErrOf, MatchBool, MatchOption, OnErr, OnOk, int_lt, option_map, string_bytes};
+ghost use Rattle.yf_positions.specs.Changes.{all_changed};
+ghost use Rattle.yf_server.specs.Documents.{IsFirst, FollowsEvent, StaysAt, Updates, act_read, change_outcome, changed_by, close_outcome, event_read, find, outcome_of, start_of, text_after, text_of, text_outcome, without_text};
 
 use std::alloc::{AllocError, Global};
 use yf_positions::change::{ChangeError, ContentChange};
@@ -14,7 +15,8 @@ pub struct OpenDocument {
     pub uri: String,
     /// The version, which the client makes higher with each change.
     pub version: i64,
-    pub document: Document,
+    /// The text; `None` if it is lost: the client's text is another one than the server had.
+    pub document: Option<Document>,
 }
 
 /// An action of a client on a document.
@@ -52,6 +54,19 @@ pub enum Outcome {
     OldVersion,
     /// The range of a change ends before it starts.
     ReversedRange,
+    /// The text is lost, and the first change is not of the whole text.
+    Lost,
+}
+
+/// Why a text is not changed.
+#[derive(Clone, Copy)]
+enum Unchanged {
+    /// Memory was refused.
+    Memory,
+    /// The range of a change ends before it starts.
+    ReversedRange,
+    /// The text is lost, and the first change is not of the whole text.
+    Lost,
 }
 
 /// Returns the index of the first document with a URI.
@@ -108,6 +123,66 @@ fn is_newer(was: &OpenDocument, version: i64) -> bool
     was.version < version
 }
 
+/// Returns a document after changes.
+fn after_changes(
+    alloc: Global,
+    was: &Document,
+    changes: &[ContentChange<'_>],
+    encoding: Encoding,
+) -> Result<Document, Unchanged>
+    ensures done { IfOk result (λ document. all_changed encoding was.now changes.now ≡ Some document) }
+    ensures reversed { IsErrOf result Unchanged.ReversedRange → all_changed encoding was.now changes.now ≡ None }
+    ensures known { IsErrOf result Unchanged.Lost → ⊥ }
+{
+    match was.after_changes(alloc, changes, encoding) {
+        Ok(document) => Ok(document),
+        Err(ChangeError::ReversedRange) => Err(Unchanged::ReversedRange),
+        Err(ChangeError::Memory) => Err(Unchanged::Memory),
+    }
+}
+
+/// Returns whether the first change is of the whole text.
+fn is_whole(changes: &[ContentChange<'_>]) -> bool
+    ensures { MatchBool result (start_of None changes.now ≡ Some []) (start_of None changes.now ≡ None) }
+{
+    if changes.is_empty() {
+        return false;
+    }
+    let first = &changes[0];
+    match first.range {
+        None => true,
+        Some(_) => false,
+    }
+}
+
+/// Returns the document that changes lead to.
+fn changed(
+    alloc: Global,
+    was: &Option<Document>,
+    changes: &[ContentChange<'_>],
+    encoding: Encoding,
+) -> Result<Document, Unchanged>
+    ensures done { IfOk result (λ document. (text_after encoding was.now changes.now ≡ Some document)
+        × (text_outcome encoding changes.now (start_of was.now changes.now) ≡ Outcome.Done)) }
+    ensures reversed { IsErrOf result Unchanged.ReversedRange → (text_after encoding was.now changes.now ≡ None)
+        × (text_outcome encoding changes.now (start_of was.now changes.now) ≡ Outcome.ReversedRange) }
+    ensures lost { IsErrOf result Unchanged.Lost → (text_after encoding was.now changes.now ≡ None)
+        × (text_outcome encoding changes.now (start_of was.now changes.now) ≡ Outcome.Lost) }
+{
+    match was {
+        Some(document) => after_changes(alloc, document, changes, encoding),
+        None => {
+            if !is_whole(changes) {
+                return Err(Unchanged::Lost);
+            }
+            let Ok(empty) = Document::new(alloc, String::new(alloc)) else {
+                return Err(Unchanged::Memory);
+            };
+            after_changes(alloc, &empty, changes, encoding)
+        }
+    }
+}
+
 /// Changes a document, if it is open and the version is higher than the one before.
 fn change(
     alloc: Global,
@@ -132,16 +207,17 @@ fn change(
     if !is_newer(was, version) {
         return Ok(Outcome::OldVersion);
     }
-    let document = match was.document.after_changes(alloc, changes, encoding) {
+    let document = match changed(alloc, &was.document, changes, encoding) {
         Ok(document) => document,
-        Err(ChangeError::ReversedRange) => return Ok(Outcome::ReversedRange),
-        Err(ChangeError::Memory) => return Err(AllocError),
+        Err(Unchanged::ReversedRange) => return Ok(Outcome::ReversedRange),
+        Err(Unchanged::Lost) => return Ok(Outcome::Lost),
+        Err(Unchanged::Memory) => return Err(AllocError),
     };
     let uri = String::from_str(alloc, uri)?;
     documents[at] = OpenDocument {
         uri,
         version,
-        document,
+        document: Some(document),
     };
     Ok(Outcome::Done)
 }
@@ -161,6 +237,17 @@ fn close(documents: &mut Vec<OpenDocument>, uri: &str) -> Outcome
     }
 }
 
+/// Drops the text of a document.
+pub fn lose(documents: &mut Vec<OpenDocument>, uri: &str)
+    ensures { Updates documents.old.items documents.new.items uri.now
+        (option_map without_text (find uri.now documents.old.items)) }
+{
+    match place_of(documents.as_slice(), uri) {
+        None => {}
+        Some(at) => documents[at].document = None,
+    }
+}
+
 /// Opens a document, also if it is open.
 fn open(
     alloc: Global,
@@ -170,7 +257,7 @@ fn open(
     text: &str,
 ) -> Result<(), AllocError>
     ensures done { OnOk result (Updates documents.old.items documents.new.items uri.now
-        (Some (record { version = version; text = text.now }))) }
+        (Some (record { version = version; text = Some text.now }))) }
     ensures kept { OnErr result (documents.new.items ≡ documents.old.items) }
 {
     let text = String::from_str(alloc, text)?;
@@ -181,15 +268,15 @@ fn open(
         OpenDocument {
             uri,
             version,
-            document,
+            document: Some(document),
         },
     )
 }
 
 /// Handles a client's event for a document, and returns the outcome.
 ///
-/// A document that is opened while it is open gets the new version and text. A document that cannot be changed is
-/// unchanged.
+/// A document that is opened while it is open gets the new version and text. A document that cannot be changed stays as
+/// it was. If its text is lost, only changes that begin with one of the whole text change it.
 ///
 /// # Errors
 ///

@@ -13,6 +13,7 @@ pub mod edits;
 pub mod handshake;
 pub mod laws;
 pub mod lifecycle;
+pub mod loss;
 pub mod notify;
 pub mod parameters;
 pub mod publish;

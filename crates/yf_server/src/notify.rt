@@ -45,7 +45,11 @@ fn event_of<'v>(
     }
 }
 
-/// Returns the text for an outcome in the client's log.
+/// What a client shows of a document whose text is lost.
+pub const LOST: &str =
+    "the server has no memory for the text of the document: open it again, or send the whole text";
+
+/// Returns what the client's log shows of an outcome.
 fn warning(outcome: Outcome) -> &'static str {
     match outcome {
         Outcome::Done => "the document was changed",
@@ -54,6 +58,7 @@ fn warning(outcome: Outcome) -> &'static str {
             "the version is not higher than the one before, so the document was not changed",
         Outcome::ReversedRange =>
             "the end of a range is before its start, so the document was not changed",
+        Outcome::Lost => LOST,
     }
 }
 
@@ -65,7 +70,7 @@ fn warning_params(alloc: Global, text: &str) -> Result<Value, AllocError>
 }
 
 /// Returns a warning for the log of the client (`window/logMessage`).
-fn log_message(alloc: Global, text: &str) -> Result<Value, AllocError>
+pub fn log_message(alloc: Global, text: &str) -> Result<Value, AllocError>
     ensures { IfOk result (λ value. view value ≡ log_message text.now) }
 {
     let params = warning_params(alloc, text)?;
@@ -89,6 +94,10 @@ fn note_of(alloc: Global, outcome: Outcome) -> Result<Option<Value>, AllocError>
             Ok(Some(note))
         }
         Outcome::ReversedRange => {
+            let note = log_message(alloc, text)?;
+            Ok(Some(note))
+        }
+        Outcome::Lost => {
             let note = log_message(alloc, text)?;
             Ok(Some(note))
         }

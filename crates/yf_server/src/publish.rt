@@ -3,7 +3,7 @@ ghost use Rattle.std.specs.Prelude.{◌≡◌, Some, IfOk, option_map};
 ghost use Rattle.serde_json.specs.View.{view};
 ghost use Rattle.yf_json_rpc.specs.Messages.{kind_read};
 ghost use Rattle.yf_server.specs.Documents.{find, text_of};
-ghost use Rattle.yf_server.specs.Publish.{IsPublished, PublishesFor, PublishesUri, cleared, publication, published};
+ghost use Rattle.yf_server.specs.Publish.{IsPublished, Publishes, PublishesFor, PublishesUri, cleared, publication, published};
 
 use crate::analysis::Analysis;
 use crate::diagnostics::diagnostics;
@@ -15,22 +15,17 @@ use crate::step::{Server, is_notification, method_of};
 use serde_json::{Value, json};
 use std::alloc::{AllocError, Global};
 use yf_json_rpc::message::{message_of, notification};
+use yf_positions::document::Document;
 use yf_positions::encoding::Encoding;
 
-/// Returns the publication for a document, from its problems as JSON.
-fn published(
-    alloc: Global,
-    uri: &str,
-    opened: &OpenDocument,
-    listed: &Value,
-) -> Result<Value, AllocError>
-    ensures { IfOk result (λ value. view value ≡ published uri.now opened.now.version (view listed.now)) }
+/// Returns what is published of a document, by its version and its problems as JSON.
+fn published(alloc: Global, uri: &str, version: i64, listed: Value) -> Result<Value, AllocError>
+    ensures { IfOk result (λ value. view value ≡ published uri.now version (view listed)) }
 {
-    let version = opened.version;
     json!(in alloc; {"uri": uri, "version": version, "diagnostics": listed})
 }
 
-/// Returns the publication for a document that is not open.
+/// Returns what is published of a document that is not open, or whose text is lost.
 fn cleared(alloc: Global, uri: &str) -> Result<Value, AllocError>
     ensures { IfOk result (λ value. view value ≡ cleared uri.now) }
 {
@@ -45,7 +40,33 @@ fn publication(alloc: Global, params: &Value) -> Result<Value, AllocError>
     notification(alloc, "textDocument/publishDiagnostics", params)
 }
 
-/// Returns the publication for an open document.
+/// Returns the notification that a document has no problems.
+fn clearing(alloc: Global, uri: &str) -> Result<Value, AllocError>
+    ensures { IfOk result (λ value. view value ≡ publication (cleared uri.now)) }
+{
+    let params = cleared(alloc, uri)?;
+    publication(alloc, &params)
+}
+
+/// Returns what is published of the text of an open document.
+fn publish_text<A: Analysis>(
+    alloc: Global,
+    analysis: &A,
+    uri: &str,
+    version: i64,
+    document: &Document,
+    encoding: Encoding,
+) -> Result<Value, AllocError>
+    ensures { IfOk result (λ value. Publishes (A.claim analysis.now) encoding uri.now version document.now
+        (Some (view value))) }
+{
+    let problems = analysis.problems(alloc, document.text())?;
+    let listed = diagnostics(alloc, document, problems.as_slice(), encoding)?;
+    let params = published(alloc, uri, version, listed)?;
+    publication(alloc, &params)
+}
+
+/// Returns what is published of an open document.
 fn publish_open<A: Analysis>(
     alloc: Global,
     analysis: &A,
@@ -56,11 +77,10 @@ fn publish_open<A: Analysis>(
     ensures { IfOk result (λ value. PublishesFor (A.claim analysis.now) encoding uri.now
         (Some (text_of opened.now)) (Some (view value))) }
 {
-    let document = &opened.document;
-    let problems = analysis.problems(alloc, document.text())?;
-    let listed = diagnostics(alloc, document, problems.as_slice(), encoding)?;
-    let params = published(alloc, uri, opened, &listed)?;
-    publication(alloc, &params)
+    match &opened.document {
+        None => clearing(alloc, uri),
+        Some(document) => { publish_text(alloc, analysis, uri, opened.version, document, encoding) }
+    }
 }
 
 /// Returns the publication for the document with a URI.
@@ -75,10 +95,7 @@ fn publish_uri<A: Analysis>(
         (find uri.now documents.now) (Some (view value))) }
 {
     match place_of(documents, uri) {
-        None => {
-            let params = cleared(alloc, uri)?;
-            publication(alloc, &params)
-        }
+        None => clearing(alloc, uri),
         Some(at) => {
             let opened = &documents[at];
             publish_open(alloc, analysis, uri, opened, encoding)

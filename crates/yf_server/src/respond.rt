@@ -5,13 +5,14 @@ ghost use Rattle.yf_json_rpc.specs.Messages.{reply};
 ghost use Rattle.yf_server.specs.Documents.{find};
 ghost use Rattle.yf_server.specs.Edits.{FailsWith, IsFormatting, named_uri};
 ghost use Rattle.yf_server.specs.Queries.{query_of};
-ghost use Rattle.yf_server.specs.Responses.{AnswersFor, AnswersRequest, AnswersUri, IsResult};
+ghost use Rattle.yf_server.specs.Responses.{AnswersFor, AnswersRequest, AnswersText, AnswersUri, IsResult};
 
 use crate::actions::actions;
 use crate::analysis::Analysis;
 use crate::diagnostics::report;
 use crate::documents::{OpenDocument, place_of};
 use crate::edits::edits_to;
+use crate::notify::LOST;
 use crate::parameters::string_in;
 use crate::query::{Query, query_of};
 use serde_json::Value;
@@ -91,6 +92,35 @@ fn result_of<A: Analysis>(
     }
 }
 
+/// Returns the error for a document whose text is lost.
+fn lost(alloc: Global, id: &Value) -> Result<Value, AllocError>
+    ensures { IfOk result (λ answer. FailsWith (view id.now) ErrorCode.RequestFailed (Some (view answer))) }
+{
+    failure(alloc, id, ErrorCode::RequestFailed, LOST)
+}
+
+/// Returns the answer for the text of an open document.
+fn answer_text<A: Analysis>(
+    alloc: Global,
+    analysis: &A,
+    text: &Option<Document>,
+    id: &Value,
+    query: Query,
+    uri: &str,
+    encoding: Encoding,
+) -> Result<Value, AllocError>
+    ensures { IfOk result (λ answer. AnswersText (A.claim analysis.now) encoding (view id.now) query uri.now
+        text.now (Some (view answer))) }
+{
+    match text {
+        None => lost(alloc, id),
+        Some(document) => {
+            let value = result_of(alloc, analysis, query, uri, document, encoding)?;
+            reply(alloc, id, &value)
+        }
+    }
+}
+
 /// Returns the answer for the document of a URI.
 fn answer_for<A: Analysis>(
     alloc: Global,
@@ -107,9 +137,8 @@ fn answer_for<A: Analysis>(
     match place_of(documents, uri) {
         None => failure_of(alloc, id, ErrorCode::InvalidParams),
         Some(at) => {
-            let document = &documents[at];
-            let value = result_of(alloc, analysis, query, uri, &document.document, encoding)?;
-            reply(alloc, id, &value)
+            let opened = &documents[at];
+            answer_text(alloc, analysis, &opened.document, id, query, uri, encoding)
         }
     }
 }
@@ -118,7 +147,8 @@ fn answer_for<A: Analysis>(
 ///
 /// `textDocument/formatting` and `textDocument/willSaveWaitUntil` get the edits that format an open document, or null if
 /// it cannot be formatted. `textDocument/codeAction` gets the action with these edits, and `textDocument/diagnostic` the
-/// problems. Any other method gets the error -32601, and a document that is not open the error -32602.
+/// problems. Any other method gets the error -32601, a document that is not open the error -32602, and one whose text is
+/// lost the error -32803.
 ///
 /// # Errors
 ///

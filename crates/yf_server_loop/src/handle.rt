@@ -1,11 +1,13 @@
-//! The handling of a message's content.
-ghost use Rattle.std.specs.Prelude.{◌≡◌, ◌≤◌, ℕ, List, None, Some, drop, length, slice_range, IfOk, OnOk, option_map};
+//! What is done with the content of a message.
+ghost use Rattle.std.specs.Prelude.{◌≡◌, ◌≤◌, ◌⊎◌, [], Some, drop, length, slice_range, IfOk, OnOk, option_map};
+ghost use Rattle.serde_json.specs.Data.{Data};
 ghost use Rattle.serde_json.specs.Data.{Data};
 ghost use Rattle.serde_json.specs.View.{view};
-ghost use Rattle.yf_json_rpc.specs.declared.error_code.ErrorCode.TheVariants.{RequestFailed};
-ghost use Rattle.yf_json_rpc.specs.Messages.{kind_of, request};
+ghost use Rattle.yf_json_rpc.specs.Messages.{kind_of};
 ghost use Rattle.yf_server.specs.Edits.{FailsWith};
-ghost use Rattle.yf_server_loop.specs.Handled.{Adds, AreWritten, Handles, IsWritten, Parses, Reacts, exit_of};
+ghost use Rattle.yf_server.specs.Laws.{wants_answer};
+ghost use Rattle.yf_server.specs.Steps.{id_of};
+ghost use Rattle.yf_server_loop.specs.Handled.{Adds, AreWritten, Handles, IsLost, IsSent, IsUnsent, IsWritten, Parses, Reacts, Sends, TellsLoss, Undoes, exit_of};
 
 use serde_json::Value;
 use std::alloc::{AllocError, Global};
@@ -14,9 +16,11 @@ use yf_json_rpc::frame::Content;
 use yf_json_rpc::message::{Message, message_of, push_message};
 use yf_server::analysis::Analysis;
 use yf_server::lifecycle::Task;
+use yf_server::loss::lose_notified;
+use yf_server::notify::{LOST, log_message};
 use yf_server::publish::publish;
 use yf_server::respond::failure_of;
-use yf_server::step::{Server, step};
+use yf_server::step::{Reaction, Server, step};
 
 /// The result of handling a message's content.
 #[derive(Drop)]
@@ -84,16 +88,15 @@ fn written(
     Ok(bytes)
 }
 
-/// Returns the bytes of the error response to a request that failed.
-fn failed(alloc: Global, id: &Value, code: ErrorCode) -> Result<Handled, AllocError>
-    ensures answer { IfOk result (λ handled. (sent : Data) × FailsWith (view id.now) code (Some sent)
-        × IsWritten handled.answer.items sent) }
-    ensures goes_on { IfOk result (λ handled. handled.exit ≡ None) }
+/// Returns the response that a request failed, as it is written.
+fn failed(alloc: Global, id: &Value, code: ErrorCode) -> Result<Vec<u8>, AllocError>
+    ensures { IfOk result (λ answer. (sent : Data) × FailsWith (view id.now) code (Some sent)
+        × IsWritten answer.items sent) }
 {
     let failure = failure_of(alloc, id, code)?;
     let mut answer = Vec::new(alloc);
     push_message(alloc, &mut answer, &failure)?;
-    Ok(Handled { answer, exit: None })
+    Ok(answer)
 }
 
 /// Returns whether a task ends the server, and if so whether with success.
@@ -111,17 +114,116 @@ fn exit_of(task: Task) -> Option<bool>
     }
 }
 
-/// Returns the error response to a request for which memory was refused, and no bytes for any other message.
-fn undone(alloc: Global, value: &Value) -> Result<Handled, AllocError>
-    ensures { IfOk result (λ handled. (id : Data) × (method : List ℕ) × (kind_of (view value.now) ≡ request id method)
-        × (handled.exit ≡ None) × ((sent : Data) × FailsWith id RequestFailed (Some sent)
-        × IsWritten handled.answer.items sent)) }
+/// Returns what the client hears of a document whose text is lost, as it is written.
+fn loss_told<A: Analysis>(
+    alloc: Global,
+    analysis: &A,
+    server: &Server,
+    value: &Value,
+) -> Result<Vec<u8>, AllocError>
+    ensures { IfOk result (λ answer. TellsLoss (A.claim analysis.now) server.now (view value.now) answer.items) }
+{
+    let note = log_message(alloc, LOST)?;
+    let published = publish(alloc, analysis, server, Task::Notification, value)?;
+    written(alloc, &Some(note), &published)
+}
+
+/// Returns what is written for a document whose text is lost: nothing if memory is refused again.
+fn loss_answer<A: Analysis>(
+    alloc: Global,
+    analysis: &A,
+    server: &Server,
+    value: &Value,
+) -> Vec<u8>
+    ensures { (result.items ≡ []) ⊎ TellsLoss (A.claim analysis.now) server.now (view value.now) result.items }
+{
+    match loss_told(alloc, analysis, server, value) {
+        Ok(answer) => answer,
+        Err(_) => Vec::new(alloc),
+    }
+}
+
+/// Drops the text of the document that a notification is about. Any other message fails.
+fn lost<A: Analysis>(
+    alloc: Global,
+    analysis: &A,
+    server: &mut Server,
+    value: &Value,
+) -> Result<Handled, AllocError>
+    ensures { IfOk result (λ handled. IsLost (A.claim analysis.now) server.old (view value.now)
+        handled.answer.items server.new handled.exit) }
+{
+    if !lose_notified(server, value) {
+        return Err(AllocError);
+    }
+    let answer = loss_answer(alloc, analysis, server, value);
+    Ok(Handled { answer, exit: None })
+}
+
+/// Does what is left to do if memory for a step was refused: a request gets an error, and a document that a
+/// notification is about loses its text. Any other message fails.
+fn undone<A: Analysis>(
+    alloc: Global,
+    analysis: &A,
+    server: &mut Server,
+    value: &Value,
+) -> Result<Handled, AllocError>
+    ensures { IfOk result (λ handled. Undoes (A.claim analysis.now) server.old (view value.now)
+        handled.answer.items server.new handled.exit) }
+{
+    match message_of(value) {
+        Message::Request { id, method: _ } => {
+            let answer = failed(alloc, id, ErrorCode::RequestFailed)?;
+            Ok(Handled { answer, exit: None })
+        }
+        Message::Notification { method: _ } => lost(alloc, analysis, server, value),
+        Message::Response { id: _ } => Err(AllocError),
+        Message::Invalid => Err(AllocError),
+    }
+}
+
+/// Returns what a step sends, and then what the server publishes, as it is written.
+fn all_sent<A: Analysis>(
+    alloc: Global,
+    analysis: &A,
+    server: &Server,
+    value: &Value,
+    reaction: &Reaction,
+) -> Result<Vec<u8>, AllocError>
+    ensures { IfOk result (λ answer. IsSent (A.claim analysis.now) server.now (view value.now) answer.items
+        reaction.now) }
+{
+    let published = publish(alloc, analysis, server, reaction.task, value)?;
+    written(alloc, &reaction.message, &published)
+}
+
+/// Returns what is written if memory for what a step sends was refused: an error if the message wants an answer.
+fn unsent(alloc: Global, value: &Value) -> Result<Vec<u8>, AllocError>
+    ensures { IfOk result (λ answer. IsUnsent (wants_answer (kind_of (view value.now)))
+        (id_of (kind_of (view value.now))) answer.items) }
 {
     match message_of(value) {
         Message::Request { id, method: _ } => failed(alloc, id, ErrorCode::RequestFailed),
-        Message::Notification { method: _ } => Err(AllocError),
-        Message::Response { id: _ } => Err(AllocError),
-        Message::Invalid => Err(AllocError),
+        Message::Notification { method: _ } => Ok(Vec::new(alloc)),
+        Message::Response { id: _ } => Ok(Vec::new(alloc)),
+        Message::Invalid => failed(alloc, &Value::Null, ErrorCode::RequestFailed),
+    }
+}
+
+/// Returns what is written for a step.
+fn sent<A: Analysis>(
+    alloc: Global,
+    analysis: &A,
+    server: &Server,
+    value: &Value,
+    reaction: &Reaction,
+) -> Result<Vec<u8>, AllocError>
+    ensures { IfOk result (λ answer. Sends (A.claim analysis.now) server.now (view value.now) answer.items
+        reaction.now) }
+{
+    match all_sent(alloc, analysis, server, value, reaction) {
+        Ok(answer) => Ok(answer),
+        Err(_) => unsent(alloc, value),
     }
 }
 
@@ -137,10 +239,9 @@ fn take_step<A: Analysis>(
 {
     let reaction = match step(alloc, analysis, server, value) {
         Ok(reaction) => reaction,
-        Err(_) => return undone(alloc, value),
+        Err(_) => return undone(alloc, analysis, server, value),
     };
-    let published = publish(alloc, analysis, server, reaction.task, value)?;
-    let answer = written(alloc, &reaction.message, &published)?;
+    let answer = sent(alloc, analysis, server, value, &reaction)?;
     Ok(Handled {
         answer,
         exit: exit_of(reaction.task),
@@ -158,7 +259,10 @@ fn react<A: Analysis>(
         handled.answer.items server.new handled.exit) }
 {
     match value {
-        None => failed(alloc, &Value::Null, ErrorCode::ParseError),
+        None => {
+            let answer = failed(alloc, &Value::Null, ErrorCode::ParseError)?;
+            Ok(Handled { answer, exit: None })
+        }
         Some(value) => take_step(alloc, analysis, server, value),
     }
 }
@@ -167,7 +271,7 @@ fn react<A: Analysis>(
 ///
 /// # Errors
 ///
-/// `AllocError` if memory is refused. The message may have taken effect then, but has no response.
+/// `AllocError` if memory was refused to read the message or to answer it with an error; it may be done then.
 pub fn handle<A: Analysis>(
     alloc: Global,
     analysis: &A,

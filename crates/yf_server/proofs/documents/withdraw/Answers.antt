@@ -9,3 +9,11 @@ places-preserved c = λ other e.
     ap (find other) c.remove.ensures.items
     ∙ removed c.args.uri.now c.places.documents.items c.in-Some.at first other e
     ∙ c.places.invariant other e
+
+-- if the document that is removed has a text
+pub places-preserved-in-Some : goal.places-preserved-in-Some
+places-preserved-in-Some c = λ other e.
+    let first = subst (λ xs. IsFirst xs c.args.uri.now c.in-Some.at) c.as_slice.ensures.value c.in-Some.ensures in
+    ap (find other) c.remove.ensures.items
+    ∙ removed c.args.uri.now c.places.documents.items c.in-Some.at first other e
+    ∙ c.places.invariant other e

@@ -1,0 +1,42 @@
+//! What becomes of a document if a notification on it cannot be acted on.
+ghost use Rattle.std.specs.Prelude.{◌≡◌, option_map};
+ghost use Rattle.serde_json.specs.View.{view};
+ghost use Rattle.yf_json_rpc.specs.Messages.{kind_read};
+ghost use Rattle.yf_server.specs.Losses.{Loses, LosesText, notified_uri};
+
+use crate::documents::lose;
+use crate::lifecycle::{Phase, next_step};
+use crate::notify::is_of_document;
+use crate::respond::named_uri;
+use crate::step::{Server, is_notification, method_of};
+use serde_json::Value;
+use yf_json_rpc::message::message_of;
+
+/// Returns the URI of the document that a message is about, if it is a notification on a document that counts.
+fn notified_uri(phase: Phase, value: &Value) -> Option<&str>
+    ensures { option_map (λ uri. uri.now) result ≡ notified_uri phase (view value.now) }
+{
+    let message = message_of(value);
+    if !is_notification(next_step(phase, message).task) {
+        return None;
+    }
+    if !is_of_document(method_of(message)) {
+        return None;
+    }
+    named_uri(value)
+}
+
+/// Drops the text of the document that a message is about, and returns true; returns false if the message is no
+/// notification on a document. For a notification for which `step` was refused memory: the client's text is another one
+/// than the server's from then on.
+pub fn lose_notified(server: &mut Server, value: &Value) -> bool
+    ensures { Loses server.old server.new (notified_uri server.old.phase (view value.now)) result }
+{
+    match notified_uri(server.phase, value) {
+        None => false,
+        Some(uri) => {
+            lose(&mut server.documents, uri);
+            true
+        }
+    }
+}
