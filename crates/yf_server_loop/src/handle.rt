@@ -129,12 +129,7 @@ fn loss_told<A: Analysis>(
 }
 
 /// Returns what is written for a document whose text is lost: nothing if memory is refused again.
-fn loss_answer<A: Analysis>(
-    alloc: Global,
-    analysis: &A,
-    server: &Server,
-    value: &Value,
-) -> Vec<u8>
+fn loss_answer<A: Analysis>(alloc: Global, analysis: &A, server: &Server, value: &Value) -> Vec<u8>
     ensures { (result.items ≡ []) ⊎ TellsLoss (A.claim analysis.now) server.now (view value.now) result.items }
 {
     match loss_told(alloc, analysis, server, value) {
