@@ -134,7 +134,7 @@ def names_of_bytes(room, clone, recipes):
             file.write(text)
     said = [each_file(clone, room, *words, '--', bad, good, text=False) for words in (['check'], ['fmt', '--diff'], ['fmt', '--write'], ['fmt', '--check'])]
     return ([done.returncode for done in said] == [1, 1, 3, 1] and bad + b':2:8 comment-space (fixable)\n' in said[0].stdout
-            and b'not rewritten: its name is no UTF-8' in said[2].stdout and good + b':' not in said[2].stdout
+            and b'not rewritten: its name is not UTF-8' in said[2].stdout and good + b':' not in said[2].stdout
             and bad + b':2:8 not formatted\n' in said[3].stdout and good + b':' not in said[3].stdout)
 
 

@@ -64,7 +64,7 @@ def of_hooks():
     for text in said('say ', '/hooks/build'):
         if not text.startswith('hooks/build '):
             yield 'yamlfmt: ' + text
-    yield "yamlfmt: what is staged can't be found out"
+    yield "yamlfmt: can't list the staged files"
 
 
 def progress():

@@ -20,7 +20,7 @@ import time
 
 NAME = 'file:///tmp/one.yaml'
 CAPABILITIES = {
-    'textDocumentSync': {'openClose': True, 'change': 2, 'willSaveWaitUntil': True},
+    'textDocumentSync': {'openClose': True, 'change': 2},
     'documentFormattingProvider': True,
     'codeActionProvider': {'codeActionKinds': ['source.fixAll.yamlfmt']},
     'diagnosticProvider': {'interFileDependencies': False, 'workspaceDiagnostics': False},

@@ -93,7 +93,7 @@ fn reading_command<'a>(
 fn check_command<'a>(alloc: Global) -> Result<Command<'a>, AllocError>
     ensures { IfOk result (λ c. IsPart c checking_command) }
 {
-    let command = configured(alloc, CHECK, "Report what is not in the house style");
+    let command = configured(alloc, CHECK, "Report where a file breaks a style rule");
     let leaving_out = with_arg(command, without_option(alloc));
     with_arg(leaving_out, file_words(alloc))
 }
@@ -119,11 +119,7 @@ fn formatting_command<'a>(alloc: Global) -> Result<Command<'a>, AllocError>
 fn server_command<'a>(alloc: Global) -> Result<Command<'a>, AllocError>
     ensures { IfOk result (λ c. IsPart c serving_command) }
 {
-    let command = with_settings(
-        alloc,
-        SERVER,
-        "Serve an editor by the Language Server Protocol",
-    );
+    let command = with_settings(alloc, SERVER, "Run a language server for an editor");
     with_arg(command, stdio_flag(alloc))
 }
 
@@ -185,7 +181,7 @@ fn without_option<'a>(alloc: Global) -> Arg<'a>
         .long(WITHOUT)
         .value_name("RULES")
         .action(ArgAction::Append)
-        .help("Skip these rules (comma-separated)")
+        .help("Skip the rules with these ids (comma-separated)")
 }
 
 fn write_flag<'a>(alloc: Global) -> Arg<'a>
@@ -212,7 +208,7 @@ fn diff_flag<'a>(alloc: Global) -> Arg<'a>
     Arg::new(alloc, DIFF)
         .long(DIFF)
         .action(ArgAction::SetTrue)
-        .help("Print what would change as a unified diff")
+        .help("Print the changes as a unified diff")
 }
 
 fn lines_option<'a>(alloc: Global, help: &'a str) -> Arg<'a>
@@ -231,7 +227,7 @@ fn stdio_flag<'a>(alloc: Global) -> Arg<'a>
     Arg::new(alloc, STDIO)
         .long(STDIO)
         .action(ArgAction::SetTrue)
-        .help("Use standard input and standard output, as the server always does")
+        .help("Accepted for editors; changes nothing")
 }
 
 fn file_word<'a>(alloc: Global) -> Arg<'a>

@@ -167,7 +167,7 @@ Options:
     (
         "check --help",
         Wanted::Help(
-            "Report what is not in the house style
+            "Report where a file breaks a style rule
 
 Usage: yamlfmt check [OPTIONS] [FILE]...
 
@@ -177,7 +177,7 @@ Arguments:
 Options:
       --config <FILE>    Read the settings from this TOML file
       --explain          Explain errors and findings on standard error
-      --without <RULES>  Skip these rules (comma-separated)
+      --without <RULES>  Skip the rules with these ids (comma-separated)
   -h, --help             Print help
 ",
         ),
@@ -185,13 +185,13 @@ Options:
     (
         "server --help",
         Wanted::Help(
-            "Serve an editor by the Language Server Protocol
+            "Run a language server for an editor
 
 Usage: yamlfmt server [OPTIONS]
 
 Options:
       --config <FILE>  Read the settings from this TOML file
-      --stdio          Use standard input and standard output, as the server always does
+      --stdio          Accepted for editors; changes nothing
   -h, --help           Print help
 ",
         ),

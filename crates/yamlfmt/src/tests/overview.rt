@@ -6,9 +6,9 @@ Usage: yamlfmt [OPTIONS] <COMMAND>
 
 Commands:
   events  Print the events of a YAML stream
-  check   Report what is not in the house style
+  check   Report where a file breaks a style rule
   fmt     Format YAML in the house style
-  server  Serve an editor by the Language Server Protocol
+  server  Run a language server for an editor
   help    Print this message or the help of the given subcommand(s)
 
 Options:
