@@ -50,16 +50,18 @@ def new_files_are_whole(room, clone, recipes):
 
 
 def many_lines(room, clone, recipes):
-    """Every second line of a long file: more than the system takes as one argument."""
+    """Every fourth line of a long file: more than the system takes as one argument. Lines in the style are between."""
     repository(room)
-    count = 40000
-    write(room + '/h.yaml', '---\n' + ''.join('- a%d:  1\n' % at for at in range(count)))
+
+    def text(*cycle):
+        return '---\n' + ''.join('- a%d:%s\n' % (at, cycle[at % 4]) for at in range(80000))
+
+    write(room + '/h.yaml', text('  1', ' 1', '  1', ' 1'))
     sh(['git', 'add', '.'], room)
     sh(['git', 'commit', '-qm', 'old', '--no-verify'], room)
-    write(room + '/h.yaml', '---\n' + ''.join('- a%d:  %d\n' % (at, 1 + at % 2) for at in range(count)))
+    write(room + '/h.yaml', text('  2', ' 1', '  1', ' 1'))
     done = each_file(clone, room, 'fmt', '--write', '--changed', 'h.yaml')
-    wanted = '---\n' + ''.join('- a%d: 2\n' % at if at % 2 else '- a%d:  1\n' % at for at in range(count))
-    return done.returncode == 0 and read(room + '/h.yaml') == wanted
+    return done.returncode == 0 and read(room + '/h.yaml') == text(' 2', ' 1', '  1', ' 1')
 
 
 def changed_by_git(room, clone, recipes):

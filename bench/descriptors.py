@@ -34,7 +34,7 @@ RUNS = [
     ['check', '-'], ['--explain', 'check', 'bad.yaml'],
     ['fmt', 'w.yaml'], ['fmt', '--config', 's.toml', 'w.yaml'], ['fmt', '--config', 'bad.toml', '--explain', 'w.yaml'], ['fmt'],
     ['fmt', '--check', 'w.yaml', 'good.yaml', 'bad.yaml'], ['fmt', '--check', '--explain', 'bad.yaml'], ['fmt', '--diff', 'w.yaml'],
-    ['fmt', '--diff', '--explain', 'bad.yaml'], ['fmt', '--diff'], ['fmt', '--lines', '1-3', 'w.yaml'], ['fmt', '--lines', '1'],
+    ['fmt', '--diff', '--explain', 'bad.yaml'], ['fmt', '--diff'], ['fmt', '--lines', '1-3', 'w.yaml'], ['fmt', '--lines=1'],
     ['fmt', '--lines', '1', '--write', 'w.yaml'],
     ['fmt', '--write', 'w.yaml'], ['fmt', '--write', 'bad.yaml'], ['fmt', '--write', 'none.yaml'],
     ['fmt', '--write', 'w.yaml', 'bad.yaml'], ['fmt', '--write', 'bad.yaml', 'w.yaml', 'none.yaml', 'x.yaml'],
