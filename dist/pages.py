@@ -74,8 +74,8 @@ def options(lines):
 
 
 def values(program, name, option):
-    """The possible values of an option that takes no file: the refusal of a wrong value lists them."""
-    if option.value in ('', 'FILE'):
+    """The possible values of an option that takes neither a file nor lines: the refusal of a wrong value lists them."""
+    if option.value in ('', 'FILE', 'LINES'):
         return []
     refusal = subprocess.run([program, name, option.long + '='], stderr=subprocess.PIPE, text=True, stdin=subprocess.DEVNULL).stderr
     listed = re.search(r'\[possible values: (.+)\]', refusal)
@@ -164,7 +164,9 @@ def bash(program):
         files = ' files=yes' if one.arguments else ''
         cases.append("        %s) offered='%s'%s ;;" % (one.name, names_of(one.options) or ' '.join(names), files))
     valued = {option.long: option.values for one in commands for option in one.options if option.value}
-    after = ["        %s) offered='%s' front=${word%%\"${word##*,}\"} files='' ;;" % (name, ' '.join(names)) if names else '        %s) files=yes ;;' % name
+    with_file = {option.long for one in commands for option in one.options if option.value == 'FILE'}
+    after = ['        %s) files=yes ;;' % name if name in with_file
+             else "        %s) offered='%s' front=${word%%\"${word##*,}\"} files='' ;;" % (name, ' '.join(names))
              for name, names in sorted(valued.items())]
     return '''\
 # Completes the command line of yamlfmt in bash. Made from `yamlfmt --help`.
@@ -207,7 +209,7 @@ def quoted(text):
 def zsh_option(option):
     about = quoted('[%s]' % option.about.replace(']', '\\]'))[1:-1]
     if option.value:
-        taken = '_values -s , %s %s' % (option.value, ' '.join(option.values)) if option.values else '_files'
+        taken = '_values -s , %s %s' % (option.value, ' '.join(option.values)) if option.values else '_files' if option.value == 'FILE' else ' '
         return "'%s=%s:%s:%s'" % ('*' * bool(option.values) + option.long, about, option.value, taken)
     if len(option.names()) == 2:
         return "'(- *)'{%s}'%s'" % (','.join(option.names()), about)
@@ -261,7 +263,7 @@ def fish_option(when, option):
     if option.values:
         words.append('-x -a ' + fish_quoted('(__fish_complete_list , "printf \'%%s\\n\' %s")' % ' '.join(option.values)))
     elif option.value:
-        words.append('-r -F')
+        words.append('-r -F' if option.value == 'FILE' else '-x')
     return ' '.join([*words, '-d ' + fish_quoted(option.about)])
 
 
