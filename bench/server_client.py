@@ -403,13 +403,13 @@ def with_memory(program, limit, breaks):
 
 
 def refused_memory(program):
-    """Runs the session with more memory each time, until all of it is done."""
-    outcomes = []
-    limit = 4 << 20
-    while not outcomes or outcomes[-1] != 'kept':
-        outcomes.append(with_memory(program, limit, 500_000))
-        limit += 1 << 20
+    """Runs the session with too little memory for the text, and then with more each time, until all of it is done."""
+    outcomes = [with_memory(program, part << 19, 100_000) for part in range(8, 16)]
     assert any(outcome.startswith('lost') for outcome in outcomes), outcomes
+    limit = 8 << 20
+    while outcomes[-1] != 'kept':
+        outcomes.append(with_memory(program, limit, 10_000))
+        limit += 8 << 20
     return {name: outcomes.count(name) for name in sorted(set(outcomes))}
 
 
