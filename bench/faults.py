@@ -7,7 +7,7 @@ import signal
 import subprocess
 import time
 
-from scratch import BAD, GOOD, TOP, VERBS, environment, read, repository, script, sh, with_hooks, write
+from scratch import BAD, GOOD, NOISE, TOP, VERBS, environment, read, repository, script, sh, with_hooks, write
 
 def each_file(clone, room, *words, **more):
     return sh([clone + '/hooks/each_file', *words], room, **more)
@@ -98,8 +98,8 @@ def settings_from_elsewhere(room, clone, recipes):
     write(room + '/export/.yamlfmt.toml', 'quotes = "single"\n')
     write(room + '/export/deep/a.yaml', BAD)
     words = [room + '/%s/deep/a.yaml' % name for name in ('one', 'two', 'export')]
-    done = sh([clone + '/hooks/each_file', 'fmt', '--diff', '--', *words], '/')
-    return re.findall(r'^\+a: (.)', done.stdout, re.M) == ["'", '"', "'"]
+    at_root, inside = (sh([clone + '/hooks/each_file', 'fmt', '--diff', '--', *words], at) for at in ('/', room + '/one/deep'))
+    return [re.findall(r'^\+a: (.)', done.stdout, re.M) for done in (at_root, inside)] == [['"'] * 3, ["'"] * 3]
 
 
 def settings_not_found_out(room, clone, recipes):
@@ -108,7 +108,7 @@ def settings_not_found_out(room, clone, recipes):
     dangling = each_file(clone, room, 'check', 'a b.yaml')
     empty = each_file(clone, room, 'check', '--config=', 'a b.yaml')
     missing = each_file(clone, room, 'check', '--config', 'none.toml', 'a b.yaml')
-    says = '.yamlfmt.toml can\'t be read' in dangling.stdout and 'none.toml' in missing.stdout
+    says = '.yamlfmt.toml: read failed' in dangling.stdout and 'none.toml' in missing.stdout
     return says and [done.returncode for done in (dangling, empty, missing)] == [3, 3, 3]
 
 
@@ -167,8 +167,44 @@ def findings_are_explained_on_a_terminal(room, clone, recipes):
             and all(line.startswith('a.yaml:   fmt writes ') for line in lines[1::2]))
 
 
+def excludes_hold(room, clone, recipes):
+    """Also for what is staged, and for a file that looks like a template. A pipe is not left out."""
+    hooked(room, clone, recipes['git'])
+    write(room + '/.yamlfmt.toml', 'exclude = ["/charts/", "a b.yaml"]\n')
+    write(room + '/charts/x.yaml', BAD)
+    write(room + '/charts/t.yaml', 'a: {{ x }}\n')
+    names = ['charts/x.yaml', 'charts/t.yaml', 'a b.yaml']
+    done = [each_file(clone, room, *words, '--', *names) for words in VERBS]
+    staged = commit(room, *names)
+    below = each_file(clone, room + '/charts', 'check', 'x.yaml')
+    pipe = sh(['bash', '-c', "'%s' check <(printf 'a: 1 # c\\n')" % (clone + '/hooks/each_file')], room)
+    return ([(one.returncode, one.stdout.replace(NOISE + '\n', '')) for one in done] == [(0, '')] * 4 and staged.returncode == 0
+            and below.returncode == 0 and pipe.returncode == 1 and read(room + '/charts/x.yaml') == BAD)
+
+
+def names_come_by_pipe(room, clone, recipes):
+    """No name is status 0, and the status of the files is not changed."""
+    write(room + '/a.yaml', 'a: b: c\n')
+    write(room + '/-x.yaml', BAD)
+    given = [each_file(clone, room, 'check', '--files0', input=names).returncode for names in ('', 'a.yaml\0', '-x.yaml\0', '-x.yaml\0a.yaml')]
+    return given == [0, 2, 1, 2]
+
+
+def repairs_are_named(room, clone, recipes):
+    """The last line is a command that repairs the files with findings, and it works."""
+    for name in ('a b.yaml', 'c.yaml'):
+        write(room + '/' + name, BAD)
+    write(room + '/good.yaml', GOOD)
+    for words in VERBS[:3]:
+        said = each_file(clone, room, *words, 'a b.yaml', 'good.yaml', 'c.yaml').stdout.splitlines()[-1]
+        if not said.startswith('This repairs them: ') or 'good.yaml' in said:
+            return False
+    done = sh(['bash', '-c', said.split(': ', 1)[1]], room)
+    return done.returncode == 0 and read(room + '/a b.yaml') == read(room + '/c.yaml') == GOOD
+
+
 def calls_are_few(room, clone, recipes):
-    """One call of the program for a file with keys, two for one with braces or text."""
+    """One call of the program for all files with keys, and some for each file with braces or text."""
     program = sh([clone + '/hooks/program'], room, stderr=subprocess.DEVNULL).stdout.strip()
     script(room + '/counted', "echo call >> '%s/count'\nexec '%s' \"$@\"\n" % (room, program))
     with_hooks(room + '/own', room + '/counted')
@@ -182,7 +218,7 @@ def calls_are_few(room, clone, recipes):
         write(room + '/count', '')
         each_file(room + '/own', room, *words, 'text.yaml', 'braces.yaml', *names)
         counts.append(read(room + '/count').count('call'))
-    return counts == [24] * 4
+    return counts == [5, 5, 26, 5]
 
 
 def one_buffer(room, clone, recipes):
@@ -350,7 +386,7 @@ def buffer_builds_nothing(room, clone, recipes):
 
 
 EACH = [links_stay, names_like_stages, hook_by_relative_path, hook_in_worktree, hook_without_git, settings_of_another_owner,
-        settings_by_pipe, settings_from_elsewhere, settings_not_found_out, full_folder, names_of_bytes, help_is_there, findings_come_once,
+        settings_by_pipe, settings_from_elsewhere, settings_not_found_out, excludes_hold, names_come_by_pipe, repairs_are_named, full_folder, names_of_bytes, help_is_there, findings_come_once,
         findings_are_explained_on_a_terminal, calls_are_few, one_buffer, build_by_content, build_restored_from_elsewhere,
         build_made_by_hand, four_first_calls, failed_build, another_logic, build_is_told, build_is_told_under_pre_commit,
         program_elsewhere, buffer_builds_nothing]

@@ -9,7 +9,7 @@ import re
 
 from scratch import TOP, read
 
-FILES = ('a.yaml', 'deep folder/a b.yaml', 'x: y.yaml')
+FILES = ('a.yaml', 'deep folder/a b.yaml', 'x: y.yaml', '../.yamlfmt.toml')
 
 
 def section(page, title):
@@ -65,6 +65,8 @@ def of_hooks():
         if not text.startswith('hooks/build '):
             yield 'yamlfmt: ' + text
     yield "yamlfmt: can't list the staged files"
+    yield 'required_version: the settings require yamlfmt >=0.3, and this is 0.2.0'
+    yield 'no settings file can be looked for: the path of the current folder is unknown'
 
 
 def progress():
@@ -100,7 +102,8 @@ def rows():
         yield line, [('yamlfmt-left', None, None, None, line)]
     for line in of_hooks():
         yield line, [('yamlfmt-hooks', None, None, None, line)]
-    for line in [*progress(), 'Run git ls-files', 'fatal: not a git repository', 'xargs: each_file: No such file or directory', '']:
+    for line in [*progress(), 'Run git ls-files', 'fatal: not a git repository', 'xargs: each_file: No such file or directory',
+                 'This repairs them: hooks/each_file fmt --write -- a.yaml', '']:
         yield line, []
 
 

@@ -12,7 +12,9 @@ use std::cell::Cell;
 use std::fs::{File, OpenFile};
 use std::io::{BufWriter, Input};
 use std::process::ExitCode;
+use std::rt::Env;
 use std::{env, fs, io};
+use yf_discovery::folders::There;
 use yf_lines::fault::Fault;
 use yf_lines::watched::Watched;
 use yf_program::answer::answer;
@@ -101,6 +103,17 @@ fn looked_at(rt: &HostRuntime, name: &str) -> io::Result<File> {
     File::open(rt, name)
 }
 
+/// The greatest length of the path of the current folder, in bytes.
+const LONGEST_PATH: usize = 4096;
+
+/// Returns whether nothing has the name, not even a symbolic link that leads to nothing.
+fn is_missing(rt: &HostRuntime, name: &str) -> bool {
+    match fs::symlink_metadata(rt, name) {
+        Ok(_) => false,
+        Err(error) => error.kind() == io::ErrorKind::NotFound,
+    }
+}
+
 /// The files and the standard input of the system.
 #[derive(Drop)]
 struct System<'a> {
@@ -133,6 +146,23 @@ impl Inputs for System<'_> {
                 Err(_) => Ok(Again::Words(String::from_str(alloc, UNREAD)?)),
             },
             Err(error) => Ok(Again::Words(format!(in alloc; "{error}")?)),
+        }
+    }
+
+    fn look(&self, name: &str) -> There {
+        match fs::metadata(self.rt, name) {
+            Ok(metadata) if metadata.is_dir() => There::Folder,
+            Ok(_) => There::File,
+            Err(_) if is_missing(self.rt, name) => There::Nothing,
+            Err(_) => There::Unknown,
+        }
+    }
+
+    fn current_path(&self, alloc: Global) -> Result<Option<Vec<u8>>, AllocError> {
+        let mut path = [0; LONGEST_PATH];
+        match self.rt.current_dir(&mut path) {
+            Ok(length) => Ok(Some(Vec::from_slice(alloc, &path[..length])?)),
+            Err(_) => Ok(None),
         }
     }
 

@@ -15,6 +15,8 @@ mod files;
 mod fmt;
 mod fmt_check;
 mod hostile;
+mod in_force;
+mod in_force_rows;
 mod laws;
 mod limits;
 mod lines_option;

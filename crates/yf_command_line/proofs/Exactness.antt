@@ -1,21 +1,21 @@
 -- Each line of words either asks for one request or is refused, and never both: `AsksFor` and `RefusesWords` are exact.
 -- The only refusal that is possible for any words is that of memory.
 use Rattle.std.proofs.Common.{◌≡◌, ◌≢◌, ◌⊎◌, ◌||◌, ℕ, Bool, true, false, List, [], ◌∷◌, map, codes}
-use Rattle.std.proofs.Common.{Vec, Some, None, refl, sym, ap, subst, ◌∙◌, inl, inr, arith}
+use Rattle.std.proofs.Common.{Vec, Option, Some, None, refl, sym, ap, subst, ◌∙◌, inl, inr, arith}
 use Rattle.std.proofs.Common.{slice_index}
 use Rattle.std.proofs.lemmas.Bool.{false≢true}
 use Rattle.std.proofs.lemmas.Option.{same_Some}
 use Rattle.std.proofs.lemmas.Slice.Eq.{bytes_eq-Decides}
 use Rattle.std.specs.Str.{bytes_eq}
 use Rattle.std.specs.declared.alloc.Global.{Global}
-use Rattle.clap.specs.Words.{IsAmong, Row, Text, fault_of, first_of, matches_of, subcommand_of}
+use Rattle.clap.specs.Words.{IsAmong, Row, Text, fault_of, matches_of, subcommand_of}
 use Rattle.clap.specs.declared.error.kind.ErrorKind.{ErrorKind}
 use Rattle.clap.specs.declared.error.kind.ErrorKind.TheVariants.{DisplayHelp, DisplayVersion}
 use Rattle.yf_line_ranges.specs.declared.range.LineRange.{LineRange}
 use Rattle.yf_command_line.specs.Options.{yamlfmt}
 use Rattle.yf_command_line.specs.Requests.{AsksFor, AsksText, IsCommand, IsNoCommand, IsNoRequest, IsRequest, Met}
 use Rattle.yf_command_line.specs.Requests.{RefusesWords, all_inputs, files_given, first_input, input_of, inputs_of}
-use Rattle.yf_command_line.specs.Requests.{is_flag, names_given}
+use Rattle.yf_command_line.specs.Requests.{is_flag, names_given, AsksTwice, IsSettings, config_given, takes_defaults}
 use Rattle.yf_command_line.specs.Requests.IsNoCommand.{other_name, no_rule, no_fmt}
 use Rattle.yf_command_line.specs.Without.{are_rules}
 use Rattle.yf_command_line.specs.declared.command.Command.{Command}
@@ -24,6 +24,8 @@ use Rattle.yf_command_line.specs.declared.command.Input.{Input}
 use Rattle.yf_command_line.specs.declared.command.Input.TheVariants.{Standard}
 use Rattle.yf_command_line.specs.declared.command.InputList.{InputList}
 use Rattle.yf_command_line.specs.declared.command.Request.{Request}
+use Rattle.yf_command_line.specs.declared.command.Settings.{Settings}
+use Rattle.yf_command_line.specs.declared.command.Settings.TheVariants as asked
 use Rattle.yf_command_line.specs.declared.usage.Usage.TheVariants.{Help, Wrong}
 use Rattle.yf_command_line.proofs.FmtExactness.{SameFmt, fmt_not_both, fmt_once, fmt_or_not}
 
@@ -89,9 +91,25 @@ command_not_both rules name given command.Server p (other_name e c f s) = s p
 command_not_both rules name given command.Server p (no_rule n r) = other_names.4 (sym n ∙ p)
 command_not_both rules name given command.Server p (no_fmt n r) = other_names.5 (sym n ∙ p)
 
+settings_once : (given : List Row) (a b : Settings) → IsSettings given a → IsSettings given b → a ≡ b
+settings_once given asked.Nearest asked.Nearest p q = refl
+settings_once given asked.Nearest (asked.File n) p q = cc
+settings_once given asked.Nearest asked.Defaults p q = cc
+settings_once given (asked.File m) asked.Nearest p q = cc
+settings_once given (asked.File m) (asked.File n) p q = ap (λ t. asked.File t) (same_Some _ _ (sym p.1 ∙ q.1))
+settings_once given (asked.File m) asked.Defaults p q = cc
+settings_once given asked.Defaults asked.Nearest p q = cc
+settings_once given asked.Defaults (asked.File n) p q = cc
+settings_once given asked.Defaults asked.Defaults p q = refl
+
+settings_not_both : (given : List Row) (a : Settings) → IsSettings given a → AsksTwice given → ⊥
+settings_not_both given asked.Nearest p q = q.1 p.1
+settings_not_both given (asked.File n) p q = cc
+settings_not_both given asked.Defaults p q = q.1 p.1
+
 -- The two are equal, except for the capacity of their vectors.
 pub record SameRequest (a b : Request) : Type 0 where
-  pub config : a.config ≡ b.config
+  pub settings : a.settings ≡ b.settings
   pub explain : a.explain ≡ b.explain
   pub command : SameCommand a.command b.command
 
@@ -102,7 +120,8 @@ met_once rules before met a b p q =
     let given : p.given ≡ q.given = ap (λ m. m.1) same in
     let explained : List Row → Bool = λ rows. is_flag (codes "explain") before || is_flag (codes "explain") rows in
     record {
-      config = p.config ∙ (ap (first_of (codes "config")) given ∙ sym q.config);
+      settings = settings_once q.given a.settings b.settings
+          (subst (λ (rows : List Row). IsSettings rows a.settings) given p.settings) q.settings;
       explain = p.explain ∙ (ap explained given ∙ sym q.explain);
       command = command_once rules q.name q.given a.command b.command
           (subst (λ (m : Text × List Row). IsCommand rules m.0 m.1 a.command) same p.command) q.command;
@@ -116,7 +135,10 @@ asks_once rules words a b p q = met_once rules _ _ a b p.1 q.1
 met_not_both : (rules : List Text) (before : List Row) (met : Met) (a : Request) → IsRequest rules before met a
     → IsNoRequest rules met → ⊥
 met_not_both rules before met a p refusal =
-    command_not_both rules p.name p.given a.command p.command (subst (λ (m : Met). IsNoRequest rules m) p.named refusal)
+    elim (subst (λ (m : Met). IsNoRequest rules m) p.named refusal) [
+      | inl command ↦ command_not_both rules p.name p.given a.command p.command command
+      | inr twice ↦ settings_not_both p.given a.settings p.settings twice
+    ]
 
 none_among : (kind : ErrorKind) (kinds : List ErrorKind) → kinds ≡ [] → IsAmong kind kinds → ⊥
 none_among kind [] none among = among
@@ -170,20 +192,33 @@ module _ (inputs : List Input → Vec Input Global) (inputs_are : (l : List Inpu
       (λ e. absurd (false≢true (sym pf ∙ (bytes_eq-Decides name (codes "fmt")).1 e)))
       (λ e. absurd (false≢true (sym ps ∙ (bytes_eq-Decides name (codes "server")).1 e))))
 
+  settings_by : (given : List Row) (d : Bool) (c : Option Text) → takes_defaults given ≡ d → config_given given ≡ c
+      → ((a : Settings) × IsSettings given a) ⊎ AsksTwice given
+  settings_by given false None ed ec = inl (asked.Nearest, (ed, ec))
+  settings_by given false (Some n) ed ec = inl (asked.File n, (ed, ec))
+  settings_by given true None ed ec = inl (asked.Defaults, (ed, ec))
+  settings_by given true (Some n) ed ec = inr (ed, λ none. cc)
+
+  settings_or_not : (given : List Row) → ((a : Settings) × IsSettings given a) ⊎ AsksTwice given
+  settings_or_not given = settings_by given _ _ refl refl
+
   met_or_not : (rules : List Text) (before : List Row) (met : Met)
       → ((a : Request) × IsRequest rules before met a) ⊎ IsNoRequest rules met
   met_or_not rules before None = inr tt
   met_or_not rules before (Some m) =
       elim (command_by rules m.0 m.1 _ _ _ _ _ refl refl refl refl refl) [
-        | inl a ↦ inl (
-          record {
-            config = first_of (codes "config") m.1;
-            explain = is_flag (codes "explain") before || is_flag (codes "explain") m.1;
-            command = a.0;
-          },
-          record { name = m.0; given = m.1; named = refl; command = a.1; config = refl; explain = refl },
-        )
-        | inr no_way ↦ inr no_way
+        | inl a ↦ elim (settings_or_not m.1) [
+          | inl s ↦ inl (
+            record {
+              settings = s.0;
+              explain = is_flag (codes "explain") before || is_flag (codes "explain") m.1;
+              command = a.0;
+            },
+            record { name = m.0; given = m.1; named = refl; command = a.1; settings = s.1; explain = refl },
+          )
+          | inr twice ↦ inr (inr twice)
+        ]
+        | inr no_way ↦ inr (inl no_way)
       ]
 
   asks_text : (kind : ErrorKind) → AsksText kind ⊎ (¬ AsksText kind)

@@ -12,6 +12,10 @@ use Rattle.clap.specs.declared.builder.action.ArgAction.TheVariants.{Append, Set
 abbrev pub config_option : Rule
 config_option = record (new_rule (codes "config")) { long = Some (codes "config"); value_names = 1 }
 
+-- `--no-config`
+abbrev pub no_config_flag : Rule
+no_config_flag = record (new_rule (codes "no-config")) { long = Some (codes "no-config"); action = Some SetTrue }
+
 -- `--explain`
 abbrev pub explain_flag : Rule
 explain_flag = record (new_rule (codes "explain")) { long = Some (codes "explain"); action = Some SetTrue }
@@ -49,29 +53,37 @@ file_word = record (new_rule (codes "file")) { value_names = 1 }
 abbrev pub file_words : Rule
 file_words = record (new_rule (codes "file")) { value_names = 1; action = Some Append }
 
--- The words that every command takes: `NAME [--config FILE] [--explain]`
-abbrev pub configured : Text → App
-configured name = with_rule (with_rule (new_app name) config_option) explain_flag
+-- `NAME [--config FILE]`
+abbrev pub with_config : Text → App
+with_config name = with_rule (new_app name) config_option
 
--- `NAME [--config FILE] [--explain] [FILE]`
+-- The words that every command takes: `NAME [--config FILE] [--no-config]`
+abbrev pub with_settings : Text → App
+with_settings name = with_rule (with_config name) no_config_flag
+
+-- `NAME [--config FILE] [--no-config] [--explain]`
+abbrev pub configured : Text → App
+configured name = with_rule (with_settings name) explain_flag
+
+-- `NAME [--config FILE] [--no-config] [--explain] [FILE]`
 abbrev pub reading_command : Text → App
 reading_command name = with_rule (configured name) file_word
 
--- `check [--config FILE] [--explain] [--without RULES] [FILE..]`
+-- `check [--config FILE] [--no-config] [--explain] [--without RULES] [FILE..]`
 abbrev pub checking_command : App
 checking_command = with_rule (with_rule (configured (codes "check")) without_option) file_words
 
--- `fmt [--config FILE] [--explain] [--write] [--check] [--diff]`
+-- `fmt [--config FILE] [--no-config] [--explain] [--write] [--check] [--diff]`
 abbrev pub formatting_command : App
 formatting_command = with_rule (with_rule (with_rule (configured (codes "fmt")) write_flag) check_flag) diff_flag
 
--- `fmt [--config FILE] [--explain] [--write] [--check] [--diff] [--lines LINES] [FILE..]`
+-- `fmt [--config FILE] [--no-config] [--explain] [--write] [--check] [--diff] [--lines LINES] [FILE..]`
 abbrev pub writing_command : App
 writing_command = with_rule (with_rule formatting_command lines_option) file_words
 
--- `server [--config FILE] [--stdio]`
+-- `server [--config FILE] [--no-config] [--stdio]`
 abbrev pub serving_command : App
-serving_command = with_rule (with_rule (new_app (codes "server")) config_option) stdio_flag
+serving_command = with_rule (with_settings (codes "server")) stdio_flag
 
 -- A command is required. Without any words, the refusal is the help text. The program's name is not among the words.
 -- There is a version.

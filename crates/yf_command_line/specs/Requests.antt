@@ -21,6 +21,8 @@ use Rattle.yf_command_line.specs.declared.command.InputList.{InputList}
 use Rattle.yf_command_line.specs.declared.command.Part.{Part}
 use Rattle.yf_command_line.specs.declared.command.Part.TheVariants as part
 use Rattle.yf_command_line.specs.declared.command.Request.{Request}
+use Rattle.yf_command_line.specs.declared.command.Settings.{Settings}
+use Rattle.yf_command_line.specs.declared.command.Settings.TheVariants as asked
 use Rattle.yf_command_line.specs.declared.usage.Usage.{Usage}
 use Rattle.yf_command_line.specs.declared.usage.Usage.TheVariants.{Help, Wrong, Memory}
 
@@ -34,6 +36,14 @@ is_set None = false
 -- Whether a flag is given.
 abbrev pub is_flag : Text → List Row → Bool
 is_flag id given = is_set (first_of id given)
+
+-- Whether `--no-config` is given.
+abbrev pub takes_defaults : List Row → Bool
+takes_defaults given = is_flag (codes "no-config") given
+
+-- The FILE of `--config`, if it is given.
+abbrev pub config_given : List Row → Option Text
+config_given given = first_of (codes "config") given
 
 -- Whether `--write` is given.
 abbrev pub writes : List Row → Bool
@@ -90,6 +100,20 @@ all_inputs inputs = inputs.first ∷ inputs.rest.items
 -- All names of a list, in order.
 abbrev pub all_files : FileList → List Text
 all_files files = files.first ∷ files.rest.items
+
+-- ---- the settings that the words ask for
+
+abbrev pub IsSettings : List Row → Settings → Type 0
+-- neither `--config` nor `--no-config`
+IsSettings given asked.Nearest = (takes_defaults given ≡ false) × (config_given given ≡ None)
+-- `--config FILE`
+IsSettings given (asked.File name) = (takes_defaults given ≡ false) × (config_given given ≡ Some name)
+-- `--no-config`
+IsSettings given asked.Defaults = (takes_defaults given ≡ true) × (config_given given ≡ None)
+
+-- Both are given.
+abbrev pub AsksTwice : List Row → Type 0
+AsksTwice given = (takes_defaults given ≡ true) × (config_given given ≢ None)
 
 -- ---- the words of each command
 
@@ -159,8 +183,8 @@ pub record IsRequest (rules : List Text) (before : List Row) (met : Met) (reques
   -- the words name this command, with these rows
   pub named : met ≡ Some (name, given)
   pub command : IsCommand rules name given request.command
-  -- `--config FILE`
-  pub config : request.config ≡ first_of (codes "config") given
+  -- `--config FILE`, `--no-config`, or neither
+  pub settings : IsSettings given request.settings
   -- `--explain`, before the command or after it
   pub explain : request.explain ≡ (is_flag (codes "explain") before || is_flag (codes "explain") given)
 
@@ -200,9 +224,9 @@ pub data IsNoCommand (rules : List Text) (name : Text) (given : List Row) : Type
   -- `fmt` refuses its rows
   no_fmt : name ≡ codes "fmt" → IsNoFmt given → IsNoCommand rules name given
 
--- The words name no command, or a command that is refused.
+-- The words name no command, or a command that is refused, or they ask for two settings.
 abbrev pub IsNoRequest : List Text → Met → Type 0
-IsNoRequest rules met = MatchOption met ⊤ (λ m. IsNoCommand rules m.0 m.1)
+IsNoRequest rules met = MatchOption met ⊤ (λ m. IsNoCommand rules m.0 m.1 ⊎ AsksTwice m.1)
 
 -- The words are wrong for this reason, or memory for the message was refused.
 abbrev pub RefusedBy : Type 0 → Usage → Type 0

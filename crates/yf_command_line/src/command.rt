@@ -81,11 +81,22 @@ pub enum Command {
     Server,
 }
 
+/// The settings that the words of a command line ask for.
+#[derive(Drop)]
+pub enum Settings {
+    /// Those of the nearest settings file, or the defaults if there is none.
+    Nearest,
+    /// Those of the settings file of this name (`--config FILE`).
+    File(OwnedText),
+    /// The defaults (`--no-config`).
+    Defaults,
+}
+
 /// The request that the words of a command line make.
 #[derive(Drop)]
 pub struct Request {
-    /// The name of the settings file.
-    pub config: Option<OwnedText>,
+    /// The settings.
+    pub settings: Settings,
     /// Whether to explain each fault and each finding.
     pub explain: bool,
     /// The command.

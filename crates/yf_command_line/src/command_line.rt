@@ -1,18 +1,20 @@
 //! Parses the words of a command line into a request.
-ghost use Rattle.std.specs.Prelude.{◌≡◌, codes, map, MatchResult, string_bytes, true, false, []};
+ghost use Rattle.std.specs.Prelude.{◌≡◌, ◌||◌, codes, map, MatchResult, string_bytes, true, false, []};
 ghost use Rattle.clap.specs.Words.{found_of, rows_of, subcommand_rows_of};
-ghost use Rattle.yf_command_line.specs.Requests.{AsksFor, IsCommand, IsFmt, IsNoCommand, IsNoFmt, IsNoRequest};
-ghost use Rattle.yf_command_line.specs.Requests.{IsRequest, RefusedBy, RefusesWords, lines_given, writes};
+ghost use Rattle.yf_command_line.specs.Requests.{AsksFor, AsksTwice, IsCommand, IsFmt, IsNoCommand, IsNoFmt};
+ghost use Rattle.yf_command_line.specs.Requests.{IsNoRequest, IsRequest, IsSettings, RefusedBy, RefusesWords};
+ghost use Rattle.yf_command_line.specs.Requests.{is_flag, lines_given, writes};
 
-use crate::command::{Command, Fmt, Request};
+use crate::command::{Command, Fmt, Request, Settings};
 use crate::inputs::{files_of, first_input, has_standard_input, inputs_of};
 use crate::options::{
-    CHECK, CONFIG, DIFF, EVENTS, EXPLAIN, FILE, FMT, LINES, SERVER, WITHOUT, WRITE, yamlfmt_command,
+    CHECK, CONFIG, DIFF, EVENTS, EXPLAIN, FILE, FMT, LINES, NO_CONFIG, SERVER, WITHOUT, WRITE,
+    yamlfmt_command,
 };
 use crate::part::part_met;
 use crate::refused_words::{
     NO_COMMAND, NO_FILE, NO_STANDARD_INPUT, NOT_SHOWN, NOTHING_WRITTEN, SEVERAL_DIFFS,
-    SEVERAL_FILES,
+    SEVERAL_FILES, TWO_SETTINGS,
 };
 use crate::usage::{Usage, refusal, usage_of};
 use crate::without::{names_in, refusal_of_name, unknown_name};
@@ -23,14 +25,16 @@ use std::alloc::Global;
 /// Parses the words after the program's name into a request. `rules` are the names of all rules. `--explain` may also
 /// come before the command. The commands are:
 ///
-/// - `events [--config FILE] [--explain] [FILE]`
-/// - `check [--config FILE] [--explain] [--without RULES] [FILE..]`. RULES are names of rules, separated by commas. The
+/// - `events [SETTINGS] [--explain] [FILE]`
+/// - `check [SETTINGS] [--explain] [--without RULES] [FILE..]`. RULES are names of rules, separated by commas. The
 ///   option may be given more than once.
-/// - `fmt [--config FILE] [--explain] [--write] [--check] [--diff] [--lines LINES] [FILE..]`. `--write` needs a FILE,
-///   and no FILE may be `-`. It excludes `--check` and `--diff`. Several FILEs need `--write`, or `--check` without
-///   `--diff`. `--lines` takes at most one FILE. LINES are numbers of lines and ranges, as in `3-7,12`. The option may
-///   be given more than once.
-/// - `server [--config FILE] [--stdio]`. It always reads standard input, and `--stdio` changes nothing: editors pass it.
+/// - `fmt [SETTINGS] [--explain] [--write] [--check] [--diff] [--lines LINES] [FILE..]`. `--write` needs a FILE, and no
+///   FILE may be `-`. It excludes `--check` and `--diff`. Several FILEs need `--write`, or `--check` without `--diff`.
+///   `--lines` takes at most one FILE. LINES are numbers of lines and ranges, as in `3-7,12`. The option may be given
+///   more than once.
+/// - `server [SETTINGS] [--stdio]`. It always reads standard input, and `--stdio` changes nothing: editors pass it.
+///
+/// SETTINGS is `--config FILE` or `--no-config`.
 ///
 /// A FILE `-` is standard input. Without a FILE a command reads standard input.
 ///
@@ -66,13 +70,41 @@ fn request_met(alloc: Global, matches: &ArgMatches<'_>, rules: &[&str]) -> Resul
         Ok(command) => command,
         Err(usage) => return Err(usage),
     };
-    let config = text_given(alloc, given, CONFIG)?;
-    let explain = is_given(matches, EXPLAIN) || is_given(given, EXPLAIN);
+    let settings = match settings_met(alloc, given) {
+        Ok(settings) => settings,
+        Err(usage) => return Err(usage),
+    };
     Ok(Request {
-        config,
-        explain,
+        settings,
+        explain: is_explained(matches, given),
         command,
     })
+}
+
+// Returns whether `--explain` is given, before the command or after it.
+fn is_explained(matches: &ArgMatches<'_>, given: &ArgMatches<'_>) -> bool
+    ensures { result ≡ (is_flag (codes "explain") (rows_of (found_of matches.now))
+        || is_flag (codes "explain") (rows_of (found_of given.now))) }
+{
+    is_given(matches, EXPLAIN) || is_given(given, EXPLAIN)
+}
+
+// Returns the settings that these matches ask for.
+fn settings_met(alloc: Global, given: &ArgMatches<'_>) -> Result<Settings, Usage>
+    ensures { MatchResult result (IsSettings (rows_of (found_of given.now)))
+        (RefusedBy (AsksTwice (rows_of (found_of given.now)))) }
+{
+    let config = text_given(alloc, given, CONFIG)?;
+    if is_given(given, NO_CONFIG) {
+        return match config {
+            Some(_) => Err(refusal(alloc, TWO_SETTINGS)),
+            None => Ok(Settings::Defaults),
+        };
+    }
+    match config {
+        Some(name) => Ok(Settings::File(name)),
+        None => Ok(Settings::Nearest),
+    }
 }
 
 // Returns the command with this name and these matches.

@@ -1,9 +1,9 @@
 //! The commands of the program and their options, as the library for command lines takes them.
 ghost use Rattle.std.specs.Prelude.{◌≡◌, IfOk};
-ghost use Rattle.clap.specs.Words.{App, Rule, app_of, new_app, with_rule, with_subcommand};
+ghost use Rattle.clap.specs.Words.{App, Rule, app_of, with_rule, with_subcommand};
 ghost use Rattle.yf_command_line.specs.Options.{bare_command, check_flag, checking_command, config_option, configured};
 ghost use Rattle.yf_command_line.specs.Options.{diff_flag, explain_flag, file_word, file_words, formatting_command};
-ghost use Rattle.yf_command_line.specs.Options.{lines_option, write_flag};
+ghost use Rattle.yf_command_line.specs.Options.{lines_option, no_config_flag, with_config, with_settings, write_flag};
 ghost use Rattle.yf_command_line.specs.Options.{reading_command, serving_command, stdio_flag, without_option};
 ghost use Rattle.yf_command_line.specs.Options.{writing_command, yamlfmt};
 ghost use Rattle.yf_command_line.specs.Options.{IsOption, IsPart};
@@ -21,6 +21,8 @@ pub(crate) const FMT: &str = "fmt";
 pub(crate) const SERVER: &str = "server";
 
 pub(crate) const CONFIG: &str = "config";
+
+pub(crate) const NO_CONFIG: &str = "no-config";
 
 pub(crate) const EXPLAIN: &str = "explain";
 
@@ -123,20 +125,27 @@ fn server_command<'a>(alloc: Global) -> Result<Command<'a>, AllocError>
     with_arg(command, stdio_flag(alloc))
 }
 
-// A command with `--config` and `--explain`.
+// A command with `--config`, `--no-config` and `--explain`.
 fn configured<'a>(alloc: Global, name: &'a str, about: &'a str) -> Result<Command<'a>, AllocError>
     ensures { IfOk result (λ c. IsPart c (configured name.entry.now)) }
 {
     with_arg(with_settings(alloc, name, about), explain_flag(alloc))
 }
 
-// A command with `--config`.
+// A command with `--config` and `--no-config`.
 fn with_settings<'a>(
     alloc: Global,
     name: &'a str,
     about: &'a str,
 ) -> Result<Command<'a>, AllocError>
-    ensures { IfOk result (λ c. IsPart c (with_rule (new_app name.entry.now) config_option)) }
+    ensures { IfOk result (λ c. IsPart c (with_settings name.entry.now)) }
+{
+    with_arg(with_config(alloc, name, about), no_config_flag(alloc))
+}
+
+// A command with `--config`.
+fn with_config<'a>(alloc: Global, name: &'a str, about: &'a str) -> Result<Command<'a>, AllocError>
+    ensures { IfOk result (λ c. IsPart c (with_config name.entry.now)) }
 {
     let command = Command::new(alloc, name).about(about);
     command.arg(config_option(alloc))
@@ -163,6 +172,15 @@ fn config_option<'a>(alloc: Global) -> Arg<'a>
         .long(CONFIG)
         .value_name("FILE")
         .help("Read the settings from this TOML file")
+}
+
+fn no_config_flag<'a>(alloc: Global) -> Arg<'a>
+    ensures { IsOption result no_config_flag }
+{
+    Arg::new(alloc, NO_CONFIG)
+        .long(NO_CONFIG)
+        .action(ArgAction::SetTrue)
+        .help("Use the default settings, and look for no settings file")
 }
 
 fn explain_flag<'a>(alloc: Global) -> Arg<'a>

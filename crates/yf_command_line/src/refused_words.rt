@@ -8,6 +8,15 @@ Usage: yamlfmt [OPTIONS] <COMMAND>
 For more information, try '--help'.
 ";
 
+/// The message for `--config` with `--no-config`.
+pub(crate) const TWO_SETTINGS: &str =
+    "error: the argument '--config' cannot be used with '--no-config'
+
+Usage: yamlfmt [OPTIONS] <COMMAND>
+
+For more information, try '--help'.
+";
+
 /// The message for `--write` without a file.
 pub(crate) const NO_FILE: &str = "error: the argument '--write' needs a FILE
 

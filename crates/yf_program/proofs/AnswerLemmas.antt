@@ -19,8 +19,15 @@ use Rattle.yf_files.specs.declared.rewriting.RewriteError.{RewriteError}
 use Rattle.yf_forms.specs.declared.style.Style.{Style}
 use Rattle.yf_lines.specs.declared.fault.Fault.{Fault}
 use Rattle.yf_rules.specs.Runs.ByteStream.{ByteStream}
-use Rattle.yf_program.specs.Answer.{DoesAll, DoesEach, DoesIn, DoesInput, DoesNamed, DoesOpened, DoesRewrite, EndsRewriting, RewritesInput, ToldMemory, empty_memory, host_in, name_of, task_of}
+use Rattle.yf_program.specs.Answer.{DoesAll, DoesEach, DoesIn, DoesInput, DoesNamed, DoesOpened, DoesRewrite, EndsRewriting, RewritesInput, ScopedInput, ScopedRewrite, ToldMemory, empty_memory, host_in, name_of, task_of}
 use Rattle.yf_program.specs.Answer.DoesEach.{one_done, one_more}
+use Rattle.yf_program.specs.Run.{DoesWith}
+use Rattle.yf_program.specs.Run.DoesWith.{other_version, without_memory, are_taken}
+use Rattle.yf_program.specs.Settings.{NothingDone, Scoped, scope_of}
+use Rattle.yf_program.specs.Settings.Scoped.{left_out, no_memory, included}
+use Rattle.yf_program.specs.declared.scope.Scope.{Scope}
+use Rattle.yf_program.specs.declared.search.InForce.{InForce}
+use Rattle.yf_settings.specs.declared.file_settings.FileSettings.{FileSettings}
 use Rattle.yf_program.specs.Rewriting.{FormatsBytes}
 use Rattle.yf_program.specs.World.{Host, InputClaim, LinkClaim, OutputStreams, StillKnown, TextClaim, WorkClaim, World}
 use Rattle.yf_program.specs.declared.sources.Sources.{Sources}
@@ -49,6 +56,24 @@ module _ {F : Type 0} (earlier later : Host F) (known : StillKnown earlier.input
   input_before input status before after d =
       (d.0, (λ noted. d.1 (known.notes noted)), opened_before earlier.inputs later.inputs known input task status before.streams after.streams d.2)
 
+module _ {F : Type 0} (earlier later : Host F) (known : StillKnown earlier.inputs later.inputs) where
+  nothing_before : (before after : World F) → NothingDone later before after → NothingDone earlier before after
+  nothing_before before after n = (n.0, (λ noted. n.1 (known.notes noted)), n.2)
+
+-- If Q follows from P, then Q follows for an input that may be left out.
+module _ {F : Type 0} (earlier later : Host F) (known : StillKnown earlier.inputs later.inputs) (P Q : Input → WorkClaim F) (follows : (input : Input) (status : ℕ) (before after : World F) → P input status before after → Q input status before after) where
+  pub scoped_before : (scope : Scope) (explain : Bool) (input : Input) (status : ℕ) (before after : World F)
+      → Scoped later scope explain P input status before after → Scoped earlier scope explain Q input status before after
+  scoped_before scope explain input status before after (left_out out n s t) = left_out out (nothing_before earlier later known before after n) s t
+  scoped_before scope explain input status before after (no_memory n s t) = no_memory (nothing_before earlier later known before after n) s t
+  scoped_before scope explain input status before after (included not d) = included not (follows input status before after d)
+
+module _ {F : Type 0} (earlier later : Host F) (known : StillKnown earlier.inputs later.inputs) (scope : Scope) (task : Task) where
+  pub scoped_input_before : (input : Input) (status : ℕ) (before after : World F) → ScopedInput later scope task input status before after
+      → ScopedInput earlier scope task input status before after
+  scoped_input_before input status before after d =
+      scoped_before earlier later known (DoesInput later task) (DoesInput earlier task) (input_before earlier later known task) scope task.explain input status before after d
+
 -- If Q follows from P, then Q follows for one of several inputs, and for all of them.
 module _ {F : Type 0} (P Q : Input → WorkClaim F) (follows : (input : Input) (status : ℕ) (before after : World F) → P input status before after → Q input status before after) where
   pub named_by : (name : List ℕ) (input : Input) (status : ℕ) (before after : World F) → DoesNamed name (P input) status before after → DoesNamed name (Q input) status before after
@@ -72,25 +97,38 @@ module _ {F : Type 0} (earlier later : Host F) (known : StillKnown earlier.input
   rewrite_before explain Formats (File name) status before after d =
       ((λ noted. d.0 (known.notes noted)), d.1, (d.2.0, d.2.1, rewrites before.files after.files name Formats d.2.0 d.2.2, d.2.3, d.2.4))
 
-  pub does_in_before : (what : Command) (explain : Bool) (style : Style) (status : ℕ) (before after : World F) → DoesIn later what explain style status before after
-      → DoesIn earlier what explain style status before after
-  does_in_before (command.Events input) explain style status before after d = input_before earlier later known (task_of work.Events explain style) input status before after d
-  does_in_before command.Server explain style status before after d = input_before earlier later known (task_of work.Serve explain style) Standard status before after d
-  does_in_before (command.Check inputs without) explain style status before after d =
-      let task = task_of (work.Check without) explain style in
-      all_by (DoesInput later task) (DoesInput earlier task) (input_before earlier later known task) (all_inputs inputs) status before after d
-  does_in_before (command.Fmt (fmt.Print input)) explain style status before after d = input_before earlier later known (task_of work.Print explain style) input status before after d
-  does_in_before (command.Fmt (fmt.Check inputs)) explain style status before after d =
-      let task = task_of work.Compare explain style in
-      all_by (DoesInput later task) (DoesInput earlier task) (input_before earlier later known task) (all_inputs inputs) status before after d
-  does_in_before (command.Fmt (fmt.Diff input)) explain style status before after d = input_before earlier later known (task_of work.Diff explain style) input status before after d
-  does_in_before (command.Fmt (fmt.Write files)) explain style status before after d =
+  scoped_rewrite_before : (scope : Scope) (explain : Bool) (Formats : TextClaim) (input : Input) (status : ℕ) (before after : World F) → ScopedRewrite later scope explain Formats input status before after
+      → ScopedRewrite earlier scope explain Formats input status before after
+  scoped_rewrite_before scope explain Formats input status before after d =
+      scoped_before earlier later known (RewritesInput later explain Formats) (RewritesInput earlier explain Formats) (rewrite_before explain Formats) scope explain input status before after d
+
+  all_before : (scope : Scope) (task : Task) (inputs : List Input) (status : ℕ) (before after : World F) → DoesAll (ScopedInput later scope task) inputs status before after
+      → DoesAll (ScopedInput earlier scope task) inputs status before after
+  all_before scope task inputs status before after d =
+      all_by (ScopedInput later scope task) (ScopedInput earlier scope task) (scoped_input_before earlier later known scope task) inputs status before after d
+
+  pub does_in_before : (what : Command) (scope : Scope) (explain : Bool) (style : Style) (status : ℕ) (before after : World F) → DoesIn later what scope explain style status before after
+      → DoesIn earlier what scope explain style status before after
+  does_in_before (command.Events input) scope explain style status before after d = scoped_input_before earlier later known scope (task_of work.Events explain style) input status before after d
+  does_in_before command.Server scope explain style status before after d = scoped_input_before earlier later known scope (task_of work.Serve explain style) Standard status before after d
+  does_in_before (command.Check inputs without) scope explain style status before after d = all_before scope (task_of (work.Check without) explain style) (all_inputs inputs) status before after d
+  does_in_before (command.Fmt (fmt.Print input)) scope explain style status before after d = scoped_input_before earlier later known scope (task_of work.Print explain style) input status before after d
+  does_in_before (command.Fmt (fmt.Check inputs)) scope explain style status before after d = all_before scope (task_of work.Compare explain style) (all_inputs inputs) status before after d
+  does_in_before (command.Fmt (fmt.Diff input)) scope explain style status before after d = scoped_input_before earlier later known scope (task_of work.Diff explain style) input status before after d
+  does_in_before (command.Fmt (fmt.Write files)) scope explain style status before after d =
       let Formats = FormatsBytes style in
-      all_by (RewritesInput later explain Formats) (RewritesInput earlier explain Formats) (rewrite_before explain Formats) (map (λ name. File name) (all_files files)) status before after d
-  does_in_before (command.Fmt (fmt.Part lines (part.Print input))) explain style status before after d = input_before earlier later known (task_of (work.Part (record { lines = lines; show = show.Text })) explain style) input status before after d
-  does_in_before (command.Fmt (fmt.Part lines (part.Check input))) explain style status before after d = input_before earlier later known (task_of (work.Part (record { lines = lines; show = show.Place })) explain style) input status before after d
-  does_in_before (command.Fmt (fmt.Part lines (part.Diff input))) explain style status before after d = input_before earlier later known (task_of (work.Part (record { lines = lines; show = show.Diff })) explain style) input status before after d
-  does_in_before (command.Fmt (fmt.Part lines (part.Write file))) explain style status before after d = rewrite_before explain (IsPart style lines.items) (File file) status before after d
+      all_by (ScopedRewrite later scope explain Formats) (ScopedRewrite earlier scope explain Formats) (scoped_rewrite_before scope explain Formats) (map (λ name. File name) (all_files files)) status before after d
+  does_in_before (command.Fmt (fmt.Part lines (part.Print input))) scope explain style status before after d = scoped_input_before earlier later known scope (task_of (work.Part (record { lines = lines; show = show.Text })) explain style) input status before after d
+  does_in_before (command.Fmt (fmt.Part lines (part.Check input))) scope explain style status before after d = scoped_input_before earlier later known scope (task_of (work.Part (record { lines = lines; show = show.Place })) explain style) input status before after d
+  does_in_before (command.Fmt (fmt.Part lines (part.Diff input))) scope explain style status before after d = scoped_input_before earlier later known scope (task_of (work.Part (record { lines = lines; show = show.Diff })) explain style) input status before after d
+  does_in_before (command.Fmt (fmt.Part lines (part.Write file))) scope explain style status before after d = scoped_rewrite_before scope explain (IsPart style lines.items) (File file) status before after d
+
+  pub does_with_before : (in_force : InForce) (settings : FileSettings) (explain : Bool) (what : Command) (status : ℕ) (before after : World F)
+      → DoesWith later in_force settings explain what status before after → DoesWith earlier in_force settings explain what status before after
+  does_with_before in_force settings explain what status before after (other_version n r) = other_version (nothing_before earlier later known before after n) r
+  does_with_before in_force settings explain what status before after (without_memory n r) = without_memory (nothing_before earlier later known before after n) r
+  does_with_before in_force settings explain what status before after (are_taken d) =
+      are_taken (does_in_before what (scope_of in_force settings) explain settings.style status before after d)
 
 -- the work was done as if for the only file, and then the contents of memory were written
 module _ {F : Type 0} (Does : WorkClaim F) (before after : World F) where
@@ -143,22 +181,22 @@ pub next_file : (names : List (List ℕ)) (k : ℕ) (d name : List ℕ) → name
 next_file names k d name same = ap (λ n. File n) same ∙ sym (get_or-map (λ (n : List ℕ). File n) names k d)
 
 -- a file was rewritten by the name that was read from it
-module _ {F : Type 0} (host : Host F) (explain : Bool) (Formats : TextClaim) (status : ℕ) (before after : World F) where
-  pub rewritten_by : (said name : List ℕ) → said ≡ name → DoesRewrite host explain Formats said status before after
-      → RewritesInput host explain Formats (File name) status before after
-  rewritten_by said name same d = subst (λ (n : List ℕ). DoesRewrite host explain Formats n status before after) same d
+module _ {F : Type 0} (host : Host F) (scope : Scope) (explain : Bool) (Formats : TextClaim) (status : ℕ) (before after : World F) where
+  pub rewritten_by : (said name : List ℕ) → said ≡ name → ScopedRewrite host scope explain Formats (File said) status before after
+      → ScopedRewrite host scope explain Formats (File name) status before after
+  rewritten_by said name same d = subst (λ (n : List ℕ). ScopedRewrite host scope explain Formats (File n) status before after) same d
 
-  pub named_by_name : (said name : List ℕ) → said ≡ name → DoesNamed said (DoesRewrite host explain Formats said) status before after
-      → DoesNamed name (RewritesInput host explain Formats (File name)) status before after
-  named_by_name said name same d = subst (λ (n : List ℕ). DoesNamed n (DoesRewrite host explain Formats n) status before after) same d
+  pub named_by_name : (said name : List ℕ) → said ≡ name → DoesNamed said (ScopedRewrite host scope explain Formats (File said)) status before after
+      → DoesNamed name (ScopedRewrite host scope explain Formats (File name)) status before after
+  named_by_name said name same d = subst (λ (n : List ℕ). DoesNamed n (ScopedRewrite host scope explain Formats (File n)) status before after) same d
 
 -- what was done with the inputs as they are now was done with the inputs as they were
 module _ {I F : Type 0} (claim : I → InputClaim) (tells : Type 0) (state : F → FilesState) (leads : LinkClaim F) (now then : Sources I F) (same : now.inputs ≡ then.inputs) where
-  pub named_before : (explain : Bool) (Formats : TextClaim) (name : List ℕ) (status : ℕ) (before after : World F)
-      → DoesNamed name (DoesRewrite (host_in claim tells state leads now) explain Formats name) status before after
-      → DoesNamed name (DoesRewrite (host_in claim tells state leads then) explain Formats name) status before after
-  named_before explain Formats name status before after d =
-      subst (λ (i : I). DoesNamed name (DoesRewrite (host_in claim tells state leads (record { inputs = i; files = then.files })) explain Formats name) status before after) same d
+  pub named_before : (scope : Scope) (explain : Bool) (Formats : TextClaim) (name : List ℕ) (status : ℕ) (before after : World F)
+      → DoesNamed name (ScopedRewrite (host_in claim tells state leads now) scope explain Formats (File name)) status before after
+      → DoesNamed name (ScopedRewrite (host_in claim tells state leads then) scope explain Formats (File name)) status before after
+  named_before scope explain Formats name status before after d =
+      subst (λ (i : I). DoesNamed name (ScopedRewrite (host_in claim tells state leads (record { inputs = i; files = then.files })) scope explain Formats (File name)) status before after) same d
 
 -- a rewriting with this result
 pub ends_by : (explain : Bool) (P : Result Unit (RewriteError Fault) → Type 0) (result : Result Unit (RewriteError Fault)) (status : ℕ) (before after : ByteStream) → P result

@@ -1,9 +1,11 @@
 -- The lemmas, each group under the function or the theorem that it serves.
 
--- `read_style`, `run`
+-- `read_settings`, `run`
 pub mod ProgramLemmas
 -- `answer`
 pub mod AnswerLemmas
+-- `report_version`
+pub mod VersionLemmas
 -- `rewrite`
 pub mod FilesLemmas
 -- `report_input`, `tell_file`, `tell_findings`

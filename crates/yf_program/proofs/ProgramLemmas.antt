@@ -5,20 +5,20 @@ use Rattle.std.specs.Str.{IsUtf8}
 use Rattle.yf_lines.specs.declared.fault.Fault.{Fault}
 use Rattle.yf_lines.specs.declared.fault.Fault.TheVariants.{NotUtf8, Syntax, TooDeep, UnknownHandle, UnknownAlias, RepeatedDirective, BadVersion, EscapeValue, Memory, ReadFailed, WriteFailed, Config}
 use Rattle.yf_command_line.specs.declared.command.Input.TheVariants.{File}
-use Rattle.yf_program.specs.Answer.{FileRefused, FileSets, Opens, RanFmtDiff, StyleOfFile, Unset}
+use Rattle.yf_program.specs.Answer.{FileRefused, FileSets, Opens, RanFmtDiff, SettingsOfFile, Unset}
 use Rattle.yf_rules.specs.Quoted.{quoted}
 use Rattle.yf_program.specs.World.{InputClaim, streams_of}
 use Rattle.yf_program.specs.declared.task.Task.{Task}
 use Rattle.yf_rules.specs.declared.run.TheConstants.{INPUT_LIMIT}
-use Rattle.yf_forms.specs.declared.style.Style.{Style}
 use Rattle.yf_rules.specs.Runs.Compare.{IsClean}
 use Rattle.yf_rules.specs.Runs.Diffed.{DiffRun}
 use Rattle.yf_rules.specs.Runs.ByteStream.{ByteStream, NoFailure}
 use Rattle.yf_rules.specs.Runs.Run.{Gave}
-use Rattle.yf_settings.specs.Settings.{RefusesSettings}
+use Rattle.yf_settings.specs.FileSettings.{RefusesFile}
+use Rattle.yf_settings.specs.declared.file_settings.FileSettings.{FileSettings}
 
 pub text_refused : (input : ByteStream) {failed : Bool} (text : List ℕ) (f : Fault) → failed ≡ input.failed → Gave input.contents text
-    → length text ≤ INPUT_LIMIT → IsUtf8 text → RefusesSettings text f → FileRefused input (record { contents = input.contents; failed = failed }) f
+    → length text ≤ INPUT_LIMIT → IsUtf8 text → RefusesFile text f → FileRefused input (record { contents = input.contents; failed = failed }) f
 text_refused input text (Config key) same gave within utf8 refuses = (same, (text, gave, within, inr (utf8, refuses)))
 text_refused input text Memory same gave within utf8 refuses = same
 text_refused input text (NotUtf8 offset) same gave within utf8 refuses = absurd refuses
@@ -32,14 +32,14 @@ text_refused input text (EscapeValue place) same gave within utf8 refuses = absu
 text_refused input text ReadFailed same gave within utf8 refuses = absurd refuses
 text_refused input text WriteFailed same gave within utf8 refuses = absurd refuses
 
--- the style of a settings file that was opened, or why it sets none
+-- the settings of a settings file that was opened, or why there are none
 module _ (claim : InputClaim) (config : Option (List ℕ)) (name : List ℕ) (is : config ≡ Some name) where
-  pub style_or_unset : (reader left : ByteStream) (outcome : Result Style Fault)
-      → Opens claim (File name) reader left → MatchResult outcome (λ style. FileSets reader.contents style) (λ fault. FileRefused reader left fault)
-      → MatchResult outcome (StyleOfFile claim config) (Unset claim config)
-  style_or_unset reader left (Ok style) opens sets =
-      subst (λ (c : Option (List ℕ)). StyleOfFile claim c style) (sym is) (reader, left, opens, sets)
-  style_or_unset reader left (Err fault) opens refused =
+  pub settings_or_unset : (reader left : ByteStream) (outcome : Result FileSettings Fault)
+      → Opens claim (File name) reader left → MatchResult outcome (λ settings. FileSets reader.contents settings) (λ fault. FileRefused reader left fault)
+      → MatchResult outcome (SettingsOfFile claim config) (Unset claim config)
+  settings_or_unset reader left (Ok settings) opens sets =
+      subst (λ (c : Option (List ℕ)). SettingsOfFile claim c settings) (sym is) (reader, left, opens, sets)
+  settings_or_unset reader left (Err fault) opens refused =
       subst (λ (c : Option (List ℕ)). Unset claim c fault) (sym is) (inr (reader, left, opens, refused))
 
   -- a settings file that can't be opened

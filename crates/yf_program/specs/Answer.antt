@@ -1,5 +1,5 @@
 -- What the program does, from the words of its command line to its status, in the order of its work.
--- Its last definition, `ProgramRuns`, is the whole. Each one above it says what one step does.
+-- `ProgramRuns` of `Run` is the whole. Each definition here says what one step does.
 -- (before, after: the world, the streams or one stream before and after a step;
 -- reader, left: a reader before and after it was read)
 use Rattle.std.specs.Prelude.{◌≡◌, ◌≢◌, ◌≤◌, ◌⊎◌, ◌++◌, ◌∷◌, ◌-◌, ℕ, max, slice_get, List, [], length, map, Bool, true, false, Option, Some, None, IfSome, Result, Ok, Err, codes}
@@ -43,7 +43,10 @@ use Rattle.yf_rules.specs.Quoted.{quoted}
 use Rattle.yf_program.specs.Rewriting.{FileRewrite, FormatsBytes}
 use Rattle.yf_program.specs.Server.{Served}
 use Rattle.yf_program.specs.Report.{check_status, fault_line, fault_status, format_status}
-use Rattle.yf_settings.specs.Settings.{IsHouse, SetsStyle, RefusesSettings}
+use Rattle.yf_program.specs.Settings.{Scoped}
+use Rattle.yf_program.specs.declared.scope.Scope.{Scope}
+use Rattle.yf_settings.specs.FileSettings.{AreDefaults, HasSettings, RefusesFile}
+use Rattle.yf_settings.specs.declared.file_settings.FileSettings.{FileSettings}
 use Rattle.yf_program.specs.World.{Host, InputClaim, LinkClaim, OutputStreams, TextClaim, WorkClaim, World}
 use Rattle.yf_program.specs.declared.sources.Sources.{Sources}
 use Rattle.yf_program.specs.declared.task.Task.{Task}
@@ -115,25 +118,25 @@ abbrev pub settings_of : Option (List ℕ) → List Input
 settings_of (Some name) = File name ∷ []
 settings_of None = []
 
--- The bytes that were read set the style.
-abbrev pub FileSets : Option (List ℕ) → Style → Type 0
-FileSets known style =
-    (text : List ℕ) × Gave known text × (length text ≤ INPUT_LIMIT) × IsUtf8 text × SetsStyle text style
+-- The bytes that were read have these settings.
+abbrev pub FileSets : Option (List ℕ) → FileSettings → Type 0
+FileSets known settings =
+    (text : List ℕ) × Gave known text × (length text ≤ INPUT_LIMIT) × IsUtf8 text × HasSettings text settings
 
 -- A settings file is refused: it could not be read; it is no text, and the key is empty; or its text is refused.
 abbrev pub FileRefused : ByteStream → ByteStream → Fault → Type 0
 FileRefused reader left fault.Memory = NoFailure reader left
 FileRefused reader left (fault.Config key) = NoFailure reader left
     × ((text : List ℕ) × Gave reader.contents text × (length text ≤ INPUT_LIMIT)
-    × (((¬ IsUtf8 text) × (key ≡ [])) ⊎ (IsUtf8 text × RefusesSettings text (fault.Config key))))
+    × (((¬ IsUtf8 text) × (key ≡ [])) ⊎ (IsUtf8 text × RefusesFile text (fault.Config key))))
 FileRefused reader left fault.ReadFailed = ReadRefusal INPUT_LIMIT reader left fault.ReadFailed
 FileRefused reader left _ = ⊥
 
--- The style is the one that the settings file sets, or the house style.
-abbrev pub StyleOfFile : InputClaim → Option (List ℕ) → Style → Type 0
-StyleOfFile claim (Some name) style =
-    (reader : ByteStream) × (left : ByteStream) × Opens claim (File name) reader left × FileSets reader.contents style
-StyleOfFile claim None style = IsHouse style
+-- The settings are those of the settings file, or the defaults.
+abbrev pub SettingsOfFile : InputClaim → Option (List ℕ) → FileSettings → Type 0
+SettingsOfFile claim (Some name) settings = (reader : ByteStream) × (left : ByteStream)
+    × Opens claim (File name) reader left × FileSets reader.contents settings
+SettingsOfFile claim None settings = AreDefaults settings
 
 -- The settings file can't be opened, or is refused.
 abbrev pub Unset : InputClaim → Option (List ℕ) → Fault → Type 0
@@ -246,6 +249,10 @@ DoesInput host task input status before after =
     (after.files ≡ before.files) × InputsOpened host.inputs before.opened after.opened (input ∷ [])
     × DoesOpened host.inputs input task status before.streams after.streams
 
+-- The work was done with the input, unless the settings leave the input out.
+abbrev pub ScopedInput : {F : Type 0} → Host F → Scope → Task → Input → WorkClaim F
+ScopedInput host scope task = Scoped host scope task.explain (DoesInput host task)
+
 -- ---- A file is rewritten
 
 -- What is known of the system, by the ghost members of what reads the inputs and of the files.
@@ -356,7 +363,7 @@ DoesAll Does (input ∷ []) status before after = Does input status before after
 DoesAll Does (input ∷ next ∷ inputs) status before after =
     DoesEach Does before (input ∷ next ∷ inputs) status after
 
--- ---- The whole program
+-- ---- A command
 
 -- A file is rewritten by its name.
 abbrev pub RewritesInput : {F : Type 0} → Host F → Bool → TextClaim → Input → WorkClaim F
@@ -364,44 +371,33 @@ RewritesInput host explain Formats Standard status before after = ⊥
 RewritesInput host explain Formats (File name) status before after =
     DoesRewrite host explain Formats name status before after
 
--- The command was done in a style.
-abbrev pub DoesIn : {F : Type 0} → Host F → Command → Bool → Style → WorkClaim F
-DoesIn host (command.Events input) explain style = DoesInput host (task_of work.Events explain style) input
-DoesIn host command.Server explain style = DoesInput host (task_of work.Serve explain style) Standard
-DoesIn host (command.Check inputs without) explain style =
-    DoesAll (DoesInput host (task_of (work.Check without) explain style)) (all_inputs inputs)
-DoesIn host (command.Fmt (fmt.Print input)) explain style = DoesInput host (task_of work.Print explain style) input
-DoesIn host (command.Fmt (fmt.Check inputs)) explain style =
-    DoesAll (DoesInput host (task_of work.Compare explain style)) (all_inputs inputs)
-DoesIn host (command.Fmt (fmt.Diff input)) explain style = DoesInput host (task_of work.Diff explain style) input
-DoesIn host (command.Fmt (fmt.Write files)) explain style =
-    DoesAll (RewritesInput host explain (FormatsBytes style)) (map (λ name. File name) (all_files files))
-DoesIn host (command.Fmt (fmt.Part lines (part.Print input))) explain style =
-    DoesInput host (task_of (work.Part (record { lines = lines; show = show.Text })) explain style) input
-DoesIn host (command.Fmt (fmt.Part lines (part.Check input))) explain style =
-    DoesInput host (task_of (work.Part (record { lines = lines; show = show.Place })) explain style) input
-DoesIn host (command.Fmt (fmt.Part lines (part.Diff input))) explain style =
-    DoesInput host (task_of (work.Part (record { lines = lines; show = show.Diff })) explain style) input
-DoesIn host (command.Fmt (fmt.Part lines (part.Write file))) explain style =
-    DoesRewrite host explain (IsPart style lines.items) file
+-- The file is rewritten, unless the settings leave it out.
+abbrev pub ScopedRewrite : {F : Type 0} → Host F → Scope → Bool → TextClaim → Input → WorkClaim F
+ScopedRewrite host scope explain Formats = Scoped host scope explain (RewritesInput host explain Formats)
 
--- The settings are refused, and no other input was opened; or the command was done in the style that they set.
-abbrev pub RequestDone : {F : Type 0} → Host F → Request → WorkClaim F
-RequestDone host request status before after =
-    ((f : Fault) × Unset host.inputs request.config f × (after.files ≡ before.files)
-    × InputsOpened host.inputs before.opened after.opened (settings_of request.config)
-    × NothingWritten before.streams.output after.streams.output
-    × EndsTold request.explain AnyLines f status before.streams.errors after.streams.errors)
-    ⊎ ((style : Style) × (opened : List Input) × StyleOfFile host.inputs request.config style
-    × InputsOpened host.inputs before.opened opened (settings_of request.config)
-    × DoesIn host request.command request.explain style status (record before { opened = opened }) after)
-
--- What the words ask for was done; or they ask for help or are wrong, and nothing was opened.
-abbrev pub Follows : {F : Type 0} → Host F → List (List ℕ) → WorkClaim F
-Follows host words status before after =
-    ((request : Request) × AsksFor rule_names words request × RequestDone host request status before after)
-    ⊎ ((usage : Usage) × RefusesWords rule_names words usage × (after.files ≡ before.files)
-    × (host.inputs.notes → after.opened ≡ before.opened) × UsageWritten usage status before.streams after.streams)
+-- The command was done in a style, with the inputs that are not left out.
+abbrev pub DoesIn : {F : Type 0} → Host F → Command → Scope → Bool → Style → WorkClaim F
+DoesIn host (command.Events input) scope explain style =
+    ScopedInput host scope (task_of work.Events explain style) input
+DoesIn host command.Server scope explain style = ScopedInput host scope (task_of work.Serve explain style) Standard
+DoesIn host (command.Check inputs without) scope explain style =
+    DoesAll (ScopedInput host scope (task_of (work.Check without) explain style)) (all_inputs inputs)
+DoesIn host (command.Fmt (fmt.Print input)) scope explain style =
+    ScopedInput host scope (task_of work.Print explain style) input
+DoesIn host (command.Fmt (fmt.Check inputs)) scope explain style =
+    DoesAll (ScopedInput host scope (task_of work.Compare explain style)) (all_inputs inputs)
+DoesIn host (command.Fmt (fmt.Diff input)) scope explain style =
+    ScopedInput host scope (task_of work.Diff explain style) input
+DoesIn host (command.Fmt (fmt.Write files)) scope explain style =
+    DoesAll (ScopedRewrite host scope explain (FormatsBytes style)) (map (λ name. File name) (all_files files))
+DoesIn host (command.Fmt (fmt.Part lines (part.Print input))) scope explain style =
+    ScopedInput host scope (task_of (work.Part (record { lines = lines; show = show.Text })) explain style) input
+DoesIn host (command.Fmt (fmt.Part lines (part.Check input))) scope explain style =
+    ScopedInput host scope (task_of (work.Part (record { lines = lines; show = show.Place })) explain style) input
+DoesIn host (command.Fmt (fmt.Part lines (part.Diff input))) scope explain style =
+    ScopedInput host scope (task_of (work.Part (record { lines = lines; show = show.Diff })) explain style) input
+DoesIn host (command.Fmt (fmt.Part lines (part.Write file))) scope explain style =
+    ScopedRewrite host scope explain (IsPart style lines.items) (File file)
 
 -- The writer writes out what it holds back. If it fails only then, that is reported; otherwise the status stays.
 -- (What a writer holds back is no part of its `ByteStream`, so nothing says that it holds nothing back afterwards.)
@@ -411,12 +407,3 @@ WrittenOut run status before after =
     × (((status ≡ run) × NoFailure before.output after.output × NothingWritten before.errors after.errors)
     ⊎ ((before.output.failed ≡ false) × (after.output.failed ≡ true)
     × EndsBy fault.WriteFailed status before.errors after.errors))
-
--- The program did what the words ask for, and then wrote out what the writer held back. The status is the one that
--- `main` ends with, unless the reader of standard output has left: then `main` ends with 141 instead.
-pub record ProgramRuns {F : Type 0} (host : Host F) (words : List (List ℕ)) (status : ℕ) (before after : World F)
-    : Type 0 where
-  pub run : ℕ
-  pub streams : OutputStreams
-  pub follows : Follows host words run before (record after { streams = streams })
-  pub out : WrittenOut run status streams after.streams

@@ -1,6 +1,7 @@
 -- The state that the program works on: the part that changes, and the facts that are known and stay.
 use Rattle.std.specs.Prelude.{◌≡◌, ℕ, List, Option, None, Result}
 use Rattle.yf_command_line.specs.declared.command.Input.{Input}
+use Rattle.yf_discovery.specs.Nearest.{Looks}
 use Rattle.yf_files.specs.declared.rewriting.RewriteError.{RewriteError}
 use Rattle.yf_lines.specs.declared.fault.Fault.{Fault}
 use Rattle.yf_program.specs.declared.sources.Sources.{Sources}
@@ -30,10 +31,21 @@ pub record InputClaim : Type 1 where
   pub holds : Holdings
   -- opening or reading the input may fail
   pub fails : Input → Type 0
+  -- what a look at a name may show
+  pub shows : Looks
+  -- what the path of the current folder may be, if it is known
+  pub current : Option (List ℕ) → Type 0
 
 -- Nothing is known of the inputs.
 abbrev pub nothing_known : InputClaim
-nothing_known = record { tells = ⊥; notes = ⊥; holds = λ _. None; fails = λ _. ⊥ }
+nothing_known = record {
+  tells = ⊥;
+  notes = ⊥;
+  holds = λ _. None;
+  fails = λ _. ⊥;
+  shows = λ _ _. Unit {0};
+  current = λ _. Unit {0};
+}
 
 -- What was known of the inputs is still known. They hold what they held, and no more of them fail.
 pub record StillKnown (before after : InputClaim) : Type 0 where

@@ -1,37 +1,41 @@
 //! A task with its inputs. If there are several, the task is done with each as if it were the only one.
 ghost use Rattle.std.specs.Prelude.{◌≡◌};
 ghost use Rattle.yf_command_line.specs.Requests.{all_inputs};
-ghost use Rattle.yf_program.specs.Answer.{DoesAll, DoesEach, DoesInput, DoesNamed, host_in, name_of};
+ghost use Rattle.yf_program.specs.Answer.{DoesAll, DoesEach, DoesInput, DoesNamed, ScopedInput, host_in, name_of};
 ghost use Rattle.yf_program.specs.World.{StillKnown, world_in};
 
 use crate::files::Links;
 use crate::further::report_file;
 use crate::inputs::Inputs;
 use crate::memory::tell_memory;
-use crate::program::run;
+use crate::program::{GOOD, run};
+use crate::report::report;
+use crate::scope::{Scope, is_left_out, tell_left_out};
 use crate::sources::Sources;
 use crate::streams::{Streams, in_memory};
 use crate::task::Task;
 use std::alloc::Global;
 use yf_command_line::command::{Input, InputList};
+use yf_lines::fault::Fault;
 use yf_lines::watched::Sink;
 
 /// Does a task with its only input, or with each of several. Returns the status.
 pub fn do_inputs<I: Inputs, S: Links, W: Sink, E: Sink>(
     alloc: Global,
     task: &Task,
+    scope: &Scope,
     inputs: &InputList,
     sources: &mut Sources<I, S>,
     streams: &mut Streams<W, E>,
 ) -> u8
-    ensures { DoesAll (DoesInput (host_in I.claim S.tells S.state S.leads sources.old) task.now)
+    ensures { DoesAll (ScopedInput (host_in I.claim S.tells S.state S.leads sources.old) scope.now task.now)
         (all_inputs inputs.now) result (world_in I.opened sources.old streams.old)
         (world_in I.opened sources.new streams.new) }
 {
     if inputs.rest.is_empty() {
-        return do_input(alloc, task, &inputs.first, sources, streams);
+        return do_scoped(alloc, task, scope, &inputs.first, sources, streams);
     }
-    do_each(alloc, task, inputs, sources, streams)
+    do_each(alloc, task, scope, inputs, sources, streams)
 }
 
 // Does a task with each input, in order, and returns the greatest status. Each line of the output begins with the name
@@ -39,17 +43,18 @@ pub fn do_inputs<I: Inputs, S: Links, W: Sink, E: Sink>(
 fn do_each<I: Inputs, S: Links, W: Sink, E: Sink>(
     alloc: Global,
     task: &Task,
+    scope: &Scope,
     inputs: &InputList,
     sources: &mut Sources<I, S>,
     streams: &mut Streams<W, E>,
 ) -> u8
-    ensures { DoesEach (DoesInput (host_in I.claim S.tells S.state S.leads sources.old) task.now)
+    ensures { DoesEach (ScopedInput (host_in I.claim S.tells S.state S.leads sources.old) scope.now task.now)
         (world_in I.opened sources.old streams.old) (all_inputs inputs.now) result
         (world_in I.opened sources.new streams.new) }
 {
-    let mut greatest = do_named(alloc, task, &inputs.first, sources, streams);
+    let mut greatest = do_named(alloc, task, scope, &inputs.first, sources, streams);
     for input in inputs.rest.as_slice() {
-        let status = do_named(alloc, task, input, sources, streams);
+        let status = do_named(alloc, task, scope, input, sources, streams);
         greatest = greatest.max(status);
     }
     greatest
@@ -60,17 +65,18 @@ fn do_each<I: Inputs, S: Links, W: Sink, E: Sink>(
 fn do_named<I: Inputs, S: Links, W: Sink, E: Sink>(
     alloc: Global,
     task: &Task,
+    scope: &Scope,
     input: &Input,
     sources: &mut Sources<I, S>,
     streams: &mut Streams<W, E>,
 ) -> u8
-    ensures does { DoesNamed (name_of input.now) (DoesInput (host_in I.claim S.tells S.state S.leads sources.old)
-        task.now input.now) result (world_in I.opened sources.old streams.old)
+    ensures does { DoesNamed (name_of input.now) (ScopedInput (host_in I.claim S.tells S.state S.leads sources.old)
+        scope.now task.now input.now) result (world_in I.opened sources.old streams.old)
         (world_in I.opened sources.new streams.new) }
     ensures same { StillKnown (I.claim sources.old.inputs) (I.claim sources.new.inputs) }
 {
     let mut memory = in_memory(alloc);
-    let status = do_input(alloc, task, input, sources, &mut memory);
+    let status = do_scoped(alloc, task, scope, input, sources, &mut memory);
     tell_memory(alloc, name_of(input), status, &memory, streams)
 }
 
@@ -84,8 +90,31 @@ pub fn name_of(input: &Input) -> &str
     }
 }
 
-/// Does a task with an input, and returns the status.
-pub fn do_input<I: Inputs, S: Links, W: Sink, E: Sink>(
+/// Does a task with an input, unless the settings leave it out.
+pub fn do_scoped<I: Inputs, S: Links, W: Sink, E: Sink>(
+    alloc: Global,
+    task: &Task,
+    scope: &Scope,
+    input: &Input,
+    sources: &mut Sources<I, S>,
+    streams: &mut Streams<W, E>,
+) -> u8
+    ensures does { ScopedInput (host_in I.claim S.tells S.state S.leads sources.old) scope.now task.now input.now result
+        (world_in I.opened sources.old streams.old) (world_in I.opened sources.new streams.new) }
+    ensures same { StillKnown (I.claim sources.old.inputs) (I.claim sources.new.inputs) }
+{
+    match is_left_out(alloc, scope, input) {
+        Ok(true) => {
+            tell_left_out(task.explain, &mut streams.errors);
+            GOOD
+        }
+        Ok(false) => do_input(alloc, task, input, sources, streams),
+        Err(_) => report(&Fault::Memory, &mut streams.errors),
+    }
+}
+
+// Does a task with an input.
+fn do_input<I: Inputs, S: Links, W: Sink, E: Sink>(
     alloc: Global,
     task: &Task,
     input: &Input,

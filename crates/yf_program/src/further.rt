@@ -102,9 +102,8 @@ fn file_page<I: Inputs>(
     }
 }
 
-/// Reports a fault of the settings. If asked, it also explains the fault by the bytes that were read. Returns the
-/// status of the fault.
-pub fn report_settings<I: Inputs, E: Sink>(
+/// Explains a fault of the settings if asked: by the bytes that were read, or by the system's error for the file.
+pub fn tell_settings<I: Inputs, E: Sink>(
     alloc: Global,
     explained: bool,
     inputs: &I,
@@ -112,26 +111,18 @@ pub fn report_settings<I: Inputs, E: Sink>(
     bytes: &[u8],
     fault: &Fault,
     error_stream: &mut E,
-) -> u8
-    ensures { EndsTold explained AnyLines fault.now result
-        (stream_of E.contents E.has_failed error_stream.old) (stream_of E.contents E.has_failed error_stream.new) }
+)
+    ensures { TellsMore explained AnyLines (stream_of E.contents E.has_failed error_stream.old)
+        (stream_of E.contents E.has_failed error_stream.new) }
 {
-    let Fault::Config { key } = fault else {
-        return report_file(alloc, explained, inputs, name, fault, error_stream);
-    };
-    let status = report(fault, error_stream);
-    tell_settings(alloc, explained, bytes, key.as_str(), error_stream);
-    status
+    match fault {
+        Fault::Config { key } => tell_key(alloc, explained, bytes, key.as_str(), error_stream),
+        _ => tell_file(alloc, explained, inputs, name, fault, error_stream),
+    }
 }
 
 // Explains a wrong key of the settings if asked.
-fn tell_settings<E: Sink>(
-    alloc: Global,
-    explained: bool,
-    bytes: &[u8],
-    key: &str,
-    error_stream: &mut E,
-)
+fn tell_key<E: Sink>(alloc: Global, explained: bool, bytes: &[u8], key: &str, error_stream: &mut E)
     ensures { TellsMore explained AnyLines (stream_of E.contents E.has_failed error_stream.old)
         (stream_of E.contents E.has_failed error_stream.new) }
 {

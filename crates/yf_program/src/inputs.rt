@@ -1,11 +1,12 @@
-//! The inputs of a command.
-ghost use Rattle.std.specs.Prelude.{◌≡◌, ◌∷◌, ◌++◌, [], true, false, List, IfOk, IfErr, OnErr, OnOk};
+//! What a command reads.
+ghost use Rattle.std.specs.Prelude.{◌≡◌, ◌∷◌, ◌++◌, [], true, false, List, IfOk, IfErr, OnErr, OnOk, option_map};
 ghost use Rattle.yf_command_line.specs.declared.command.Input.{Input};
 ghost use Rattle.yf_command_line.specs.declared.command.Input.TheVariants.{File as NamedFile, Standard as StandardInput};
 ghost use Rattle.yf_lines.specs.declared.fault.Fault.TheVariants.{ReadFailed};
 ghost use Rattle.yf_program.specs.World.{InputClaim, StillKnown};
 
 use std::alloc::{AllocError, Global};
+use yf_discovery::folders::There;
 use yf_lines::fault::Fault;
 use yf_lines::watched::Source;
 
@@ -47,7 +48,15 @@ pub trait Inputs {
     /// Reads a file again, to explain a fault of it. The file doesn't count as opened.
     fn read_again(&self, alloc: Global, name: &str) -> Result<Again, AllocError>;
 
-    /// Opens standard input. If its contents are known, each call gives all of them.
+    /// Looks at a name, relative to the current folder. A symbolic link counts as what it leads to.
+    fn look(&self, name: &str) -> There
+        ensures { (claim self.now).shows name.now result };
+
+    /// Returns the path of the current folder, from the root on, or `None` if the system doesn't know it.
+    fn current_path(&self, alloc: Global) -> Result<Option<Vec<u8>>, AllocError>
+        ensures { IfOk result (λ o. (claim self.now).current (option_map (λ v. v.items) o)) };
+
+    /// Opens standard input. If it is known what standard input holds, each call gives all of it.
     fn open_standard(&mut self) -> Self::Standard
         ensures opened { (claim self.old).notes → opened self.new ≡ opened self.old ++ StandardInput ∷ [] }
         ensures same { StillKnown (claim self.old) (claim self.new) }

@@ -6,6 +6,7 @@ use crate::inputs::{Again, Inputs};
 use std::alloc::{AllocError, Global};
 use std::io;
 use std::io::Read;
+use yf_discovery::folders::There;
 use yf_lines::fault::Fault;
 use yf_lines::watched::Source;
 
@@ -75,6 +76,8 @@ pub struct MemoryInputs {
     pub files: &'static [Stored],
     /// The contents of standard input.
     pub standard: &'static [u8],
+    /// The path of the current folder. Names are relative to that folder, and only files have names.
+    pub current: &'static [u8],
     /// The names of the inputs that were opened, each with a space after it. A name is missing if memory was refused.
     pub opened: Vec<u8>,
 }
@@ -84,6 +87,7 @@ impl MemoryInputs {
     fn note(&mut self, name: &str)
         ensures files { self.new.files ≡ self.old.files }
         ensures standard { self.new.standard ≡ self.old.standard }
+        ensures current { self.new.current ≡ self.old.current }
     {
         let _ = self.opened.extend_from_slice(name.as_bytes());
         let _ = self.opened.push(b' ');
@@ -98,7 +102,7 @@ impl Inputs for MemoryInputs {
     ghost use Rattle.std.specs.Prelude.{[]};
     ghost use Rattle.yf_program.specs.MemoryInputs.{memory_claim};
 
-    ghost claim = { λ inputs. memory_claim inputs.files.now inputs.standard.now };
+    ghost claim = { λ inputs. memory_claim inputs.files.now inputs.standard.now inputs.current.now };
 
     ghost opened = { λ _. [] };
 
@@ -115,6 +119,17 @@ impl Inputs for MemoryInputs {
             Some(bytes) => Ok(Again::Bytes(Vec::from_slice(alloc, bytes)?)),
             None => Ok(Again::Words(String::from_str(alloc, "no such file")?)),
         }
+    }
+
+    fn look(&self, name: &str) -> There {
+        match found(self.files, name) {
+            Some(_) => There::File,
+            None => There::Nothing,
+        }
+    }
+
+    fn current_path(&self, alloc: Global) -> Result<Option<Vec<u8>>, AllocError> {
+        Ok(Some(Vec::from_slice(alloc, self.current)?))
     }
 
     fn open_standard(&mut self) -> MemoryReader {

@@ -3,12 +3,13 @@ ghost use Rattle.yf_rules.specs.Runs.ByteStream.{stream_of};
 ghost use Rattle.yf_program.specs.Answer.{DoesIn, RanPart, host_in};
 ghost use Rattle.yf_program.specs.World.{world_in};
 
-use crate::each::do_input;
+use crate::each::do_scoped;
 use crate::files::{Links, NewText};
 use crate::further::report_input;
 use crate::inputs::Inputs;
 use crate::program::{FINDINGS, GOOD};
-use crate::rewrites::rewrite_file;
+use crate::rewrites::rewrite_scoped;
+use crate::scope::Scope;
 use crate::sources::Sources;
 use crate::streams::Streams;
 use crate::task::{Task, Work};
@@ -20,18 +21,21 @@ use yf_lines::watched::{Sink, Source};
 use yf_parts::run::{PartTask, run_part};
 use yf_parts::show::Show;
 
-/// Formats some lines of a text in a style, and shows the result or writes it to the file.
+/// Formats some lines of a text in a style, and shows the result or writes it to the file. Does nothing with an input
+/// that the settings leave out.
 pub fn do_part<I: Inputs, S: Links, W: Sink, E: Sink>(
     alloc: Global,
     lines: Vec<LineRange>,
     what: Part,
+    scope: &Scope,
     explain: bool,
     style: Style,
     sources: &mut Sources<I, S>,
     streams: &mut Streams<W, E>,
 ) -> u8
-    ensures { DoesIn (host_in I.claim S.tells S.state S.leads sources.old) (Command.Fmt (Fmt.Part lines what)) explain
-        style result (world_in I.opened sources.old streams.old) (world_in I.opened sources.new streams.new) }
+    ensures { DoesIn (host_in I.claim S.tells S.state S.leads sources.old) (Command.Fmt (Fmt.Part lines what)) scope.now
+        explain style result (world_in I.opened sources.old streams.old)
+        (world_in I.opened sources.new streams.new) }
 {
     match what {
         Part::Print(input) => {
@@ -43,7 +47,7 @@ pub fn do_part<I: Inputs, S: Links, W: Sink, E: Sink>(
                 style,
                 explain,
             };
-            do_input(alloc, &task, &input, sources, streams)
+            do_scoped(alloc, &task, scope, &input, sources, streams)
         }
         Part::Check(input) => {
             let task = Task {
@@ -54,7 +58,7 @@ pub fn do_part<I: Inputs, S: Links, W: Sink, E: Sink>(
                 style,
                 explain,
             };
-            do_input(alloc, &task, &input, sources, streams)
+            do_scoped(alloc, &task, scope, &input, sources, streams)
         }
         Part::Diff(input) => {
             let task = Task {
@@ -65,11 +69,12 @@ pub fn do_part<I: Inputs, S: Links, W: Sink, E: Sink>(
                 style,
                 explain,
             };
-            do_input(alloc, &task, &input, sources, streams)
+            do_scoped(alloc, &task, scope, &input, sources, streams)
         }
         Part::Write(file) => {
             let new_text = NewText::Part(&style, lines.as_slice());
-            rewrite_file(alloc, explain, &new_text, file.as_str(), sources, streams)
+            let name = file.as_str();
+            rewrite_scoped(alloc, explain, &new_text, scope, name, sources, streams)
         }
     }
 }

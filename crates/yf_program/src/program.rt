@@ -28,7 +28,8 @@ use yf_rules::diff::run_fmt_diff;
 use yf_rules::input::read_all;
 use yf_rules::quoted::quoted;
 use yf_rules::run::{INPUT_LIMIT, run_check_all, run_events, run_fmt};
-use yf_settings::settings::{no_key, style_from_toml};
+use yf_settings::file_settings::{FileSettings, settings_from_toml};
+use yf_settings::settings::no_key;
 
 /// The status of a run that ended well.
 pub const GOOD: u8 = 0;
@@ -252,14 +253,14 @@ pub fn written_out<W: Sink, E: Sink>(status: u8, streams: &mut Streams<W, E>) ->
     }
 }
 
-/// Returns the style that a settings file sets, and keeps the bytes of the file. Bytes that are no text are
+/// Returns the settings that a settings file has, and keeps the bytes of the file. Bytes that are no text are
 /// `Fault::Config` with the empty key.
-pub fn read_style<R: Source>(
+pub fn read_settings<R: Source>(
     alloc: Global,
     reader: &mut R,
     kept: &mut Vec<u8>,
-) -> Result<Style, Fault>
-    ensures { MatchResult result (λ style. FileSets (R.remaining reader.old) style)
+) -> Result<FileSettings, Fault>
+    ensures { MatchResult result (λ settings. FileSets (R.remaining reader.old) settings)
         (λ fault. FileRefused (stream_of R.remaining R.has_failed reader.old)
         (stream_of R.remaining R.has_failed reader.new) fault) }
 {
@@ -269,8 +270,8 @@ pub fn read_style<R: Source>(
         Ok(text) => text,
         Err(_) => return Err(no_key(alloc)),
     };
-    match style_from_toml(alloc, text) {
-        Ok(style) => Ok(style),
+    match settings_from_toml(alloc, text) {
+        Ok(settings) => Ok(settings),
         Err(fault) => Err(fault),
     }
 }

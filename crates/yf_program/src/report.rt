@@ -2,6 +2,7 @@
 ghost use Rattle.std.specs.Prelude.{◌≡◌};
 ghost use Rattle.yf_rules.specs.Runs.ByteStream.{WriteEnds, WrittenOrFailed, stream_of};
 ghost use Rattle.yf_program.specs.Report.{fault_line, fault_status, refusal_line};
+ghost use Rattle.yf_program.specs.Settings.{named_fault};
 
 use itoa::Buffer;
 use yf_command_line::shown::write_shown;
@@ -21,6 +22,16 @@ pub fn report<E: Sink>(fault: &Fault, error_stream: &mut E) -> u8
         (stream_of E.contents E.has_failed error_stream.new) (fault_line fault.now) }
 {
     let _ = write_line(fault, error_stream);
+    status_of(fault)
+}
+
+/// Writes the name of a file, a colon and the fault's line to the error stream, and returns the fault's status.
+pub fn report_named<E: Sink>(fault: &Fault, name: &str, error_stream: &mut E) -> u8
+    ensures status { result ≡ fault_status fault.now }
+    ensures line { WrittenOrFailed (stream_of E.contents E.has_failed error_stream.old)
+        (stream_of E.contents E.has_failed error_stream.new) (named_fault name.now fault.now) }
+{
+    let _ = write_named(fault, name, error_stream);
     status_of(fault)
 }
 
@@ -58,6 +69,16 @@ fn write_line<E: Sink>(fault: &Fault, stream: &mut E) -> Result<(), Fault>
         Fault::WriteFailed => write_text(stream, b"write failed\n"),
         Fault::Config { key } => write_config(key.as_str(), stream),
     }
+}
+
+// Writes the name of a file, a colon and the fault's line.
+fn write_named<E: Sink>(fault: &Fault, name: &str, stream: &mut E) -> Result<(), Fault>
+    ensures { WriteEnds (stream_of E.contents E.has_failed stream.old) (stream_of E.contents E.has_failed stream.new)
+        (named_fault name.now fault.now) result }
+{
+    write_shown(stream, name)?;
+    write_text(stream, b": ")?;
+    write_line(fault, stream)
 }
 
 // Writes the line of a wrong key of the settings.

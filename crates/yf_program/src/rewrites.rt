@@ -3,7 +3,7 @@ ghost use Rattle.std.specs.Prelude.{◌≡◌, map};
 ghost use Rattle.yf_command_line.specs.Requests.{all_files};
 ghost use Rattle.yf_command_line.specs.declared.command.Input.TheVariants.{File};
 ghost use Rattle.yf_rules.specs.Runs.ByteStream.{stream_of};
-ghost use Rattle.yf_program.specs.Answer.{AnyLines, DoesAll, DoesEach, DoesNamed, DoesRewrite, EndsRewriting, RewritesInput, TellsMore, host_in};
+ghost use Rattle.yf_program.specs.Answer.{AnyLines, DoesAll, DoesEach, DoesNamed, DoesRewrite, EndsRewriting, ScopedRewrite, TellsMore, host_in};
 ghost use Rattle.yf_program.specs.Rewriting.{FileRewrite, IsNewText};
 ghost use Rattle.yf_program.specs.World.{world_in};
 
@@ -12,6 +12,8 @@ use crate::further::tell_file;
 use crate::inputs::Inputs;
 use crate::memory::tell_memory;
 use crate::program::GOOD;
+use crate::report::report;
+use crate::scope::{Scope, is_file_left_out, tell_left_out};
 use crate::sources::Sources;
 use crate::streams::{Streams, in_memory};
 use std::alloc::Global;
@@ -25,20 +27,21 @@ pub fn rewrite_files<I: Inputs, S: Links, W: Sink, E: Sink>(
     alloc: Global,
     explain: bool,
     new_text: &NewText<'_>,
+    scope: &Scope,
     files: &FileList,
     sources: &mut Sources<I, S>,
     streams: &mut Streams<W, E>,
 ) -> u8
-    ensures { DoesAll
-        (RewritesInput (host_in I.claim S.tells S.state S.leads sources.old) explain (IsNewText new_text.now))
+    ensures { DoesAll (ScopedRewrite (host_in I.claim S.tells S.state S.leads sources.old) scope.now explain
+        (IsNewText new_text.now))
         (map (λ name. File name) (all_files files.now)) result (world_in I.opened sources.old streams.old)
         (world_in I.opened sources.new streams.new) }
 {
     if files.rest.is_empty() {
         let name = files.first.as_str();
-        return rewrite_file(alloc, explain, new_text, name, sources, streams);
+        return rewrite_scoped(alloc, explain, new_text, scope, name, sources, streams);
     }
-    rewrite_each(alloc, explain, new_text, files, sources, streams)
+    rewrite_each(alloc, explain, new_text, scope, files, sources, streams)
 }
 
 // Rewrites each file, in order, and returns the greatest status. Each line of the output begins with the name of its
@@ -47,19 +50,28 @@ fn rewrite_each<I: Inputs, S: Links, W: Sink, E: Sink>(
     alloc: Global,
     explain: bool,
     new_text: &NewText<'_>,
+    scope: &Scope,
     files: &FileList,
     sources: &mut Sources<I, S>,
     streams: &mut Streams<W, E>,
 ) -> u8
-    ensures { DoesEach
-        (RewritesInput (host_in I.claim S.tells S.state S.leads sources.old) explain (IsNewText new_text.now))
+    ensures { DoesEach (ScopedRewrite (host_in I.claim S.tells S.state S.leads sources.old) scope.now explain
+        (IsNewText new_text.now))
         (world_in I.opened sources.old streams.old) (map (λ name. File name) (all_files files.now)) result
         (world_in I.opened sources.new streams.new) }
 {
     let first = files.first.as_str();
-    let mut greatest = rewrite_named(alloc, explain, new_text, first, sources, streams);
+    let mut greatest = rewrite_named(alloc, explain, new_text, scope, first, sources, streams);
     for name in files.rest.as_slice() {
-        let status = rewrite_named(alloc, explain, new_text, name.as_str(), sources, streams);
+        let status = rewrite_named(
+            alloc,
+            explain,
+            new_text,
+            scope,
+            name.as_str(),
+            sources,
+            streams,
+        );
         greatest = greatest.max(status);
     }
     greatest
@@ -71,22 +83,48 @@ fn rewrite_named<I: Inputs, S: Links, W: Sink, E: Sink>(
     alloc: Global,
     explain: bool,
     new_text: &NewText<'_>,
+    scope: &Scope,
     name: &str,
     sources: &mut Sources<I, S>,
     streams: &mut Streams<W, E>,
 ) -> u8
-    ensures does { DoesNamed name.now (DoesRewrite (host_in I.claim S.tells S.state S.leads sources.old) explain
-        (IsNewText new_text.now) name.now) result (world_in I.opened sources.old streams.old)
+    ensures does { DoesNamed name.now (ScopedRewrite (host_in I.claim S.tells S.state S.leads sources.old) scope.now
+        explain (IsNewText new_text.now) (File name.now)) result (world_in I.opened sources.old streams.old)
         (world_in I.opened sources.new streams.new) }
     ensures inputs { sources.new.inputs ≡ sources.old.inputs }
 {
     let mut memory = in_memory(alloc);
-    let status = rewrite_file(alloc, explain, new_text, name, sources, &mut memory);
+    let status = rewrite_scoped(alloc, explain, new_text, scope, name, sources, &mut memory);
     tell_memory(alloc, name, status, &memory, streams)
 }
 
-/// Rewrites a file and returns the status. Reports the reason if the file is not rewritten.
-pub fn rewrite_file<I: Inputs, S: Links, W: Sink, E: Sink>(
+/// Rewrites a file, unless the settings leave it out. Returns the status.
+pub fn rewrite_scoped<I: Inputs, S: Links, W: Sink, E: Sink>(
+    alloc: Global,
+    explain: bool,
+    new_text: &NewText<'_>,
+    scope: &Scope,
+    name: &str,
+    sources: &mut Sources<I, S>,
+    streams: &mut Streams<W, E>,
+) -> u8
+    ensures does { ScopedRewrite (host_in I.claim S.tells S.state S.leads sources.old) scope.now explain
+        (IsNewText new_text.now) (File name.now) result (world_in I.opened sources.old streams.old)
+        (world_in I.opened sources.new streams.new) }
+    ensures inputs { sources.new.inputs ≡ sources.old.inputs }
+{
+    match is_file_left_out(alloc, scope, name) {
+        Ok(true) => {
+            tell_left_out(explain, &mut streams.errors);
+            GOOD
+        }
+        Ok(false) => rewrite_file(alloc, explain, new_text, name, sources, streams),
+        Err(_) => report(&Fault::Memory, &mut streams.errors),
+    }
+}
+
+// Rewrites a file and returns the status. Reports the reason if the file is not rewritten.
+fn rewrite_file<I: Inputs, S: Links, W: Sink, E: Sink>(
     alloc: Global,
     explain: bool,
     new_text: &NewText<'_>,

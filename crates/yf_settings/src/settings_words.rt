@@ -6,21 +6,30 @@ use yf_explain::{Page, explain, page_at};
 use yf_lines::fault::Fault;
 
 /// The keys, and the allowed values of each.
-const ALLOWED: [(&str, &str); 7] = [
+const ALLOWED: [(&str, &str); 9] = [
     ("comments", "`comments` is \"next\" or \"block\""),
     (
         "document_start",
         "`document_start` is \"always\" or \"keep\"",
     ),
+    (
+        "exclude",
+        "`exclude` is a list of patterns, each as in .gitignore",
+    ),
     ("indent", "`indent` is a whole number from 2 to 8"),
     ("invisible", "`invisible` is \"plain\" or \"escaped\""),
     ("max_line", "`max_line` is a whole number from 40 to 1000"),
     ("quotes", "`quotes` is \"double\" or \"single\""),
+    (
+        "required_version",
+        "`required_version` is a text such as \">=0.3, <0.4\"",
+    ),
     ("seq_indent", "`seq_indent` is true or false"),
 ];
 
 /// The explanation of any other key.
-const NO_KEY: &str = "keys: comments document_start indent invisible max_line quotes seq_indent";
+const NO_KEY: &str =
+    "keys: comments document_start exclude indent invisible max_line quotes required_version seq_indent";
 
 /// Returns the explanation of the bytes of a settings file whose `key` is refused. An empty key means that the text is
 /// not TOML.

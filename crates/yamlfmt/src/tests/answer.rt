@@ -91,6 +91,7 @@ fn is_answered(alloc: Global, words: &[String], row: &Row) -> bool {
     let inputs = MemoryInputs {
         files: &FILES,
         standard: STANDARD,
+        current: b"/",
         opened: Vec::new(alloc),
     };
     let Some(files) = one_file(alloc) else {

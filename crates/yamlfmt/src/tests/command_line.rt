@@ -3,10 +3,9 @@
 use crate::tests::answers::words_of;
 use crate::tests::overview::OVERVIEW;
 use std::alloc::Global;
-use yf_command_line::command::{Command, FileList, Fmt, Input, InputList, Request};
+use yf_command_line::command::{Command, FileList, Fmt, Input, InputList, Request, Settings};
 use yf_command_line::command_line::parse_line;
 use yf_command_line::usage::Usage;
-use yf_lines::text::OwnedText;
 use yf_rules::asked::RULE_NAMES;
 
 /// The name of a command.
@@ -36,7 +35,7 @@ enum Wanted {
     Version,
 }
 
-static LINES: [(&str, Wanted); 66] = [
+static LINES: [(&str, Wanted); 72] = [
     (
         "events",
         Wanted::Command(Verb::Events, "", "", false, false, false, 0),
@@ -113,7 +112,29 @@ static LINES: [(&str, Wanted); 66] = [
         "--explain server --stdio --config s.toml",
         Wanted::Command(Verb::Server, "s.toml", "", false, false, false, 0),
     ),
+    (
+        "check a --no-config",
+        Wanted::Command(Verb::Check, "--no-config", "a", false, false, false, 0),
+    ),
+    (
+        "server --no-config",
+        Wanted::Command(Verb::Server, "--no-config", "", false, false, false, 0),
+    ),
+    (
+        "fmt --config s --no-config",
+        Wanted::Refused(
+            "error: the argument '--config' cannot be used with '--no-config'
+
+Usage: yamlfmt [OPTIONS] <COMMAND>
+
+For more information, try '--help'.
+",
+        ),
+    ),
     ("", Wanted::Wrong),
+    ("--no-config events", Wanted::Wrong),
+    ("events --no-config --no-config", Wanted::Wrong),
+    ("fmt --no-config=s", Wanted::Wrong),
     ("server a.yaml", Wanted::Wrong),
     ("server --explain", Wanted::Wrong),
     ("server --stdio --stdio", Wanted::Wrong),
@@ -159,6 +180,7 @@ Arguments:
 
 Options:
       --config <FILE>  Read the settings from this TOML file
+      --no-config      Use the default settings, and look for no settings file
       --explain        Explain errors and findings on standard error
   -h, --help           Print help
 ",
@@ -176,6 +198,7 @@ Arguments:
 
 Options:
       --config <FILE>    Read the settings from this TOML file
+      --no-config        Use the default settings, and look for no settings file
       --explain          Explain errors and findings on standard error
       --without <RULES>  Skip the rules with these ids (comma-separated)
   -h, --help             Print help
@@ -191,6 +214,7 @@ Usage: yamlfmt server [OPTIONS]
 
 Options:
       --config <FILE>  Read the settings from this TOML file
+      --no-config      Use the default settings, and look for no settings file
       --stdio          Accepted for editors; changes nothing
   -h, --help           Print help
 ",
@@ -290,11 +314,13 @@ For more information, try '--help'.
     ("-V", Wanted::Version),
 ];
 
-/// Returns whether the text is this one. An empty text means that there is none.
-fn is_text(found: &Option<OwnedText>, text: &str) -> bool {
-    match found {
-        Some(found) => found.as_str() == text,
-        None => text.is_empty(),
+/// Returns whether the settings are those of the file with this name. An empty name means the nearest settings file, and
+/// `--no-config` means the defaults.
+fn is_config(settings: &Settings, name: &str) -> bool {
+    match settings {
+        Settings::Nearest => name.is_empty(),
+        Settings::File(found) => found.as_str() == name,
+        Settings::Defaults => name == "--no-config",
     }
 }
 
@@ -364,7 +390,7 @@ fn is_found(parsed: &Result<Request, Usage>, wanted: Wanted) -> bool {
                 && checks == check
                 && diffs == diff
                 && others == more
-                && is_text(&request.config, config)
+                && is_config(&request.settings, config)
         }
         (Err(Usage::Wrong(_)), Wanted::Wrong) => true,
         (Err(Usage::Wrong(text)), Wanted::Refused(wanted)) => text.as_str() == wanted,

@@ -1,0 +1,394 @@
+//! Settings files and files in memory, and the results of runs with them.
+
+use yf_program::memory_inputs::Stored;
+
+/// A file to format and to check.
+const A: Stored = Stored {
+    name: "a.yaml",
+    bytes: b"---\na: \"x\" # c\n",
+};
+
+/// Settings with another style, beside the file, in the folder above it, and two folders above it.
+const SINGLE: Stored = Stored {
+    name: ".yamlfmt.toml",
+    bytes: b"quotes = \"single\"\n",
+};
+
+const SINGLE_ABOVE: Stored = Stored {
+    name: "../.yamlfmt.toml",
+    bytes: b"quotes = \"single\"\n",
+};
+
+const SINGLE_HIGH: Stored = Stored {
+    name: "../../.yamlfmt.toml",
+    bytes: b"quotes = \"single\"\n",
+};
+
+const DOUBLE_ABOVE: Stored = Stored {
+    name: "../.yamlfmt.toml",
+    bytes: b"quotes = \"double\"\n",
+};
+
+/// The mark of a work tree, beside the file and in the folder above it.
+const GIT: Stored = Stored {
+    name: ".git",
+    bytes: b"gitdir: ../.git/worktrees/w\n",
+};
+
+const GIT_ABOVE: Stored = Stored {
+    name: "../.git",
+    bytes: b"",
+};
+
+const OTHER: Stored = Stored {
+    name: "other.toml",
+    bytes: b"quotes = \"single\"\nexclude = [\"*.yaml\"]\n",
+};
+
+const FAULTY: Stored = Stored {
+    name: ".yamlfmt.toml",
+    bytes: b"indent = 9\n",
+};
+
+const FAULTY_ABOVE: Stored = Stored {
+    name: "../.yamlfmt.toml",
+    bytes: b"\xFF",
+};
+
+const BAD_PATTERN: Stored = Stored {
+    name: ".yamlfmt.toml",
+    bytes: b"exclude = [\"a\", \"[\"]\n",
+};
+
+const NO_PATTERN: Stored = Stored {
+    name: ".yamlfmt.toml",
+    bytes: b"exclude = []\n",
+};
+
+const LATER: Stored = Stored {
+    name: ".yamlfmt.toml",
+    bytes: b"required_version = \">=0.3, <0.4\"\n",
+};
+
+const THIS: Stored = Stored {
+    name: ".yamlfmt.toml",
+    bytes: b"required_version = \">=0.2, <0.3\"\n",
+};
+
+const ALL: Stored = Stored {
+    name: ".yamlfmt.toml",
+    bytes: b"exclude = [\"*\"]\n",
+};
+
+/// Leaves out the files of a folder `d` except one.
+const IN_FOLDER: Stored = Stored {
+    name: "../.yamlfmt.toml",
+    bytes: b"exclude = [\"/d/*.yaml\", \"!keep.yaml\"]\n",
+};
+
+const KEPT: Stored = Stored {
+    name: "keep.yaml",
+    bytes: b"---\na: \"x\" # c\n",
+};
+
+/// The files, the path of the current folder, a command line, the exit status, the texts of the two streams, and the
+/// inputs that were opened.
+pub type Row = (
+    &'static [Stored],
+    &'static str,
+    &'static str,
+    u8,
+    &'static str,
+    &'static str,
+    &'static str,
+);
+
+/// The file `a.yaml` in both styles.
+const AS_DOUBLE: &str = "---\na: \"x\"  # c\n";
+
+const AS_SINGLE: &str = "---\na: 'x'  # c\n";
+
+/// The line of a file that is left out.
+const LEFT_OUT: &str = "left out: the settings exclude it\n";
+
+pub static ROWS: [Row; 32] = [
+    // which settings file is in force
+    (&[A], "/w/d", "fmt a.yaml", 0, AS_DOUBLE, "", "a.yaml "),
+    (
+        &[A, SINGLE],
+        "/w/d",
+        "fmt a.yaml",
+        0,
+        AS_SINGLE,
+        "",
+        ".yamlfmt.toml a.yaml ",
+    ),
+    (
+        &[A, SINGLE_ABOVE],
+        "/w/d",
+        "fmt a.yaml",
+        0,
+        AS_SINGLE,
+        "",
+        "../.yamlfmt.toml a.yaml ",
+    ),
+    (
+        &[A, SINGLE_HIGH, DOUBLE_ABOVE],
+        "/w/d",
+        "fmt a.yaml",
+        0,
+        AS_DOUBLE,
+        "",
+        "../.yamlfmt.toml a.yaml ",
+    ),
+    (
+        &[A, SINGLE_HIGH, GIT_ABOVE],
+        "/w/d",
+        "fmt a.yaml",
+        0,
+        AS_DOUBLE,
+        "",
+        "a.yaml ",
+    ),
+    (
+        &[A, SINGLE_ABOVE, GIT],
+        "/w/d",
+        "fmt a.yaml",
+        0,
+        AS_DOUBLE,
+        "",
+        "a.yaml ",
+    ),
+    // no folder is above the root
+    (
+        &[A, SINGLE_ABOVE],
+        "/",
+        "fmt a.yaml",
+        0,
+        AS_DOUBLE,
+        "",
+        "a.yaml ",
+    ),
+    (
+        &[A],
+        "/..",
+        "fmt a.yaml",
+        3,
+        "",
+        "no settings file can be looked for: the path of the current folder is unknown\n",
+        "",
+    ),
+    (
+        &[A],
+        "/..",
+        "fmt --no-config a.yaml",
+        0,
+        AS_DOUBLE,
+        "",
+        "a.yaml ",
+    ),
+    // standard input, and the command line
+    (
+        &[SINGLE],
+        "/w/d",
+        "fmt",
+        0,
+        "---\n- 'a'\n",
+        "",
+        ".yamlfmt.toml - ",
+    ),
+    (
+        &[A, SINGLE],
+        "/w/d",
+        "fmt a.yaml --no-config",
+        0,
+        AS_DOUBLE,
+        "",
+        "a.yaml ",
+    ),
+    (
+        &[A, SINGLE, DOUBLE_ABOVE],
+        "/w/d",
+        "fmt --config ../.yamlfmt.toml a.yaml",
+        0,
+        AS_DOUBLE,
+        "",
+        "../.yamlfmt.toml a.yaml ",
+    ),
+    // faults, which are reported before anything else is opened
+    (
+        &[A, FAULTY],
+        "/w/d",
+        "fmt a.yaml",
+        3,
+        "",
+        ".yamlfmt.toml: config: indent\n",
+        ".yamlfmt.toml ",
+    ),
+    (
+        &[A, FAULTY],
+        "/w/d",
+        "check --explain a.yaml",
+        3,
+        "",
+        ".yamlfmt.toml: config: indent\n  1:1: `indent` is a whole number from 2 to 8\n  | indent = 9\n  | ^\n",
+        ".yamlfmt.toml ",
+    ),
+    (
+        &[FAULTY],
+        "/w/d",
+        "server",
+        3,
+        "",
+        ".yamlfmt.toml: config: indent\n",
+        ".yamlfmt.toml ",
+    ),
+    (
+        &[A, FAULTY_ABOVE],
+        "/w/d",
+        "fmt --write b.yaml",
+        3,
+        "",
+        "../.yamlfmt.toml: config: \n",
+        "../.yamlfmt.toml ",
+    ),
+    (
+        &[A, FAULTY],
+        "/w/d",
+        "fmt --config .yamlfmt.toml a.yaml",
+        3,
+        "",
+        "config: indent\n",
+        ".yamlfmt.toml ",
+    ),
+    (
+        &[A, BAD_PATTERN],
+        "/w/d",
+        "fmt a.yaml",
+        3,
+        "",
+        ".yamlfmt.toml: config: exclude\n",
+        ".yamlfmt.toml ",
+    ),
+    // versions
+    (
+        &[A, LATER],
+        "/w/d",
+        "fmt a.yaml",
+        3,
+        "",
+        "required_version: the settings require yamlfmt >=0.3, <0.4, and this is 0.2.0\n",
+        ".yamlfmt.toml ",
+    ),
+    (
+        &[A, THIS],
+        "/w/d",
+        "fmt a.yaml",
+        0,
+        AS_DOUBLE,
+        "",
+        ".yamlfmt.toml a.yaml ",
+    ),
+    // files that are left out
+    (&[A, ALL], "/w/d", "fmt a.yaml", 0, "", "", ".yamlfmt.toml "),
+    (
+        &[A, ALL],
+        "/w/d",
+        "check --explain a.yaml",
+        0,
+        "",
+        LEFT_OUT,
+        ".yamlfmt.toml ",
+    ),
+    (
+        &[ALL],
+        "/w/d",
+        "check --explain none.yaml a.yaml",
+        0,
+        "",
+        "none.yaml: left out: the settings exclude it\na.yaml: left out: the settings exclude it\n",
+        ".yamlfmt.toml ",
+    ),
+    (
+        &[ALL],
+        "/w/d",
+        "fmt --write b.yaml",
+        0,
+        "",
+        "",
+        ".yamlfmt.toml ",
+    ),
+    (
+        &[ALL],
+        "/w/d",
+        "fmt --explain --write b.yaml none.yaml",
+        0,
+        "",
+        "b.yaml: left out: the settings exclude it\nnone.yaml: left out: the settings exclude it\n",
+        ".yamlfmt.toml ",
+    ),
+    (
+        &[ALL],
+        "/w/d",
+        "fmt -",
+        0,
+        "---\n- \"a\"\n",
+        "",
+        ".yamlfmt.toml - ",
+    ),
+    (
+        &[A, OTHER],
+        "/w/d",
+        "fmt --explain --config other.toml a.yaml",
+        0,
+        "",
+        LEFT_OUT,
+        "other.toml ",
+    ),
+    (
+        &[A, NO_PATTERN],
+        "/w/d",
+        "fmt a.yaml",
+        0,
+        AS_DOUBLE,
+        "",
+        ".yamlfmt.toml a.yaml ",
+    ),
+    // paths from the folder of the settings file
+    (
+        &[A, KEPT, IN_FOLDER],
+        "/w/d",
+        "check a.yaml keep.yaml",
+        1,
+        "keep.yaml:2:8 comment-space (fixable)\n",
+        "",
+        "../.yamlfmt.toml keep.yaml ",
+    ),
+    (
+        &[A, IN_FOLDER],
+        "/w/d",
+        "check ./a.yaml ../d/../d/a.yaml /w/d/a.yaml",
+        0,
+        "",
+        "",
+        "../.yamlfmt.toml ",
+    ),
+    (
+        &[A, IN_FOLDER],
+        "/w/e",
+        "check a.yaml",
+        1,
+        "2:8 comment-space (fixable)\n",
+        "",
+        "../.yamlfmt.toml a.yaml ",
+    ),
+    (
+        &[IN_FOLDER],
+        "/w/e",
+        "fmt ../d/a.yaml",
+        0,
+        "",
+        "",
+        "../.yamlfmt.toml ",
+    ),
+];

@@ -1,0 +1,13 @@
+use Rattle.std.proofs.Common.{rules}
+use Rattle.clap.specs.Words.{found_of, rows_of}
+use Rattle.yf_command_line.proofs.command_line.request_met.Goals as goal
+
+pub returns : goal.returns
+returns c = record {
+  name = c.in-Some.met.0.now;
+  given = rows_of (found_of c.in-Some.met.1.now);
+  named = search rules;
+  command = c.in-Ok.ensures;
+  settings = c.in-Ok-settings_met.ensures;
+  explain = c.is_explained.ensures;
+}

@@ -1,0 +1,80 @@
+-- The whole program, from the words of its command line to its status. Its last definition, `ProgramRuns`, is the whole.
+-- (before, after: the world, the streams or one stream before and after a step)
+use Rattle.std.specs.Prelude.{◌≡◌, ◌⊎◌, ℕ, List, [], Bool, Option, unwrap_or}
+use Rattle.yf_command_line.specs.Requests.{AsksFor, RefusesWords}
+use Rattle.yf_command_line.specs.declared.command.Command.{Command}
+use Rattle.yf_command_line.specs.declared.command.Input.{Input}
+use Rattle.yf_command_line.specs.declared.command.Request.{Request}
+use Rattle.yf_command_line.specs.declared.usage.Usage.{Usage}
+use Rattle.yf_lines.specs.declared.fault.Fault.{Fault}
+use Rattle.yf_lines.specs.declared.fault.Fault.TheVariants as fault
+use Rattle.yf_program.specs.Answer.{AnyLines, DoesIn, EndsBy, InputsOpened, SettingsOfFile, TellsMore, Unset, UsageWritten, WrittenOut, settings_of}
+use Rattle.yf_program.specs.Report.{fault_status}
+use Rattle.yf_program.specs.Settings.{IsInForce, IsUnfound, NothingDone, RefusesVersion, named_fault, no_folder_line, scope_of, settings_line}
+use Rattle.yf_program.specs.World.{Host, OutputStreams, WorkClaim, World}
+use Rattle.yf_program.specs.declared.search.InForce.{InForce}
+use Rattle.yf_program.specs.declared.search.Unfound.{Unfound}
+use Rattle.yf_program.specs.declared.search.Unfound.TheVariants as unfound
+use Rattle.yf_rules.specs.AllRules.{rule_names}
+use Rattle.yf_rules.specs.Runs.ByteStream.{ByteStream, NothingWritten, WrittenOrFailed}
+use Rattle.yf_settings.specs.declared.file_settings.FileSettings.{FileSettings}
+
+-- A line was written to the stream of faults, and with `--explain` more lines after it. The status is that of the fault.
+abbrev pub EndsByLine : Bool → List ℕ → Fault → ℕ → ByteStream → ByteStream → Type 0
+EndsByLine explain line f status before after =
+    (told : ByteStream) × (status ≡ fault_status f) × WrittenOrFailed before told line
+    × TellsMore explain AnyLines told after
+
+-- Why it isn't known which settings file is in force was written to the stream of faults.
+abbrev pub TellsUnfound : Bool → Unfound → ℕ → ByteStream → ByteStream → Type 0
+TellsUnfound explain (unfound.Unreadable name) status before after =
+    EndsByLine explain (named_fault name fault.ReadFailed) fault.ReadFailed status before after
+TellsUnfound explain unfound.NoFolder status before after = (status ≡ 3) × WrittenOrFailed before after no_folder_line
+TellsUnfound explain unfound.Memory status before after = EndsBy fault.Memory status before after
+
+-- The settings are for another version; or memory was refused; or the command was done with the settings.
+pub data DoesWith {F : Type 0} (host : Host F) (in_force : InForce) (settings : FileSettings) (explain : Bool)
+    (what : Command) (status : ℕ) (before after : World F) : Type 0 where
+  other_version : NothingDone host before after
+      → RefusesVersion settings.required status before.streams.errors after.streams.errors
+      → DoesWith host in_force settings explain what status before after
+  without_memory : NothingDone host before after → EndsBy fault.Memory status before.streams.errors after.streams.errors
+      → DoesWith host in_force settings explain what status before after
+  are_taken : DoesIn host what (scope_of in_force settings) explain settings.style status before after
+      → DoesWith host in_force settings explain what status before after
+
+-- The settings file in force is refused, and no other input was opened; or the command was done with its settings.
+abbrev pub SettingsTaken : {F : Type 0} → Host F → InForce → Bool → Command → WorkClaim F
+SettingsTaken host in_force explain what status before after =
+    ((f : Fault) × Unset host.inputs in_force.config f × (after.files ≡ before.files)
+    × InputsOpened host.inputs before.opened after.opened (settings_of in_force.config)
+    × NothingWritten before.streams.output after.streams.output
+    × EndsByLine explain (settings_line in_force.is_nearest (unwrap_or in_force.config []) f) f status
+    before.streams.errors after.streams.errors)
+    ⊎ ((settings : FileSettings) × (opened : List Input) × SettingsOfFile host.inputs in_force.config settings
+    × InputsOpened host.inputs before.opened opened (settings_of in_force.config)
+    × DoesWith host in_force settings explain what status (record before { opened = opened }) after)
+
+-- It isn't known which settings file is in force, and no input was opened; or its settings were taken.
+abbrev pub RequestDone : {F : Type 0} → Host F → Request → WorkClaim F
+RequestDone host request status before after =
+    ((why : Unfound) × IsUnfound host.inputs request.settings why × NothingDone host before after
+    × TellsUnfound request.explain why status before.streams.errors after.streams.errors)
+    ⊎ ((in_force : InForce) × IsInForce host.inputs request.settings in_force
+    × SettingsTaken host in_force request.explain request.command status before after)
+
+-- What the words ask for was done; or they ask for help or are wrong, and nothing was opened.
+abbrev pub Follows : {F : Type 0} → Host F → List (List ℕ) → WorkClaim F
+Follows host words status before after =
+    ((request : Request) × AsksFor rule_names words request × RequestDone host request status before after)
+    ⊎ ((usage : Usage) × RefusesWords rule_names words usage × (after.files ≡ before.files)
+    × (host.inputs.notes → after.opened ≡ before.opened) × UsageWritten usage status before.streams after.streams)
+
+-- The program did what the words ask for, and then wrote out what the writer held back. The status is the one that
+-- `main` ends with, unless the reader of standard output has left: then `main` ends with 141 instead.
+pub record ProgramRuns {F : Type 0} (host : Host F) (words : List (List ℕ)) (status : ℕ) (before after : World F)
+    : Type 0 where
+  pub run : ℕ
+  pub streams : OutputStreams
+  pub follows : Follows host words run before (record after { streams = streams })
+  pub out : WrittenOut run status streams after.streams
