@@ -23,10 +23,14 @@ class Option:
     long: str  # '--help'
     value: str  # 'FILE', 'RULES', or nothing
     about: str
-    values: list = ()  # the names of which the value is a list, with commas between; of a file, none
+    values: list = ()  # the names that the value may be, or that it lists with commas between; of a file, none
 
     def names(self):
         return [name for name in (self.short, self.long) if name]
+
+    def is_list(self):
+        """Whether the value is a list of names, with commas between."""
+        return self.value == 'RULES'
 
 
 @dataclasses.dataclass
@@ -156,6 +160,14 @@ def names_of(given):
     return ' '.join(name for option in given for name in option.names())
 
 
+def bash_value(option):
+    """The case of an option with a value: what is offered for it."""
+    if not option.values:
+        return '        %s) files=yes ;;' % option.long
+    front = ' front=${word%"${word##*,}"}' if option.is_list() else ''
+    return "        %s) offered='%s'%s files='' ;;" % (option.long, ' '.join(option.values), front)
+
+
 def bash(program):
     _, own, commands = whole(program)
     names = [one.name for one in commands]
@@ -163,11 +175,8 @@ def bash(program):
     for one in commands:
         files = ' files=yes' if one.arguments else ''
         cases.append("        %s) offered='%s'%s ;;" % (one.name, names_of(one.options) or ' '.join(names), files))
-    valued = {option.long: option.values for one in commands for option in one.options if option.value}
-    with_file = {option.long for one in commands for option in one.options if option.value == 'FILE'}
-    after = ['        %s) files=yes ;;' % name if name in with_file
-             else "        %s) offered='%s' front=${word%%\"${word##*,}\"} files='' ;;" % (name, ' '.join(names))
-             for name, names in sorted(valued.items())]
+    valued = {option.long: option for one in commands for option in one.options if option.value}
+    after = [bash_value(option) for _, option in sorted(valued.items())]
     return '''\
 # Completes the command line of yamlfmt in bash. Made from `yamlfmt --help`.
 _yamlfmt() {
@@ -209,8 +218,10 @@ def quoted(text):
 def zsh_option(option):
     about = quoted('[%s]' % option.about.replace(']', '\\]'))[1:-1]
     if option.value:
-        taken = '_values -s , %s %s' % (option.value, ' '.join(option.values)) if option.values else '_files' if option.value == 'FILE' else ' '
-        return "'%s=%s:%s:%s'" % ('*' * bool(option.values) + option.long, about, option.value, taken)
+        taken = '(%s)' % ' '.join(option.values) if option.values else '_files' if option.value == 'FILE' else ' '
+        if option.is_list():
+            taken = '_values -s , %s %s' % (option.value, ' '.join(option.values))
+        return "'%s=%s:%s:%s'" % ('*' * option.is_list() + option.long, about, option.value, taken)
     if len(option.names()) == 2:
         return "'(- *)'{%s}'%s'" % (','.join(option.names()), about)
     return "'%s%s'" % (option.long, about)
@@ -260,7 +271,9 @@ def fish_option(when, option):
     if option.short:
         words.append('-s ' + option.short[1:])
     words.append('-l ' + option.long[2:])
-    if option.values:
+    if option.values and not option.is_list():
+        words.append('-x -a ' + fish_quoted(' '.join(option.values)))
+    elif option.values:
         words.append('-x -a ' + fish_quoted('(__fish_complete_list , "printf \'%%s\\n\' %s")' % ' '.join(option.values)))
     elif option.value:
         words.append('-r -F' if option.value == 'FILE' else '-x')

@@ -26,6 +26,7 @@ mod owner;
 mod parts;
 mod program;
 mod replacing;
+mod report_rows;
 mod server;
 mod settings;
 mod system;

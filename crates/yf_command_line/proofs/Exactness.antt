@@ -14,10 +14,9 @@ use Rattle.clap.specs.declared.error.kind.ErrorKind.TheVariants.{DisplayHelp, Di
 use Rattle.yf_line_ranges.specs.declared.range.LineRange.{LineRange}
 use Rattle.yf_command_line.specs.Options.{yamlfmt}
 use Rattle.yf_command_line.specs.Requests.{AsksFor, AsksText, IsCommand, IsNoCommand, IsNoRequest, IsRequest, Met}
-use Rattle.yf_command_line.specs.Requests.{RefusesWords, all_inputs, files_given, first_input, input_of, inputs_of}
-use Rattle.yf_command_line.specs.Requests.{is_flag, names_given, AsksTwice, IsSettings, config_given, takes_defaults}
-use Rattle.yf_command_line.specs.Requests.IsNoCommand.{other_name, no_rule, no_fmt}
-use Rattle.yf_command_line.specs.Without.{are_rules}
+use Rattle.yf_command_line.specs.Requests.{RefusesWords, files_given, first_input}
+use Rattle.yf_command_line.specs.Requests.{is_flag, AsksTwice, IsSettings, config_given, takes_defaults}
+use Rattle.yf_command_line.specs.Requests.IsNoCommand.{other_name, no_check, no_fmt}
 use Rattle.yf_command_line.specs.declared.command.Command.{Command}
 use Rattle.yf_command_line.specs.declared.command.Command.TheVariants as command
 use Rattle.yf_command_line.specs.declared.command.Input.{Input}
@@ -27,6 +26,7 @@ use Rattle.yf_command_line.specs.declared.command.Request.{Request}
 use Rattle.yf_command_line.specs.declared.command.Settings.{Settings}
 use Rattle.yf_command_line.specs.declared.command.Settings.TheVariants as asked
 use Rattle.yf_command_line.specs.declared.usage.Usage.TheVariants.{Help, Wrong}
+use Rattle.yf_command_line.proofs.CheckExactness.{SameCheck, check_not_both, check_once, check_or_not}
 use Rattle.yf_command_line.proofs.FmtExactness.{SameFmt, fmt_not_both, fmt_once, fmt_or_not}
 
 -- ---- at most one request
@@ -34,7 +34,7 @@ use Rattle.yf_command_line.proofs.FmtExactness.{SameFmt, fmt_not_both, fmt_once,
 -- The two are equal, except for the capacity of their vectors.
 abbrev pub SameCommand : Command → Command → Type 0
 SameCommand (command.Events a) (command.Events b) = a ≡ b
-SameCommand (command.Check a v) (command.Check b w) = (all_inputs a ≡ all_inputs b) × (v.items ≡ w.items)
+SameCommand (command.Check a) (command.Check b) = SameCheck a b
 SameCommand (command.Fmt a) (command.Fmt b) = SameFmt a b
 SameCommand command.Server command.Server = Unit {0}
 SameCommand _ _ = ⊥
@@ -58,20 +58,20 @@ other_names = (
 command_once : (rules : List Text) (name : Text) (given : List Row) (a b : Command)
     → IsCommand rules name given a → IsCommand rules name given b → SameCommand a b
 command_once rules name given (command.Events a) (command.Events b) p q = cc
-command_once rules name given (command.Check a v) (command.Check b w) p q = (cc, cc)
+command_once rules name given (command.Check a) (command.Check b) p q = check_once rules given a b p.1 q.1
 command_once rules name given (command.Fmt a) (command.Fmt b) p q = fmt_once given a b p.1 q.1
-command_once rules name given (command.Events a) (command.Check b w) p q = absurd (other_names.0 (sym p.0 ∙ q.0))
+command_once rules name given (command.Events a) (command.Check b) p q = absurd (other_names.0 (sym p.0 ∙ q.0))
 command_once rules name given (command.Events a) (command.Fmt b) p q = absurd (other_names.1 (sym p.0 ∙ q.0))
-command_once rules name given (command.Check a v) (command.Events b) p q = absurd (other_names.0 (sym q.0 ∙ p.0))
-command_once rules name given (command.Check a v) (command.Fmt b) p q = absurd (other_names.2 (sym p.0 ∙ q.0))
+command_once rules name given (command.Check a) (command.Events b) p q = absurd (other_names.0 (sym q.0 ∙ p.0))
+command_once rules name given (command.Check a) (command.Fmt b) p q = absurd (other_names.2 (sym p.0 ∙ q.0))
 command_once rules name given (command.Fmt a) (command.Events b) p q = absurd (other_names.1 (sym q.0 ∙ p.0))
-command_once rules name given (command.Fmt a) (command.Check b w) p q = absurd (other_names.2 (sym q.0 ∙ p.0))
+command_once rules name given (command.Fmt a) (command.Check b) p q = absurd (other_names.2 (sym q.0 ∙ p.0))
 command_once rules name given command.Server command.Server p q = tt
 command_once rules name given (command.Events a) command.Server p q = absurd (other_names.3 (sym p.0 ∙ q))
-command_once rules name given (command.Check a v) command.Server p q = absurd (other_names.4 (sym p.0 ∙ q))
+command_once rules name given (command.Check a) command.Server p q = absurd (other_names.4 (sym p.0 ∙ q))
 command_once rules name given (command.Fmt a) command.Server p q = absurd (other_names.5 (sym p.0 ∙ q))
 command_once rules name given command.Server (command.Events b) p q = absurd (other_names.3 (sym q.0 ∙ p))
-command_once rules name given command.Server (command.Check b w) p q = absurd (other_names.4 (sym q.0 ∙ p))
+command_once rules name given command.Server (command.Check b) p q = absurd (other_names.4 (sym q.0 ∙ p))
 command_once rules name given command.Server (command.Fmt b) p q = absurd (other_names.5 (sym q.0 ∙ p))
 
 -- ---- not both
@@ -79,16 +79,16 @@ command_once rules name given command.Server (command.Fmt b) p q = absurd (other
 command_not_both : (rules : List Text) (name : Text) (given : List Row) (a : Command)
     → IsCommand rules name given a → IsNoCommand rules name given → ⊥
 command_not_both rules name given (command.Events a) p (other_name e c f s) = e p.0
-command_not_both rules name given (command.Events a) p (no_rule n r) = other_names.0 (sym p.0 ∙ n)
+command_not_both rules name given (command.Events a) p (no_check n r) = other_names.0 (sym p.0 ∙ n)
 command_not_both rules name given (command.Events a) p (no_fmt n r) = other_names.1 (sym p.0 ∙ n)
-command_not_both rules name given (command.Check a v) p (other_name e c f s) = c p.0
-command_not_both rules name given (command.Check a v) p (no_rule n r) = cc
-command_not_both rules name given (command.Check a v) p (no_fmt n r) = other_names.2 (sym p.0 ∙ n)
+command_not_both rules name given (command.Check a) p (other_name e c f s) = c p.0
+command_not_both rules name given (command.Check a) p (no_check n r) = check_not_both rules given a p.1 r
+command_not_both rules name given (command.Check a) p (no_fmt n r) = other_names.2 (sym p.0 ∙ n)
 command_not_both rules name given (command.Fmt a) p (other_name e c f s) = f p.0
-command_not_both rules name given (command.Fmt a) p (no_rule n r) = other_names.2 (sym n ∙ p.0)
+command_not_both rules name given (command.Fmt a) p (no_check n r) = other_names.2 (sym n ∙ p.0)
 command_not_both rules name given (command.Fmt a) p (no_fmt n r) = fmt_not_both given a p.1 r
 command_not_both rules name given command.Server p (other_name e c f s) = s p
-command_not_both rules name given command.Server p (no_rule n r) = other_names.4 (sym n ∙ p)
+command_not_both rules name given command.Server p (no_check n r) = other_names.4 (sym n ∙ p)
 command_not_both rules name given command.Server p (no_fmt n r) = other_names.5 (sym n ∙ p)
 
 settings_once : (given : List Row) (a b : Settings) → IsSettings given a → IsSettings given b → a ≡ b
@@ -156,36 +156,26 @@ not_refused rules words a text p (inr w) = none_among w.0 _ p.0 w.2
 module _ (inputs : List Input → Vec Input Global) (inputs_are : (l : List Input) → (inputs l).items ≡ l)
     (texts : List Text → Vec Text Global) (texts_are : (l : List Text) → (texts l).items ≡ l)
     (ranges : List LineRange → Vec LineRange Global) (ranges_are : (l : List LineRange) → (ranges l).items ≡ l) where
-  check_inputs : (files : List Text) → (list : InputList) × (inputs_of files ≡ all_inputs list)
-  check_inputs [] = (record { first = Standard; rest = inputs [] }, ap (λ l. Standard ∷ l) (sym (inputs_are [])))
-  check_inputs (f ∷ fs) = (
-    record { first = input_of f; rest = inputs (map input_of fs) },
-    ap (λ l. input_of f ∷ l) (sym (inputs_are (map input_of fs))),
-  )
-
-  command_by : (rules : List Text) (name : Text) (given : List Row) (e c f s r : Bool)
+  command_by : (rules : List Text) (name : Text) (given : List Row) (e c f s : Bool)
       → bytes_eq name (codes "events") ≡ e → bytes_eq name (codes "check") ≡ c → bytes_eq name (codes "fmt") ≡ f
-      → bytes_eq name (codes "server") ≡ s → are_rules rules (names_given given) ≡ r
-      → ((a : Command) × IsCommand rules name given a) ⊎ IsNoCommand rules name given
-  command_by rules name given true c f s r pe pc pf ps pr =
+      → bytes_eq name (codes "server") ≡ s → ((a : Command) × IsCommand rules name given a) ⊎ IsNoCommand rules name given
+  command_by rules name given true c f s pe pc pf ps =
       inl (command.Events (first_input (files_given given)), ((bytes_eq-Decides name (codes "events")).0 pe, refl))
-  command_by rules name given false true f s true pe pc pf ps pr =
-      let list = check_inputs (files_given given) in
-      inl (
-        command.Check list.0 (texts (names_given given)),
-        ((bytes_eq-Decides name (codes "check")).0 pc, list.1, texts_are (names_given given), pr),
-      )
-  command_by rules name given false true f s false pe pc pf ps pr =
-      inr (no_rule ((bytes_eq-Decides name (codes "check")).0 pc) pr)
-  command_by rules name given false false true s r pe pc pf ps pr =
+  command_by rules name given false true f s pe pc pf ps =
+      let named : name ≡ codes "check" = (bytes_eq-Decides name (codes "check")).0 pc in
+      elim (check_or_not inputs inputs_are texts texts_are rules given) [
+        | inl a ↦ inl (command.Check a.0, (named, a.1))
+        | inr no_way ↦ inr (no_check named no_way)
+      ]
+  command_by rules name given false false true s pe pc pf ps =
       let named : name ≡ codes "fmt" = (bytes_eq-Decides name (codes "fmt")).0 pf in
       elim (fmt_or_not inputs inputs_are texts texts_are ranges ranges_are given) [
         | inl a ↦ inl (command.Fmt a.0, (named, a.1))
         | inr no_way ↦ inr (no_fmt named no_way)
       ]
-  command_by rules name given false false false true r pe pc pf ps pr =
+  command_by rules name given false false false true pe pc pf ps =
       inl (command.Server, (bytes_eq-Decides name (codes "server")).0 ps)
-  command_by rules name given false false false false r pe pc pf ps pr =
+  command_by rules name given false false false false pe pc pf ps =
       inr (other_name
       (λ e. absurd (false≢true (sym pe ∙ (bytes_eq-Decides name (codes "events")).1 e)))
       (λ e. absurd (false≢true (sym pc ∙ (bytes_eq-Decides name (codes "check")).1 e)))
@@ -206,7 +196,7 @@ module _ (inputs : List Input → Vec Input Global) (inputs_are : (l : List Inpu
       → ((a : Request) × IsRequest rules before met a) ⊎ IsNoRequest rules met
   met_or_not rules before None = inr tt
   met_or_not rules before (Some m) =
-      elim (command_by rules m.0 m.1 _ _ _ _ _ refl refl refl refl refl) [
+      elim (command_by rules m.0 m.1 _ _ _ _ refl refl refl refl) [
         | inl a ↦ elim (settings_or_not m.1) [
           | inl s ↦ inl (
             record {

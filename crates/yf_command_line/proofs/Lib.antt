@@ -7,5 +7,6 @@ pub mod WordLemmas
 -- `write_shown`
 pub mod ShownLemmas
 -- `AsksFor` and `RefusesWords`: each line of words asks for one request or is refused
+pub mod CheckExactness
 pub mod FmtExactness
 pub mod Exactness

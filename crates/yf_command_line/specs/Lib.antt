@@ -3,6 +3,7 @@ pub mod Options
 -- the request that the words ask for, and when they are refused
 pub mod Requests
 pub mod Without
+pub mod Formats
 pub mod Lines
 -- how a word is shown in a message
 pub mod Shown

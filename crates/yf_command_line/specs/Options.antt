@@ -37,6 +37,10 @@ abbrev pub without_option : Rule
 without_option =
     record (new_rule (codes "without")) { long = Some (codes "without"); value_names = 1; action = Some Append }
 
+-- `--format FORMAT`
+abbrev pub format_option : Rule
+format_option = record (new_rule (codes "format")) { long = Some (codes "format"); value_names = 1 }
+
 -- `--lines LINES`
 abbrev pub lines_option : Rule
 lines_option = record (new_rule (codes "lines")) { long = Some (codes "lines"); value_names = 1; action = Some Append }
@@ -69,9 +73,10 @@ configured name = with_rule (with_settings name) explain_flag
 abbrev pub reading_command : Text → App
 reading_command name = with_rule (configured name) file_word
 
--- `check [--config FILE] [--no-config] [--explain] [--without RULES] [FILE..]`
+-- `check [--config FILE] [--no-config] [--explain] [--without RULES] [--format FORMAT] [FILE..]`
 abbrev pub checking_command : App
-checking_command = with_rule (with_rule (configured (codes "check")) without_option) file_words
+checking_command =
+    with_rule (with_rule (with_rule (configured (codes "check")) without_option) format_option) file_words
 
 -- `fmt [--config FILE] [--no-config] [--explain] [--write] [--check] [--diff]`
 abbrev pub formatting_command : App

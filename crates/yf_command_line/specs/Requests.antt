@@ -7,9 +7,11 @@ use Rattle.std.specs.List.{list_any}
 use Rattle.clap.specs.Words.{Row, Text, all_of, fault_of, first_of, matches_of, subcommand_of, IsAmong}
 use Rattle.clap.specs.declared.error.kind.ErrorKind.{ErrorKind}
 use Rattle.clap.specs.declared.error.kind.ErrorKind.TheVariants.{DisplayHelp, DisplayVersion, OutOfMemory}
+use Rattle.yf_command_line.specs.Formats.{output_of}
 use Rattle.yf_command_line.specs.Lines.{are_lines, lines_in}
 use Rattle.yf_command_line.specs.Options.{yamlfmt}
 use Rattle.yf_command_line.specs.Without.{are_rules, names_in}
+use Rattle.yf_command_line.specs.declared.command.Check.{Check}
 use Rattle.yf_command_line.specs.declared.command.Command.{Command}
 use Rattle.yf_command_line.specs.declared.command.Command.TheVariants as command
 use Rattle.yf_command_line.specs.declared.command.FileList.{FileList}
@@ -18,6 +20,7 @@ use Rattle.yf_command_line.specs.declared.command.Fmt.TheVariants as fmt
 use Rattle.yf_command_line.specs.declared.command.Input.{Input}
 use Rattle.yf_command_line.specs.declared.command.Input.TheVariants.{Standard, File}
 use Rattle.yf_command_line.specs.declared.command.InputList.{InputList}
+use Rattle.yf_command_line.specs.declared.command.Output.{Output}
 use Rattle.yf_command_line.specs.declared.command.Part.{Part}
 use Rattle.yf_command_line.specs.declared.command.Part.TheVariants as part
 use Rattle.yf_command_line.specs.declared.command.Request.{Request}
@@ -68,6 +71,10 @@ files_given given = all_given (codes "file") given
 -- The names of the rules to leave out, in order.
 abbrev pub names_given : List Row → List Text
 names_given given = names_in (all_given (codes "without") given)
+
+-- How problems are printed, or none if the value of `--format` is not the name of a format.
+abbrev pub output_given : List Row → Option Output
+output_given given = output_of (first_of (codes "format") given)
 
 -- The words of `--lines`, in order.
 abbrev pub lines_given : List Row → List Text
@@ -158,15 +165,23 @@ IsFmt given (fmt.Part lines what) =
     (lines_given given ≢ []) × (are_lines (lines_given given) ≡ true)
     × (lines.items ≡ lines_in (lines_given given)) × DoesPart given what
 
+-- The task of `check` with these rows: `check [--without RULES] [--format FORMAT] [FILE..]`.
+-- (rules: the names of all rules)
+pub record IsCheck (rules : List Text) (given : List Row) (check : Check) : Type 0 where
+  pub inputs : inputs_of (files_given given) ≡ all_inputs check.inputs
+  -- each name in RULES is the name of a rule
+  pub without : check.without.items ≡ names_given given
+  pub known : are_rules rules (names_given given) ≡ true
+  -- FORMAT is the name of a format
+  pub output : output_given given ≡ Some check.output
+
 -- The command with this name and these rows. (rules: the names of all rules)
 abbrev pub IsCommand : List Text → Text → List Row → Command → Type 0
 -- `events [FILE]`: no words with a second FILE are accepted
 IsCommand rules name given (command.Events input) =
     (name ≡ codes "events") × (input ≡ first_input (files_given given))
--- `check [--without RULES] [FILE..]`, and each name in RULES is the name of a rule
-IsCommand rules name given (command.Check inputs without) =
-    (name ≡ codes "check") × (inputs_of (files_given given) ≡ all_inputs inputs)
-    × (without.items ≡ names_given given) × (are_rules rules (names_given given) ≡ true)
+-- `check`, with its options and FILEs
+IsCommand rules name given (command.Check check) = (name ≡ codes "check") × IsCheck rules given check
 -- `fmt`, with its flags and FILEs
 IsCommand rules name given (command.Fmt what) = (name ≡ codes "fmt") × IsFmt given what
 -- `server`
@@ -214,13 +229,20 @@ pub data IsNoFmt (given : List Row) : Type 0 where
   -- `--lines` with a word that is no range of lines, nor several with commas between
   no_lines : are_lines (lines_given given) ≡ false → IsNoFmt given
 
+-- Why `check` refuses its rows.
+pub data IsNoCheck (rules : List Text) (given : List Row) : Type 0 where
+  -- `--without` with a name that no rule has
+  no_rule : are_rules rules (names_given given) ≡ false → IsNoCheck rules given
+  -- `--format` with a name that no format has
+  no_format : output_given given ≡ None → IsNoCheck rules given
+
 -- Why a name and the rows after it are not a command.
 pub data IsNoCommand (rules : List Text) (name : Text) (given : List Row) : Type 0 where
   -- no command has the name
   other_name : name ≢ codes "events" → name ≢ codes "check" → name ≢ codes "fmt" → name ≢ codes "server"
       → IsNoCommand rules name given
-  -- `--without` with a name that no rule has
-  no_rule : name ≡ codes "check" → are_rules rules (names_given given) ≡ false → IsNoCommand rules name given
+  -- `check` refuses its rows
+  no_check : name ≡ codes "check" → IsNoCheck rules given → IsNoCommand rules name given
   -- `fmt` refuses its rows
   no_fmt : name ≡ codes "fmt" → IsNoFmt given → IsNoCommand rules name given
 

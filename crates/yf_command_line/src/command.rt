@@ -2,6 +2,7 @@
 
 use yf_line_ranges::range::LineRange;
 use yf_lines::text::OwnedText;
+use yf_report::reports::Format;
 
 /// The source of a text.
 #[derive(Drop)]
@@ -63,18 +64,33 @@ pub enum Part {
     Write(OwnedText),
 }
 
+/// How problems are printed.
+#[derive(Clone, Copy)]
+pub enum Output {
+    /// A line for each problem.
+    Lines,
+    /// One report of all inputs, for programs.
+    Report(Format),
+}
+
+/// The task of `check`.
+#[derive(Drop)]
+pub struct Check {
+    /// The inputs to check.
+    pub inputs: InputList,
+    /// The names of the rules to leave out, in the order of the command line. Each is the name of a rule.
+    pub without: Vec<OwnedText>,
+    /// How the findings are printed (`--format`).
+    pub output: Output,
+}
+
 /// A command with its inputs.
 #[derive(Drop)]
 pub enum Command {
     /// Prints the events of a stream.
     Events(Input),
     /// Prints the findings of each input.
-    Check {
-        /// The inputs to check.
-        inputs: InputList,
-        /// The names of the rules to leave out, in the order of the command line. Each is the name of a rule.
-        without: Vec<OwnedText>,
-    },
+    Check(Check),
     /// Formats.
     Fmt(Fmt),
     /// Serve an editor over standard input and standard output.

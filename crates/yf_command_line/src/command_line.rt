@@ -1,15 +1,16 @@
 //! Parses the words of a command line into a request.
 ghost use Rattle.std.specs.Prelude.{◌≡◌, ◌||◌, codes, map, MatchResult, string_bytes, true, false, []};
 ghost use Rattle.clap.specs.Words.{found_of, rows_of, subcommand_rows_of};
-ghost use Rattle.yf_command_line.specs.Requests.{AsksFor, AsksTwice, IsCommand, IsFmt, IsNoCommand, IsNoFmt};
-ghost use Rattle.yf_command_line.specs.Requests.{IsNoRequest, IsRequest, IsSettings, RefusedBy, RefusesWords};
+ghost use Rattle.yf_command_line.specs.Requests.{AsksFor, AsksTwice, IsCheck, IsCommand, IsFmt, IsNoCheck, IsNoCommand};
+ghost use Rattle.yf_command_line.specs.Requests.{IsNoFmt, IsNoRequest, IsRequest, IsSettings, RefusedBy, RefusesWords};
 ghost use Rattle.yf_command_line.specs.Requests.{is_flag, lines_given, writes};
 
-use crate::command::{Command, Fmt, Request, Settings};
+use crate::command::{Check, Command, Fmt, Request, Settings};
+use crate::formats::output_met;
 use crate::inputs::{files_of, first_input, has_standard_input, inputs_of};
 use crate::options::{
-    CHECK, CONFIG, DIFF, EVENTS, EXPLAIN, FILE, FMT, LINES, NO_CONFIG, SERVER, WITHOUT, WRITE,
-    yamlfmt_command,
+    CHECK, CONFIG, DIFF, EVENTS, EXPLAIN, FILE, FMT, FORMAT, LINES, NO_CONFIG, SERVER, WITHOUT,
+    WRITE, yamlfmt_command,
 };
 use crate::part::part_met;
 use crate::refused_words::{
@@ -18,7 +19,7 @@ use crate::refused_words::{
 };
 use crate::usage::{Usage, refusal, usage_of};
 use crate::without::{names_in, refusal_of_name, unknown_name};
-use crate::words::{is_given, text_given, words_given};
+use crate::words::{is_given, text_given, value_given, words_given};
 use clap::ArgMatches;
 use std::alloc::Global;
 
@@ -26,8 +27,9 @@ use std::alloc::Global;
 /// come before the command. The commands are:
 ///
 /// - `events [SETTINGS] [--explain] [FILE]`
-/// - `check [SETTINGS] [--explain] [--without RULES] [FILE..]`. RULES are names of rules, separated by commas. The
-///   option may be given more than once.
+/// - `check [SETTINGS] [--explain] [--without RULES] [--format FORMAT] [FILE..]`. RULES are names of rules, separated by
+///   commas. The option may be given more than once. FORMAT is `line`, `json`, `sarif`, `github`, `gitlab`, `junit` or
+///   `checkstyle`.
 /// - `fmt [SETTINGS] [--explain] [--write] [--check] [--diff] [--lines LINES] [FILE..]`. `--write` needs a FILE, and no
 ///   FILE may be `-`. It excludes `--check` and `--diff`. Several FILEs need `--write`, or `--check` without `--diff`.
 ///   `--lines` takes at most one FILE. LINES are numbers of lines and ranges, as in `3-7,12`. The option may be given
@@ -122,7 +124,10 @@ fn command_met(
         return Ok(Command::Events(first_input(alloc, words_given(given, FILE))?));
     }
     if name == CHECK {
-        return check_met(alloc, given, rules);
+        return match check_met(alloc, given, rules) {
+            Ok(check) => Ok(Command::Check(check)),
+            Err(usage) => Err(usage),
+        };
     }
     if name == FMT {
         return match fmt_met(alloc, given) {
@@ -137,17 +142,24 @@ fn command_met(
 }
 
 // Returns `check` with these matches.
-fn check_met(alloc: Global, given: &ArgMatches<'_>, rules: &[&str]) -> Result<Command, Usage>
-    ensures { MatchResult result
-        (IsCommand (map (λ r. r.now) rules.now) (codes "check") (rows_of (found_of given.now)))
-        (RefusedBy (IsNoCommand (map (λ r. r.now) rules.now) (codes "check") (rows_of (found_of given.now)))) }
+fn check_met(alloc: Global, given: &ArgMatches<'_>, rules: &[&str]) -> Result<Check, Usage>
+    ensures { MatchResult result (IsCheck (map (λ r. r.now) rules.now) (rows_of (found_of given.now)))
+        (RefusedBy (IsNoCheck (map (λ r. r.now) rules.now) (rows_of (found_of given.now)))) }
 {
     let without = names_in(alloc, words_given(given, WITHOUT))?;
     if let Some(name) = unknown_name(without.as_slice(), rules) {
         return Err(refusal_of_name(alloc, name, rules));
     }
+    let output = match output_met(alloc, value_given(given, FORMAT)) {
+        Ok(output) => output,
+        Err(usage) => return Err(usage),
+    };
     let inputs = inputs_of(alloc, words_given(given, FILE))?;
-    Ok(Command::Check { inputs, without })
+    Ok(Check {
+        inputs,
+        without,
+        output,
+    })
 }
 
 // Returns `fmt` with these matches.

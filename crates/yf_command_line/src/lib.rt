@@ -5,6 +5,7 @@
 pub mod build;
 pub mod command;
 pub mod command_line;
+pub(crate) mod formats;
 pub(crate) mod inputs;
 pub(crate) mod lines;
 pub(crate) mod options;

@@ -3,7 +3,8 @@ ghost use Rattle.std.specs.Prelude.{◌≡◌, IfOk};
 ghost use Rattle.clap.specs.Words.{App, Rule, app_of, with_rule, with_subcommand};
 ghost use Rattle.yf_command_line.specs.Options.{bare_command, check_flag, checking_command, config_option, configured};
 ghost use Rattle.yf_command_line.specs.Options.{diff_flag, explain_flag, file_word, file_words, formatting_command};
-ghost use Rattle.yf_command_line.specs.Options.{lines_option, no_config_flag, with_config, with_settings, write_flag};
+ghost use Rattle.yf_command_line.specs.Options.{format_option, lines_option, no_config_flag, with_config};
+ghost use Rattle.yf_command_line.specs.Options.{with_settings, write_flag};
 ghost use Rattle.yf_command_line.specs.Options.{reading_command, serving_command, stdio_flag, without_option};
 ghost use Rattle.yf_command_line.specs.Options.{writing_command, yamlfmt};
 ghost use Rattle.yf_command_line.specs.Options.{IsOption, IsPart};
@@ -27,6 +28,8 @@ pub(crate) const NO_CONFIG: &str = "no-config";
 pub(crate) const EXPLAIN: &str = "explain";
 
 pub(crate) const WITHOUT: &str = "without";
+
+pub(crate) const FORMAT: &str = "format";
 
 pub(crate) const WRITE: &str = "write";
 
@@ -97,7 +100,8 @@ fn check_command<'a>(alloc: Global) -> Result<Command<'a>, AllocError>
 {
     let command = configured(alloc, CHECK, "Report where a file breaks a style rule");
     let leaving_out = with_arg(command, without_option(alloc));
-    with_arg(leaving_out, file_words(alloc))
+    let printing = with_arg(leaving_out, format_option(alloc));
+    with_arg(printing, file_words(alloc))
 }
 
 fn fmt_command<'a>(alloc: Global) -> Result<Command<'a>, AllocError>
@@ -200,6 +204,15 @@ fn without_option<'a>(alloc: Global) -> Arg<'a>
         .value_name("RULES")
         .action(ArgAction::Append)
         .help("Skip the rules with these ids (comma-separated)")
+}
+
+fn format_option<'a>(alloc: Global) -> Arg<'a>
+    ensures { IsOption result format_option }
+{
+    Arg::new(alloc, FORMAT)
+        .long(FORMAT)
+        .value_name("FORMAT")
+        .help("Print the findings as line, json, sarif, github, gitlab, junit or checkstyle")
 }
 
 fn write_flag<'a>(alloc: Global) -> Arg<'a>

@@ -1,5 +1,5 @@
 //! The values that the library for command lines found for an option or a FILE.
-ghost use Rattle.std.specs.Prelude.{◌≡◌, map, IfOk};
+ghost use Rattle.std.specs.Prelude.{◌≡◌, map, IfOk, option_map};
 ghost use Rattle.clap.specs.Words.{first_of, found_of, rows_of};
 ghost use Rattle.yf_command_line.specs.Requests.{all_given, is_flag};
 
@@ -29,6 +29,13 @@ pub(crate) fn text_given(
         Some(text) => Ok(Some(OwnedText::new(String::from_str(alloc, text)?))),
         None => Ok(None),
     }
+}
+
+// Returns the value of an option.
+pub(crate) fn value_given<'a>(given: &ArgMatches<'a>, id: &str) -> Option<&'a str>
+    ensures { option_map (λ v. v.now) result ≡ first_of id.now (rows_of (found_of given.now)) }
+{
+    given.get_str(id)
 }
 
 // Returns all values of an option or of FILE, in order.

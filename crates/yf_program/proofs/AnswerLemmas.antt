@@ -6,6 +6,7 @@ use Rattle.std.proofs.Math.ListN.{get_or-map}
 use Rattle.std.proofs.Math.Seq.{take-suc}
 use Rattle.std.proofs.lemmas.List.{take_all}
 use Rattle.yf_command_line.specs.Requests.{all_files, all_inputs}
+use Rattle.yf_command_line.specs.declared.command.Check.{Check}
 use Rattle.yf_command_line.specs.declared.command.Command.{Command}
 use Rattle.yf_command_line.specs.declared.command.Command.TheVariants as command
 use Rattle.yf_command_line.specs.declared.command.Fmt.TheVariants as fmt
@@ -14,13 +15,16 @@ use Rattle.yf_command_line.specs.declared.command.Part.TheVariants as part
 use Rattle.yf_parts.specs.PartRun.{IsPart}
 use Rattle.yf_parts.specs.declared.show.Show.TheVariants as show
 use Rattle.yf_command_line.specs.declared.command.Input.TheVariants.{Standard, File}
+use Rattle.yf_command_line.specs.declared.command.Output.{Output}
+use Rattle.yf_command_line.specs.declared.command.Output.TheVariants.{Lines, Report}
 use Rattle.yf_files.specs.Tree.{FilesState}
 use Rattle.yf_files.specs.declared.rewriting.RewriteError.{RewriteError}
 use Rattle.yf_forms.specs.declared.style.Style.{Style}
 use Rattle.yf_lines.specs.declared.fault.Fault.{Fault}
 use Rattle.yf_rules.specs.Runs.ByteStream.{ByteStream}
-use Rattle.yf_program.specs.Answer.{DoesAll, DoesEach, DoesIn, DoesInput, DoesNamed, DoesOpened, DoesRewrite, EndsRewriting, RewritesInput, ScopedInput, ScopedRewrite, ToldMemory, empty_memory, host_in, name_of, task_of}
+use Rattle.yf_program.specs.Answer.{DoesAll, DoesCheck, DoesEach, DoesIn, DoesInput, DoesNamed, DoesOpened, DoesRewrite, EndsRewriting, RewritesInput, ScopedInput, ScopedRewrite, ToldMemory, empty_memory, host_in, name_of, task_of}
 use Rattle.yf_program.specs.Answer.DoesEach.{one_done, one_more}
+use Rattle.yf_program.specs.Reports.{report_task}
 use Rattle.yf_program.specs.Run.{DoesWith}
 use Rattle.yf_program.specs.Run.DoesWith.{other_version, without_memory, are_taken}
 use Rattle.yf_program.specs.Settings.{NothingDone, Scoped, scope_of}
@@ -28,6 +32,7 @@ use Rattle.yf_program.specs.Settings.Scoped.{left_out, no_memory, included}
 use Rattle.yf_program.specs.declared.scope.Scope.{Scope}
 use Rattle.yf_program.specs.declared.search.InForce.{InForce}
 use Rattle.yf_settings.specs.declared.file_settings.FileSettings.{FileSettings}
+use Rattle.yf_program.proofs.ReportLemmas.{report_before}
 use Rattle.yf_program.specs.Rewriting.{FormatsBytes}
 use Rattle.yf_program.specs.World.{Host, InputClaim, LinkClaim, OutputStreams, StillKnown, TextClaim, WorkClaim, World}
 use Rattle.yf_program.specs.declared.sources.Sources.{Sources}
@@ -107,11 +112,17 @@ module _ {F : Type 0} (earlier later : Host F) (known : StillKnown earlier.input
   all_before scope task inputs status before after d =
       all_by (ScopedInput later scope task) (ScopedInput earlier scope task) (scoped_input_before earlier later known scope task) inputs status before after d
 
+  check_before : (check : Check) (scope : Scope) (explain : Bool) (style : Style) (output : Output) (status : ℕ) (before after : World F)
+      → DoesCheck later check scope explain style output status before after → DoesCheck earlier check scope explain style output status before after
+  check_before check scope explain style Lines status before after d = all_before scope (task_of (work.Check check.without) explain style) (all_inputs check.inputs) status before after d
+  check_before check scope explain style (Report format) status before after d =
+      report_before earlier later known scope (report_task check explain style format) (all_inputs check.inputs) status before after d
+
   pub does_in_before : (what : Command) (scope : Scope) (explain : Bool) (style : Style) (status : ℕ) (before after : World F) → DoesIn later what scope explain style status before after
       → DoesIn earlier what scope explain style status before after
   does_in_before (command.Events input) scope explain style status before after d = scoped_input_before earlier later known scope (task_of work.Events explain style) input status before after d
   does_in_before command.Server scope explain style status before after d = scoped_input_before earlier later known scope (task_of work.Serve explain style) Standard status before after d
-  does_in_before (command.Check inputs without) scope explain style status before after d = all_before scope (task_of (work.Check without) explain style) (all_inputs inputs) status before after d
+  does_in_before (command.Check check) scope explain style status before after d = check_before check scope explain style check.output status before after d
   does_in_before (command.Fmt (fmt.Print input)) scope explain style status before after d = scoped_input_before earlier later known scope (task_of work.Print explain style) input status before after d
   does_in_before (command.Fmt (fmt.Check inputs)) scope explain style status before after d = all_before scope (task_of work.Compare explain style) (all_inputs inputs) status before after d
   does_in_before (command.Fmt (fmt.Diff input)) scope explain style status before after d = scoped_input_before earlier later known scope (task_of work.Diff explain style) input status before after d

@@ -6,6 +6,8 @@ pub mod ProgramLemmas
 pub mod AnswerLemmas
 -- `report_version`
 pub mod VersionLemmas
+-- `report_inputs`
+pub mod ReportLemmas
 -- `rewrite`
 pub mod FilesLemmas
 -- `report_input`, `tell_file`, `tell_findings`

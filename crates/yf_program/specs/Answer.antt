@@ -2,10 +2,11 @@
 -- `ProgramRuns` of `Run` is the whole. Each definition here says what one step does.
 -- (before, after: the world, the streams or one stream before and after a step;
 -- reader, left: a reader before and after it was read)
-use Rattle.std.specs.Prelude.{◌≡◌, ◌≢◌, ◌≤◌, ◌⊎◌, ◌++◌, ◌∷◌, ◌-◌, ℕ, max, slice_get, List, [], length, map, Bool, true, false, Option, Some, None, IfSome, Result, Ok, Err, codes}
-use Rattle.std.specs.Str.{IsUtf8, chars}
+use Rattle.std.specs.Prelude.{◌≡◌, ◌≢◌, ◌≤◌, ◌⊎◌, ◌++◌, ◌∷◌, ℕ, max, List, [], length, map, Bool, true, false, Option, Some, None, IfSome, Result, Ok, Err, codes}
+use Rattle.std.specs.Str.{IsUtf8}
 use Rattle.std.specs.Io.KnownBytes.{Keeps}
 use Rattle.yf_command_line.specs.Requests.{AsksFor, RefusesWords, all_files, all_inputs}
+use Rattle.yf_command_line.specs.declared.command.Check.{Check}
 use Rattle.yf_command_line.specs.declared.command.Command.{Command}
 use Rattle.yf_command_line.specs.declared.command.Command.TheVariants as command
 use Rattle.yf_command_line.specs.declared.command.FileList.{FileList}
@@ -13,12 +14,12 @@ use Rattle.yf_command_line.specs.declared.command.Fmt.TheVariants as fmt
 use Rattle.yf_command_line.specs.declared.command.Input.{Input}
 use Rattle.yf_command_line.specs.declared.command.Input.TheVariants.{Standard, File}
 use Rattle.yf_command_line.specs.declared.command.InputList.{InputList}
+use Rattle.yf_command_line.specs.declared.command.Output.{Output}
+use Rattle.yf_command_line.specs.declared.command.Output.TheVariants.{Lines, Report}
 use Rattle.yf_command_line.specs.declared.command.Part.TheVariants as part
 use Rattle.yf_command_line.specs.declared.command.Request.{Request}
 use Rattle.yf_command_line.specs.declared.usage.Usage.{Usage}
 use Rattle.yf_command_line.specs.declared.usage.Usage.TheVariants as usage
-use Rattle.yf_explain.specs.Explained.{Explains}
-use Rattle.yf_explain.specs.Shown.{AreWritten}
 use Rattle.yf_files.specs.Tree.{FilesState}
 use Rattle.yf_files.specs.declared.replacing.ReplaceError.{ReplaceError}
 use Rattle.yf_files.specs.declared.replacing.ReplaceError.TheVariants.{Untouched, Left, Unsure}
@@ -38,8 +39,10 @@ use Rattle.yf_rules.specs.Runs.Diffed.{DiffRun, RefusedDiff}
 use Rattle.yf_rules.specs.Runs.Input.{ReadRefusal}
 use Rattle.yf_rules.specs.Runs.Run as Runs
 use Rattle.yf_rules.specs.Runs.Run.{Gave, NotationWritten, RefusedEvents, RefusedCheck, RefusedFmt, RefusedRun, FormattingWritten, FindingsWritten}
+pub use Rattle.yf_program.specs.Ends.{AnyLines, EndsBy, EndsOver, EndsTold, EndsWell, InputsOpened, IsFile, IsLine, Opens, TellsMore, name_of}
 use Rattle.yf_program.specs.Named.{named_lines}
 use Rattle.yf_rules.specs.Quoted.{quoted}
+use Rattle.yf_program.specs.Reports.{DoesReport, report_task}
 use Rattle.yf_program.specs.Rewriting.{FileRewrite, FormatsBytes}
 use Rattle.yf_program.specs.Server.{Served}
 use Rattle.yf_program.specs.Report.{check_status, fault_line, fault_status, format_status}
@@ -53,39 +56,6 @@ use Rattle.yf_program.specs.declared.task.Task.{Task}
 use Rattle.yf_program.specs.declared.task.Work.{Work}
 use Rattle.yf_program.specs.declared.task.Work.TheVariants as work
 
--- ---- How a run ends
-
--- The run ended well, and nothing was written to the stream of faults.
-abbrev pub EndsWell : ℕ → ByteStream → ByteStream → Type 0
-EndsWell status before after = (status ≡ 0) × NothingWritten before after
-
--- The line of a fault was written to the stream of faults, and the status is that of the fault.
-abbrev pub EndsBy : Fault → ℕ → ByteStream → ByteStream → Type 0
-EndsBy f status before after = (status ≡ fault_status f) × WrittenOrFailed before after (fault_line f)
-
--- With `--explain` more lines were written, to a stream that had not failed, of characters that are shown as they are,
--- and P holds of them; or none, for example without memory.
-abbrev pub TellsMore : Bool → (List ℕ → Type 0) → ByteStream → ByteStream → Type 0
-TellsMore false P before after = NothingWritten before after
-TellsMore true P before after =
-    NothingWritten before after
-    ⊎ ((more : List ℕ) × (before.failed ≡ false) × AreWritten (chars more) × P (chars more)
-    × WrittenOrFailed before after more)
-
--- No more is said of these lines.
-abbrev pub AnyLines : List ℕ → Type 0
-AnyLines lines = Unit {0}
-
--- The line of a fault was written to the stream of faults, and with `--explain` more lines after it.
-abbrev pub EndsTold : Bool → (List ℕ → Type 0) → Fault → ℕ → ByteStream → ByteStream → Type 0
-EndsTold explain P f status before after =
-    (told : ByteStream) × EndsBy f status before told × TellsMore explain P told after
-
--- The same for a fault of an input: its bytes explain what more was written.
-abbrev pub EndsOver : Bool → Option (List ℕ) → Fault → ℕ → ByteStream → ByteStream → Type 0
-EndsOver explain known f status before after =
-    (bytes : List ℕ) × Runs.Keeps known bytes f × EndsTold explain (Explains bytes f) f status before after
-
 -- ---- The words ask for nothing
 
 -- Help was written to the output, or could not be; or why the words are refused was written to the stream of faults.
@@ -97,19 +67,6 @@ UsageWritten (usage.Wrong text) status before after =
     (status ≡ 3) × NothingWritten before.output after.output × WrittenOrFailed before.errors after.errors text
 UsageWritten usage.Memory status before after =
     NothingWritten before.output after.output × EndsBy fault.Memory status before.errors after.errors
-
--- ---- An input is opened
-
--- These inputs were opened, in this order, and no other.
-abbrev pub InputsOpened : InputClaim → List Input → List Input → List Input → Type 0
-InputsOpened claim before after inputs = claim.notes → after ≡ before ++ inputs
-
--- The reader is one of the input: it has the input's bytes, and no call of it has failed. One fails later only if the
--- input does.
-abbrev pub Opens : InputClaim → Input → ByteStream → ByteStream → Type 0
-Opens claim input reader left =
-    (claim.tells → reader.contents ≡ claim.holds input) × (reader.failed ≡ false)
-    × (claim.tells → left.failed ≡ true → claim.fails input)
 
 -- ---- The settings are read
 
@@ -188,11 +145,6 @@ RanFmtCheck task status reader left before after =
     ⊎ ((f : Fault) × RefusedCompare task.style reader left before.output after.output f
     × EndsOver task.explain reader.contents f status before.errors after.errors)
 
--- The name of an input in reports.
-abbrev pub name_of : Input → List ℕ
-name_of Standard = codes "-"
-name_of (File name) = name
-
 -- `fmt --diff` wrote the diff of the text and its formatting, with the name of the input, or was refused.
 abbrev pub RanFmtDiff : List ℕ → RunClaim
 RanFmtDiff name task status reader left before after =
@@ -230,11 +182,6 @@ abbrev pub DoesOver : InputClaim → Input → Task → ℕ → OutputStreams �
 DoesOver claim input task status before after =
     (reader : ByteStream) × (left : ByteStream) × Opens claim input reader left
     × Ran input task status reader left before after
-
--- The input is a file.
-abbrev pub IsFile : Input → Type 0
-IsFile Standard = ⊥
-IsFile (File name) = Unit {0}
 
 -- The input is a file that could not be opened, since it fails; or the work was done with a reader of the input.
 abbrev pub DoesOpened : InputClaim → Input → Task → ℕ → OutputStreams → OutputStreams → Type 0
@@ -302,10 +249,6 @@ DoesRewrite host explain Formats name status before after =
     before.streams.errors after.streams.errors
 
 -- ---- The same is done with several files
-
--- The text ends with a line feed.
-abbrev pub IsLine : List ℕ → Type 0
-IsLine text = slice_get text (length text - 1) ≡ Some 10
 
 -- Memory held all that was written for a file: its output, and its line for the stream of faults. Lines that explain
 -- that line may be missing. (memory: the two streams in memory; faults: what is in the second one)
@@ -375,13 +318,20 @@ RewritesInput host explain Formats (File name) status before after =
 abbrev pub ScopedRewrite : {F : Type 0} → Host F → Scope → Bool → TextClaim → Input → WorkClaim F
 ScopedRewrite host scope explain Formats = Scoped host scope explain (RewritesInput host explain Formats)
 
+-- `check` was done with the inputs that are not left out: a line was written for each finding, or one report of all
+-- inputs.
+abbrev pub DoesCheck : {F : Type 0} → Host F → Check → Scope → Bool → Style → Output → WorkClaim F
+DoesCheck host check scope explain style Lines =
+    DoesAll (ScopedInput host scope (task_of (work.Check check.without) explain style)) (all_inputs check.inputs)
+DoesCheck host check scope explain style (Report format) =
+    DoesReport host scope (report_task check explain style format) (all_inputs check.inputs)
+
 -- The command was done in a style, with the inputs that are not left out.
 abbrev pub DoesIn : {F : Type 0} → Host F → Command → Scope → Bool → Style → WorkClaim F
 DoesIn host (command.Events input) scope explain style =
     ScopedInput host scope (task_of work.Events explain style) input
 DoesIn host command.Server scope explain style = ScopedInput host scope (task_of work.Serve explain style) Standard
-DoesIn host (command.Check inputs without) scope explain style =
-    DoesAll (ScopedInput host scope (task_of (work.Check without) explain style)) (all_inputs inputs)
+DoesIn host (command.Check check) scope explain style = DoesCheck host check scope explain style check.output
 DoesIn host (command.Fmt (fmt.Print input)) scope explain style =
     ScopedInput host scope (task_of work.Print explain style) input
 DoesIn host (command.Fmt (fmt.Check inputs)) scope explain style =

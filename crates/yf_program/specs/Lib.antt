@@ -1,5 +1,7 @@
 -- what the program does, from its arguments to its exit status, and the state that it changes
 pub mod World
+pub mod Ends
+pub mod Reports
 pub mod Rewriting
 pub mod Settings
 pub mod Answer

@@ -9,6 +9,8 @@ use crate::files::{Links, NewText};
 use crate::inputs::Inputs;
 use crate::parts::do_part;
 use crate::program::{answer_usage, written_out};
+use crate::report_inputs::ReportTask;
+use crate::reports::report_inputs;
 use crate::rewrites::rewrite_files;
 use crate::scope::Scope;
 use crate::sources::Sources;
@@ -16,7 +18,7 @@ use crate::streams::Streams;
 use crate::task::{Task, Work};
 use crate::with_settings::do_request;
 use std::alloc::Global;
-use yf_command_line::command::{Command, Fmt, Input};
+use yf_command_line::command::{Check, Command, Fmt, Input, Output};
 use yf_command_line::command_line::parse_line;
 use yf_forms::style::Style;
 use yf_lines::watched::Sink;
@@ -69,14 +71,7 @@ pub fn do_command<I: Inputs, S: Links, W: Sink, E: Sink>(
             };
             do_scoped(alloc, &task, scope, &input, sources, streams)
         }
-        Command::Check { inputs, without } => {
-            let task = Task {
-                work: Work::Check(without),
-                style,
-                explain,
-            };
-            do_inputs(alloc, &task, scope, &inputs, sources, streams)
-        }
+        Command::Check(check) => do_check(alloc, check, scope, explain, style, sources, streams),
         Command::Fmt(fmt) => do_fmt(alloc, fmt, scope, explain, style, sources, streams),
         Command::Server => {
             let task = Task {
@@ -85,6 +80,45 @@ pub fn do_command<I: Inputs, S: Links, W: Sink, E: Sink>(
                 explain,
             };
             do_scoped(alloc, &task, scope, &Input::Standard, sources, streams)
+        }
+    }
+}
+
+// Checks in a style.
+fn do_check<I: Inputs, S: Links, W: Sink, E: Sink>(
+    alloc: Global,
+    check: Check,
+    scope: &Scope,
+    explain: bool,
+    style: Style,
+    sources: &mut Sources<I, S>,
+    streams: &mut Streams<W, E>,
+) -> u8
+    ensures { DoesIn (host_in I.claim S.tells S.state S.leads sources.old) (Command.Check check) scope.now explain style
+        result (world_in I.opened sources.old streams.old) (world_in I.opened sources.new streams.new) }
+{
+    let Check {
+        inputs,
+        without,
+        output,
+    } = check;
+    match output {
+        Output::Lines => {
+            let task = Task {
+                work: Work::Check(without),
+                style,
+                explain,
+            };
+            do_inputs(alloc, &task, scope, &inputs, sources, streams)
+        }
+        Output::Report(format) => {
+            let task = ReportTask {
+                without,
+                style,
+                format,
+                explain,
+            };
+            report_inputs(alloc, &task, scope, &inputs, sources, streams)
         }
     }
 }

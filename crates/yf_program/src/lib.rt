@@ -20,6 +20,8 @@ pub mod problems;
 pub mod program;
 pub mod replacing;
 pub mod report;
+pub mod report_inputs;
+pub mod reports;
 pub mod reserved;
 pub mod rewrites;
 pub mod scope;

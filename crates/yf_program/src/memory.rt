@@ -2,6 +2,8 @@
 ghost use Rattle.std.specs.Prelude.{◌≡◌, ◌⊎◌, true, false};
 ghost use Rattle.yf_program.specs.Answer.{AreTold, IsLine, ToldMemory, ToldNamed};
 ghost use Rattle.yf_program.specs.Named.{named_lines};
+ghost use Rattle.yf_program.specs.Reports.{ToldErrors, ToldFaults, memory_stream};
+ghost use Rattle.yf_rules.specs.Runs.ByteStream.{stream_of};
 
 use crate::named::named_lines;
 use crate::report::report;
@@ -95,5 +97,45 @@ fn tell<W: Sink, E: Sink>(
             status
         }
         Err(fault) => report(&fault, &mut streams.errors),
+    }
+}
+
+/// Writes what memory holds for the stream of faults, with a name before each line, and returns the status. If the line
+/// of a fault is missing, or memory is refused, it writes only `no memory`.
+pub fn tell_errors<E: Sink>(
+    alloc: Global,
+    name: &str,
+    status: u8,
+    memory: &Watched<Vec<u8>>,
+    error_stream: &mut E,
+) -> u8
+    ensures { ToldErrors name.now status result (memory_stream memory.now)
+        (stream_of E.contents E.has_failed error_stream.old) (stream_of E.contents E.has_failed error_stream.new) }
+{
+    let faults = memory.get_ref().as_slice();
+    if is_whole(false, memory.failed(), faults) {
+        return tell_faults(alloc, name, status, faults, error_stream);
+    }
+    report(&Fault::Memory, error_stream)
+}
+
+// Writes a text to the stream of faults with a name before each line, and returns the status. If memory for the names
+// is refused, it writes only `no memory`.
+fn tell_faults<E: Sink>(
+    alloc: Global,
+    name: &str,
+    status: u8,
+    faults: &[u8],
+    error_stream: &mut E,
+) -> u8
+    ensures { ToldFaults status result (named_lines name.now faults.now)
+        (stream_of E.contents E.has_failed error_stream.old) (stream_of E.contents E.has_failed error_stream.new) }
+{
+    match named_lines(alloc, name, faults) {
+        Ok(faults) => {
+            let _ = write_text(error_stream, faults.as_slice());
+            status
+        }
+        Err(_) => report(&Fault::Memory, error_stream),
     }
 }

@@ -1,6 +1,7 @@
 //! The two streams that the program writes to.
 ghost use Rattle.std.specs.Prelude.{◌≡◌};
 ghost use Rattle.yf_program.specs.Answer.{empty_memory};
+ghost use Rattle.yf_program.specs.Reports.{empty_stream, memory_stream};
 
 use std::alloc::Global;
 use std::marker::Model;
@@ -34,4 +35,11 @@ pub fn in_memory(alloc: Global) -> Streams<Watched<Vec<u8>>, Watched<Vec<u8>>>
         output: Watched::new(Vec::new(alloc)),
         errors: Watched::new(Vec::new(alloc)),
     }
+}
+
+/// Returns an empty stream in memory.
+pub fn stream_in_memory(alloc: Global) -> Watched<Vec<u8>>
+    ensures { memory_stream result ≡ empty_stream }
+{
+    Watched::new(Vec::new(alloc))
 }

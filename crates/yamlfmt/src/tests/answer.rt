@@ -2,6 +2,7 @@
 
 use crate::tests::answer_rows::{BEFORE, ROWS, Row};
 use crate::tests::answers::words_of;
+use crate::tests::report_rows::REPORT_ROWS;
 use std::alloc::{AllocError, Global};
 use yf_files::{FileSystem, MemoryFiles};
 use yf_program::answer::answer;
@@ -118,6 +119,9 @@ pub fn answers_line(alloc: Global, row: &Row) -> bool {
 #[test]
 fn answers_command_lines(rt: HostRuntime) {
     for row in &ROWS {
+        assert!(rt; answers_line(rt.alloc(), row), "{}", row.0);
+    }
+    for row in &REPORT_ROWS {
         assert!(rt; answers_line(rt.alloc(), row), "{}", row.0);
     }
 }

@@ -35,7 +35,7 @@ enum Wanted {
     Version,
 }
 
-static LINES: [(&str, Wanted); 72] = [
+static LINES: [(&str, Wanted); 79] = [
     (
         "events",
         Wanted::Command(Verb::Events, "", "", false, false, false, 0),
@@ -166,6 +166,16 @@ For more information, try '--help'.
     ("check --without quoting, a", Wanted::Wrong),
     ("check --without Quoting a", Wanted::Wrong),
     ("check --without quoting --without quotin a", Wanted::Wrong),
+    (
+        "check --format json a b",
+        Wanted::Command(Verb::Check, "", "a", false, false, false, 1),
+    ),
+    ("check --format", Wanted::Wrong),
+    ("check --format= a", Wanted::Wrong),
+    ("check --format JSON a", Wanted::Wrong),
+    ("check --format json --format json a", Wanted::Wrong),
+    ("fmt --format json a", Wanted::Wrong),
+    ("events --format json a", Wanted::Wrong),
     ("--help", Wanted::Help(OVERVIEW)),
     ("help", Wanted::Help(OVERVIEW)),
     (
@@ -201,6 +211,7 @@ Options:
       --no-config        Use the default settings, and look for no settings file
       --explain          Explain errors and findings on standard error
       --without <RULES>  Skip the rules with these ids (comma-separated)
+      --format <FORMAT>  Print the findings as line, json, sarif, github, gitlab, junit or checkstyle
   -h, --help             Print help
 ",
         ),
@@ -360,8 +371,8 @@ fn name_of(input: &Input) -> &str {
 fn shape(command: &Command) -> Shape<'_> {
     match command {
         Command::Events(input) => (Verb::Events, name_of(input), false, false, false, 0),
-        Command::Check { inputs, .. } => {
-            let InputList { first, rest } = inputs;
+        Command::Check(check) => {
+            let InputList { first, rest } = &check.inputs;
             (Verb::Check, name_of(first), false, false, false, rest.len())
         }
         Command::Fmt(Fmt::Print(input)) => (Verb::Fmt, name_of(input), false, false, false, 0),

@@ -1,0 +1,146 @@
+//! A check whose problems are printed as one report of all inputs.
+ghost use Rattle.yf_command_line.specs.Requests.{all_inputs};
+ghost use Rattle.yf_program.specs.Answer.{host_in};
+ghost use Rattle.yf_program.specs.Reports.{DoesReport, GaveUp, GivesAll, GivesEach, GivesNamed, ReportWritten};
+ghost use Rattle.yf_program.specs.Reports.{StopsAt, state_in};
+ghost use Rattle.yf_program.specs.World.{StillKnown, world_in};
+ghost use Rattle.yf_rules.specs.Runs.ByteStream.{stream_of};
+ghost use Rattle.std.specs.Prelude.{IfOk, OnErr};
+
+use crate::each::name_of;
+use crate::files::Links;
+use crate::inputs::Inputs;
+use crate::memory::tell_errors;
+use crate::report::report;
+use crate::report_inputs::{ReportTask, give_scoped};
+use crate::scope::Scope;
+use crate::sources::Sources;
+use crate::streams::{Streams, stream_in_memory};
+use std::alloc::{AllocError, Global};
+use yf_command_line::command::{Input, InputList};
+use yf_findings::files::{FileProblems, report_of};
+use yf_lines::fault::Fault;
+use yf_lines::output::write_text;
+use yf_lines::watched::Sink;
+use yf_report::reports::Format;
+
+/// Checks all inputs that are not left out, writes one report of their problems, and returns the greatest status.
+///
+/// The line of each refusal is written to the stream of faults too, with the name of its input if there are several.
+pub fn report_inputs<I: Inputs, S: Links, W: Sink, E: Sink>(
+    alloc: Global,
+    task: &ReportTask,
+    scope: &Scope,
+    list: &InputList,
+    sources: &mut Sources<I, S>,
+    streams: &mut Streams<W, E>,
+) -> u8
+    ensures { DoesReport (host_in I.claim S.tells S.state S.leads sources.old) scope.now task.now (all_inputs list.now)
+        result (world_in I.opened sources.old streams.old) (world_in I.opened sources.new streams.new) }
+{
+    let mut files = Vec::new(alloc);
+    match give_all(
+        alloc,
+        task,
+        scope,
+        list,
+        &mut sources.inputs,
+        &mut files,
+        &mut streams.errors,
+    ) {
+        Ok(status) => write_report(alloc, task.format, files.as_slice(), status, streams),
+        Err(AllocError) => report(&Fault::Memory, &mut streams.errors),
+    }
+}
+
+// Writes the report of these files, and returns the status.
+fn write_report<W: Sink, E: Sink>(
+    alloc: Global,
+    format: Format,
+    files: &[FileProblems],
+    status: u8,
+    streams: &mut Streams<W, E>,
+) -> u8
+    ensures { ReportWritten format files.now status result streams.old streams.new }
+{
+    match report_of(alloc, format, files) {
+        Ok(bytes) => match write_text(&mut streams.output, bytes.as_slice()) {
+            Ok(()) => status,
+            Err(fault) => report(&fault, &mut streams.errors),
+        },
+        Err(AllocError) => report(&Fault::Memory, &mut streams.errors),
+    }
+}
+
+// Checks the only input, or each of several, and returns the greatest status.
+fn give_all<I: Inputs, E: Sink>(
+    alloc: Global,
+    task: &ReportTask,
+    scope: &Scope,
+    list: &InputList,
+    inputs: &mut I,
+    files: &mut Vec<FileProblems>,
+    error_stream: &mut E,
+) -> Result<u8, AllocError>
+    ensures gives { IfOk result (λ status. GivesAll (I.claim inputs.old) scope.now task.now (all_inputs list.now) status
+        (state_in I.opened inputs.old files.old.items (stream_of E.contents E.has_failed error_stream.old))
+        (state_in I.opened inputs.new files.new.items (stream_of E.contents E.has_failed error_stream.new))) }
+    ensures gives_up { OnErr result (GaveUp (I.claim inputs.old) scope.now task.now (all_inputs list.now)
+        (state_in I.opened inputs.old files.old.items (stream_of E.contents E.has_failed error_stream.old))
+        (state_in I.opened inputs.new files.new.items (stream_of E.contents E.has_failed error_stream.new))) }
+{
+    if list.rest.is_empty() {
+        return give_scoped(alloc, task, scope, &list.first, inputs, files, error_stream);
+    }
+    give_each(alloc, task, scope, list, inputs, files, error_stream)
+}
+
+// Checks each input, in order, and returns the greatest status.
+fn give_each<I: Inputs, E: Sink>(
+    alloc: Global,
+    task: &ReportTask,
+    scope: &Scope,
+    list: &InputList,
+    inputs: &mut I,
+    files: &mut Vec<FileProblems>,
+    error_stream: &mut E,
+) -> Result<u8, AllocError>
+    ensures gives { IfOk result (λ status. GivesEach (I.claim inputs.old) scope.now task.now
+        (state_in I.opened inputs.old files.old.items (stream_of E.contents E.has_failed error_stream.old))
+        (all_inputs list.now) status
+        (state_in I.opened inputs.new files.new.items (stream_of E.contents E.has_failed error_stream.new))) }
+    ensures gives_up { OnErr result (GaveUp (I.claim inputs.old) scope.now task.now (all_inputs list.now)
+        (state_in I.opened inputs.old files.old.items (stream_of E.contents E.has_failed error_stream.old))
+        (state_in I.opened inputs.new files.new.items (stream_of E.contents E.has_failed error_stream.new))) }
+{
+    let mut greatest = give_named(alloc, task, scope, &list.first, inputs, files, error_stream)?;
+    for input in list.rest.as_slice() {
+        let status = give_named(alloc, task, scope, input, inputs, files, error_stream)?;
+        greatest = greatest.max(status);
+    }
+    Ok(greatest)
+}
+
+// Checks one of several inputs, and returns its status. Each line for the stream of faults begins with the name of the
+// input.
+fn give_named<I: Inputs, E: Sink>(
+    alloc: Global,
+    task: &ReportTask,
+    scope: &Scope,
+    input: &Input,
+    inputs: &mut I,
+    files: &mut Vec<FileProblems>,
+    error_stream: &mut E,
+) -> Result<u8, AllocError>
+    ensures gives { IfOk result (λ status. GivesNamed (I.claim inputs.old) scope.now task.now input.now status
+        (state_in I.opened inputs.old files.old.items (stream_of E.contents E.has_failed error_stream.old))
+        (state_in I.opened inputs.new files.new.items (stream_of E.contents E.has_failed error_stream.new))) }
+    ensures same { StillKnown (I.claim inputs.old) (I.claim inputs.new) }
+    ensures gives_up { OnErr result (StopsAt (I.claim inputs.old) input.now
+        (state_in I.opened inputs.old files.old.items (stream_of E.contents E.has_failed error_stream.old))
+        (state_in I.opened inputs.new files.new.items (stream_of E.contents E.has_failed error_stream.new))) }
+{
+    let mut memory = stream_in_memory(alloc);
+    let status = give_scoped(alloc, task, scope, input, inputs, files, &mut memory)?;
+    Ok(tell_errors(alloc, name_of(input), status, &memory, error_stream))
+}
