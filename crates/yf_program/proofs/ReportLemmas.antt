@@ -1,7 +1,8 @@
 -- Problems of inputs as they are now are problems of inputs as they were before. Also one more input, and all of them.
-use Rattle.std.proofs.Common.{◌≡◌, ◌≢◌, ◌∙◌, ◌∷◌, ◌++◌, ◌+◌, ◌<◌, ◌≤◌, [], ℕ, List, Option, ap, sym, subst, take, drop, get_or, length, refl, suc, add-one, inl, inr, arith}
+use Rattle.std.proofs.Common.{◌≡◌, ◌≢◌, ◌↔◌, ◌∙◌, Bool, true, false, IsTrue, ◌∷◌, ◌++◌, ◌+◌, ◌<◌, ◌≤◌, [], ℕ, List, Option, ap, sym, subst, take, drop, get_or, length, refl, suc, add-one, inl, inr, arith}
 use Rattle.std.specs.Prelude.{max}
 use Rattle.std.proofs.Math.Seq.{drop-cons}
+use Rattle.std.proofs.lemmas.Bool.{false≢true}
 use Rattle.std.proofs.lemmas.List.{take_all, take_more, take-append-drop}
 use Rattle.yf_command_line.specs.declared.command.Input.{Input}
 use Rattle.yf_explain.specs.Explained.{Explains}
@@ -119,6 +120,10 @@ module _ (claim : InputClaim) (scope : Scope) (task : ReportTask) (before : Repo
 pub stops_as_before : (before after : InputClaim) (known : StillKnown before after) (input : Input) (old new : ReportState)
     → StopsAt after input old new → StopsAt before input old new
 stops_as_before before after known input old new d = ((λ noted. d.0 (known.notes noted)), d.1)
+
+-- the input is not left out
+pub not_left_out : (out : Bool) (P : Type 0) → IsTrue out ↔ P → out ≡ false → ¬ P
+not_left_out out P test no p = false≢true (sym no ∙ test.1 p)
 
 -- the only input, or each of several
 module _ (claim : InputClaim) (scope : Scope) (task : ReportTask) (before after : ReportState) (first : Input) where

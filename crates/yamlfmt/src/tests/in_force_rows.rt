@@ -111,7 +111,7 @@ const AS_SINGLE: &str = "---\na: 'x'  # c\n";
 /// The line of a file that is left out.
 const LEFT_OUT: &str = "left out: the settings exclude it\n";
 
-pub static ROWS: [Row; 32] = [
+pub static ROWS: [Row; 34] = [
     // which settings file is in force
     (&[A], "/w/d", "fmt a.yaml", 0, AS_DOUBLE, "", "a.yaml "),
     (
@@ -389,6 +389,25 @@ pub static ROWS: [Row; 32] = [
         0,
         "",
         "",
+        "../.yamlfmt.toml ",
+    ),
+    // an excluded file is in no report
+    (
+        &[A, KEPT, IN_FOLDER],
+        "/w/d",
+        "check --explain --format json a.yaml keep.yaml",
+        1,
+        "[{\"file\":\"keep.yaml\",\"line\":2,\"column\":8,\"end_line\":2,\"end_column\":9,\"rule\":\"comment-space\",\"severity\":\"warning\",\"message\":\"one space before the comment, expected 2\",\"fixable\":true}]",
+        "a.yaml: left out: the settings exclude it\n",
+        "../.yamlfmt.toml keep.yaml ",
+    ),
+    (
+        &[A, IN_FOLDER],
+        "/w/d",
+        "check --explain --format gitlab a.yaml",
+        0,
+        "[]",
+        LEFT_OUT,
         "../.yamlfmt.toml ",
     ),
 ];

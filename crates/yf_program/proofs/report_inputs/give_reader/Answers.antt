@@ -1,5 +1,5 @@
 use Rattle.std.proofs.Common.{List, ℕ, refl, subst, sym}
-use Rattle.std.proofs.lemmas.Result.{IfOk-weaker, on_err_weaker}
+use Rattle.std.proofs.lemmas.Result.{IfOk-weaker}
 use Rattle.std.specs.Prelude.{option_map}
 use Rattle.yf_rules.specs.Runs.ByteStream.{stream_of}
 use Rattle.yf_rules.specs.Runs.Run.{Keeps}
@@ -18,8 +18,8 @@ returns-in-Ok-clause-gives g c =
     (record { contents = refl; same = refl }) d.1)
     c.add_found.ensures
 
-pub returns-in-Err-clause-gives : goal.returns-in-Err-clause-gives
-returns-in-Err-clause-gives g c =
+pub returns-clause-gives : goal.returns-clause-gives
+returns-clause-gives g c =
     let keeps = subst (λ (b : List ℕ). Keeps (g.R.Read.remaining c.args.reader.now) b c.in-Err.fault) (sym c.as_slice-bytes.ensures.value) c.in-Err.ensures.bytes in
     IfOk-weaker c.give_refusal.result _ _
     (λ status d. refused_over c.args.task.now (option_map (λ n. n.now) c.args.name) status
