@@ -45,8 +45,6 @@ use Rattle.yf_program.specs.Server.{Served}
 use Rattle.yf_program.specs.Report.{check_status, fault_line, fault_status, format_status}
 use Rattle.yf_program.specs.Settings.{Scoped}
 use Rattle.yf_program.specs.declared.scope.Scope.{Scope}
-use Rattle.yf_settings.specs.FileSettings.{AreDefaults, HasSettings, RefusesFile}
-use Rattle.yf_settings.specs.declared.file_settings.FileSettings.{FileSettings}
 use Rattle.yf_program.specs.World.{Host, InputClaim, LinkClaim, OutputStreams, TextClaim, WorkClaim, World}
 use Rattle.yf_program.specs.declared.sources.Sources.{Sources}
 use Rattle.yf_program.specs.declared.task.Task.{Task}
@@ -110,40 +108,6 @@ abbrev pub Opens : InputClaim → Input → ByteStream → ByteStream → Type 0
 Opens claim input reader left =
     (claim.tells → reader.contents ≡ claim.holds input) × (reader.failed ≡ false)
     × (claim.tells → left.failed ≡ true → claim.fails input)
-
--- ---- The settings are read
-
--- The inputs that are opened for the settings.
-abbrev pub settings_of : Option (List ℕ) → List Input
-settings_of (Some name) = File name ∷ []
-settings_of None = []
-
--- The bytes that were read have these settings.
-abbrev pub FileSets : Option (List ℕ) → FileSettings → Type 0
-FileSets known settings =
-    (text : List ℕ) × Gave known text × (length text ≤ INPUT_LIMIT) × IsUtf8 text × HasSettings text settings
-
--- A settings file is refused: it could not be read; it is no text, and the key is empty; or its text is refused.
-abbrev pub FileRefused : ByteStream → ByteStream → Fault → Type 0
-FileRefused reader left fault.Memory = NoFailure reader left
-FileRefused reader left (fault.Config key) = NoFailure reader left
-    × ((text : List ℕ) × Gave reader.contents text × (length text ≤ INPUT_LIMIT)
-    × (((¬ IsUtf8 text) × (key ≡ [])) ⊎ (IsUtf8 text × RefusesFile text (fault.Config key))))
-FileRefused reader left fault.ReadFailed = ReadRefusal INPUT_LIMIT reader left fault.ReadFailed
-FileRefused reader left _ = ⊥
-
--- The settings are those of the settings file, or the defaults.
-abbrev pub SettingsOfFile : InputClaim → Option (List ℕ) → FileSettings → Type 0
-SettingsOfFile claim (Some name) settings = (reader : ByteStream) × (left : ByteStream)
-    × Opens claim (File name) reader left × FileSets reader.contents settings
-SettingsOfFile claim None settings = AreDefaults settings
-
--- The settings file can't be opened, or is refused.
-abbrev pub Unset : InputClaim → Option (List ℕ) → Fault → Type 0
-Unset claim (Some name) f =
-    ((f ≡ fault.ReadFailed) × (claim.tells → claim.fails (File name)))
-    ⊎ ((reader : ByteStream) × (left : ByteStream) × Opens claim (File name) reader left × FileRefused reader left f)
-Unset claim None f = ⊥
 
 -- ---- A work is done with the text of an input
 

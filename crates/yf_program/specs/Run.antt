@@ -8,9 +8,10 @@ use Rattle.yf_command_line.specs.declared.command.Request.{Request}
 use Rattle.yf_command_line.specs.declared.usage.Usage.{Usage}
 use Rattle.yf_lines.specs.declared.fault.Fault.{Fault}
 use Rattle.yf_lines.specs.declared.fault.Fault.TheVariants as fault
-use Rattle.yf_program.specs.Answer.{AnyLines, DoesIn, EndsBy, InputsOpened, SettingsOfFile, TellsMore, Unset, UsageWritten, WrittenOut, settings_of}
+use Rattle.yf_program.specs.Answer.{AnyLines, DoesIn, EndsBy, InputsOpened, TellsMore, UsageWritten, WrittenOut}
 use Rattle.yf_program.specs.Report.{fault_status}
 use Rattle.yf_program.specs.Settings.{IsInForce, IsUnfound, NothingDone, RefusesVersion, named_fault, no_folder_line, scope_of, settings_line}
+use Rattle.yf_program.specs.SettingsFile.{SettingsOfFile, Unset, settings_of}
 use Rattle.yf_program.specs.World.{Host, OutputStreams, WorkClaim, World}
 use Rattle.yf_program.specs.declared.search.InForce.{InForce}
 use Rattle.yf_program.specs.declared.search.Unfound.{Unfound}

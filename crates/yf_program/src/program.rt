@@ -4,7 +4,8 @@ ghost use Rattle.yf_rules.specs.Runs.ByteStream.{stream_of};
 ghost use Rattle.yf_rules.specs.Runs.Compare.{IsClean};
 ghost use Rattle.yf_rules.specs.Runs.Diffed.{DiffRun, RefusedDiff};
 ghost use Rattle.yf_rules.specs.Runs.Run.{Gave, Keeps};
-ghost use Rattle.yf_program.specs.Answer.{FileRefused, FileSets, Ran, RanCheck, RanEvents, RanFmt, RanFmtCheck, RanFmtDiff, UsageWritten, WrittenOut, name_of};
+ghost use Rattle.yf_program.specs.SettingsFile.{FileRefused, FileSets};
+ghost use Rattle.yf_program.specs.Answer.{Ran, RanCheck, RanEvents, RanFmt, RanFmtCheck, RanFmtDiff, UsageWritten, WrittenOut, name_of};
 ghost use Rattle.yf_rules.specs.Quoted.{quoted};
 
 use crate::each::name_of;

@@ -1,10 +1,11 @@
 //! A request with the settings that are in force.
 ghost use Rattle.std.specs.Prelude.{◌≡◌, [], unwrap_or, MatchResult};
 ghost use Rattle.yf_rules.specs.Runs.ByteStream.{NothingWritten, WrittenOrFailed, stream_of};
-ghost use Rattle.yf_program.specs.Answer.{DoesIn, InputsOpened, SettingsOfFile, Unset, host_in, settings_of};
+ghost use Rattle.yf_program.specs.Answer.{DoesIn, InputsOpened, host_in};
 ghost use Rattle.yf_program.specs.Report.{fault_status};
 ghost use Rattle.yf_program.specs.Run.{DoesWith, EndsByLine, RequestDone, SettingsTaken, TellsUnfound};
 ghost use Rattle.yf_program.specs.Settings.{scope_of, settings_line};
+ghost use Rattle.yf_program.specs.SettingsFile.{SettingsOfFile, Unset, settings_of};
 ghost use Rattle.yf_program.specs.World.{StillKnown, world_in};
 
 use crate::answer::do_command;
