@@ -31,7 +31,7 @@ const ALLOWED: [(&str, &str); 9] = [
 const NO_KEY: &str =
     "keys: comments document_start exclude indent invisible max_line quotes required_version seq_indent";
 
-/// Returns the explanation of the bytes of a settings file whose `key` is refused. An empty key means that the text is
+/// Returns the explanation of the bytes of a settings file with a refused `key`. An empty key means that the text is
 /// not TOML.
 ///
 /// # Errors
