@@ -111,7 +111,7 @@ Opens claim input reader left =
 
 -- ---- A work is done with the text of an input
 
--- What is done with a reader for a task: by the status, the reader before and after, and the streams before and after.
+-- The work on a reader for a task: by the status, the reader before and after, and the streams before and after.
 abbrev pub RunClaim : Type 1
 RunClaim = Task → ℕ → ByteStream → ByteStream → OutputStreams → OutputStreams → Type 0
 
@@ -143,7 +143,7 @@ RanFmt task status reader left before after =
     ⊎ ((f : Fault) × RefusedFmt task.style reader left before.output after.output f
     × EndsOver task.explain reader.contents f status before.errors after.errors)
 
--- `fmt --check` wrote where the text differs from its formatting, if it does, or was refused.
+-- `fmt --check` wrote the first position at which the text differs from its formatting, if it does, or was refused.
 abbrev pub RanFmtCheck : RunClaim
 RanFmtCheck task status reader left before after =
     ((same : Bool) × CompareRun task.style reader before.output after.output same
@@ -219,7 +219,7 @@ ScopedInput host scope task = Scoped host scope task.explain (DoesInput host tas
 
 -- ---- A file is rewritten
 
--- What is known of the system, by the ghost members of what reads the inputs and of the files.
+-- The facts that are known of the system, by the ghost members of what reads the inputs and of the files.
 -- (claim: of the inputs; tells, state, leads: of the files)
 abbrev pub host_in : {I F : Type 0} → (I → InputClaim) → Type 0 → (F → FilesState) → LinkClaim F → Sources I F → Host F
 host_in claim tells state leads sources = record {
@@ -289,7 +289,7 @@ ToldNamed Whole run status output faults before after =
     (Whole × AreTold run status output faults before after)
     ⊎ (NothingWritten before.output after.output × EndsBy fault.Memory status before.errors after.errors)
 
--- What is in memory was written so, with a name before each line.
+-- The texts in memory were written so, with a name before each line.
 abbrev pub ToldMemory : List ℕ → ℕ → ℕ → OutputStreams → OutputStreams → OutputStreams → Type 0
 ToldMemory name run status memory before after =
     (output : List ℕ) × (faults : List ℕ) × (memory.output.contents ≡ Some output)
@@ -303,7 +303,7 @@ empty_memory = record {
   errors = record { contents = Some []; failed = false };
 }
 
--- It was done as if for the only file, and written to memory. What is in memory was written with the file's name before
+-- It was done as if for the only file, and written to memory. The texts there were written with the file's name before
 -- each line.
 abbrev pub DoesNamed : {F : Type 0} → List ℕ → WorkClaim F → WorkClaim F
 DoesNamed name Does status before after =

@@ -83,8 +83,8 @@ pub(crate) fn wrong_key(alloc: Global, key: &str) -> Fault
     }
 }
 
-// Returns the least key of the table that is not a setting, or whose value the setting can't have. (version, patterns:
-// whether the values of `required_version` and `exclude` are right)
+// Returns the least key of the table that is not a setting, or has a value that the setting can't have. (version,
+// patterns: whether the values of `required_version` and `exclude` are right)
 pub(crate) fn least_wrong_key<'t>(
     table: &'t Table,
     version: bool,

@@ -30,7 +30,7 @@ const ALLOWED: [(&str, &str); 9] = [
 /// The explanation of any other key.
 const NO_KEY: &str = "there is no such setting; the manual (`man yamlfmt`) lists them";
 
-/// Returns the explanation of the bytes of a settings file whose `key` is refused. An empty key means that the text is
+/// Returns the explanation of the bytes of a settings file with a refused `key`. An empty key means that the text is
 /// not TOML.
 ///
 /// # Errors
