@@ -1,5 +1,5 @@
 -- Tables that are completed, and their settings.
-use Rattle.std.proofs.Common.{tt, Bor, ◌≡◌, ℕ, Bool, true, false, List, [], ◌∷◌, Option, Some, None, option_map, String, BTreeMap, Global, cond, string_bytes, refl, sym, subst, ap, ◌∙◌, ◌⊎◌, inl, inr}
+use Rattle.std.proofs.Common.{Bor, ◌≡◌, ℕ, Bool, true, false, List, [], ◌∷◌, Option, Some, None, option_map, String, BTreeMap, Global, cond, string_bytes, refl, sym, subst, ap, ◌∙◌, ◌⊎◌, inl, inr}
 use Rattle.std.specs.Prelude.{IsSomeAnd, codes, pos, if◌then◌else◌, is_some, unwrap_or, option_and_then}
 use Rattle.std.specs.Option.{option_or}
 use Rattle.std.specs.BTreeMap.{Updates, get_by_text}

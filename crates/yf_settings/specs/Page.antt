@@ -1,5 +1,5 @@
 -- The page that shows settings: a TOML document that sets them.
-use Rattle.std.specs.Prelude.{◌≡◌, ◌∷◌, ℕ, pos, Bool, true, List, [], Option, Some, None, codes, is_some, if◌then◌else◌}
+use Rattle.std.specs.Prelude.{◌≡◌, ◌∷◌, ℕ, pos, Bool, false, true, List, [], Option, Some, None, codes, is_some, if◌then◌else◌}
 use Rattle.std.specs.Option.{option_or}
 use Rattle.std.specs.List.{list_all}
 use Rattle.std.specs.Str.{bytes_eq}
