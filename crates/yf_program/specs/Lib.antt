@@ -5,6 +5,7 @@ pub mod Reports
 pub mod Rewriting
 pub mod Settings
 pub mod Answer
+pub mod SettingsFile
 pub mod Run
 -- the lines that are written
 pub mod Report
