@@ -123,7 +123,7 @@ stops_as_before before after known input old new d = ((λ noted. d.0 (known.note
 
 -- the input is not left out
 pub not_left_out : (out : Bool) (P : Type 0) → IsTrue out ↔ P → out ≡ false → ¬ P
-not_left_out out P test no p = false≢true (sym no ∙ test.1 p)
+not_left_out out P test unset p = false≢true (sym unset ∙ test.1 p)
 
 -- the only input, or each of several
 module _ (claim : InputClaim) (scope : Scope) (task : ReportTask) (before after : ReportState) (first : Input) where
