@@ -27,9 +27,9 @@ use std::alloc::Global;
 /// come before the command. The commands are:
 ///
 /// - `events [SETTINGS] [--explain] [FILE]`
-/// - `check [SETTINGS] [--explain] [--without RULES] [--format FORMAT] [FILE..]`. RULES are names of rules, separated by
-///   commas. The option may be given more than once. FORMAT is `line`, `json`, `sarif`, `github`, `gitlab`, `junit` or
-///   `checkstyle`.
+/// - `check [SETTINGS] [--explain] [--without RULES] [--format FORMAT] [FILE..]`. RULES are names of rules, separated
+///   by commas. The option may be given more than once. FORMAT is `line`, `json`, `sarif`, `github`, `gitlab`, `junit`
+///   or `checkstyle`.
 /// - `fmt [SETTINGS] [--explain] [--write] [--check] [--diff] [--lines LINES] [FILE..]`. `--write` needs a FILE, and no
 ///   FILE may be `-`. It excludes `--check` and `--diff`. Several FILEs need `--write`, or `--check` without `--diff`.
 ///   `--lines` takes at most one FILE. LINES are numbers of lines and ranges, as in `3-7,12`. The option may be given
