@@ -100,6 +100,8 @@ CALLS = (
     ({'.yamllint': 'rules: [a]'}, [], 2, '.yamllint: it is no mapping with rules'),
     ({'.yamllint': 'rules: {braces: 1}'}, [], 2, '.yamllint: the rule braces is not enable, disable or a mapping'),
     ({'.yamllint': 'rules: {line-length: {max: a}}'}, [], 2, '.yamllint: line-length: "a" is no value for max'),
+    ({'.yamllint': 'extends: [default, self.yaml]'}, [], 2, '.yamllint: extends is a list'),
+    ({'.yamllint': 'ignore: yes'}, [], 2, '.yamllint: ignore is no text and no list of texts'),
     ({'.yamllint': 'extends: self.yaml'}, [], 2, 'self.yaml: it extends itself'),
     ({'.yamllint': 'extends: none.yaml'}, [], 3, 'none.yaml: No such file or directory'),
     ({'.yamllint': 'extends: default\nignore: a', '.prettierrc.yaml': 'tabWidth: 2'}, [], 0,

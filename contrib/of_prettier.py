@@ -7,7 +7,7 @@ from yaml_values import Refused, first_document
 # The options that matter for YAML, with their defaults.
 OPTIONS = {'printWidth': 80, 'tabWidth': 2, 'singleQuote': False, 'bracketSpacing': True, 'proseWrap': 'preserve',
            'endOfLine': 'lf', 'requirePragma': False, 'insertPragma': False}
-# Options that change nothing in YAML.
+# Options that change nothing in YAML, or only flow collections over several lines, which yamlfmt never writes.
 ELSEWHERE = set('''$schema arrowParens bracketSameLine embeddedLanguageFormatting experimentalOperatorPosition
     experimentalTernaries htmlWhitespaceSensitivity jsxBracketSameLine jsxSingleQuote objectWrap quoteProps semi
     singleAttributePerLine trailingComma useTabs vueIndentScriptAndStyle'''.split())

@@ -41,22 +41,30 @@ def options_of(found, name, value):
     return options
 
 
-def patterns_in(value):
-    """Patterns, one per line or in a list, without empty lines and comments."""
-    texts = value.split('\n') if isinstance(value, str) else [str(text) for text in value or []]
-    return [text.rstrip() for text in texts if text.strip() and not text.startswith('#')]
+def patterns_in(lines):
+    """The patterns of lines, without empty lines and comments."""
+    return [line.rstrip() for line in lines if line.strip() and not line.startswith('#')]
+
+
+def texts_of(found, given, key):
+    """The texts of a list, or one text."""
+    texts = given[key] if isinstance(given[key], list) else [given[key]]
+    if not all(isinstance(text, str) and '\0' not in text for text in texts):
+        raise Refused(2, '%s: %s is no text and no list of texts' % (found.path, key))
+    return texts
 
 
 def ignored(found, given):
     """The patterns of `ignore` or `ignore-from-file`, or None if the file has neither."""
     if 'ignore-from-file' not in given:
-        return patterns_in(given['ignore']) if 'ignore' in given else None
-    names = given['ignore-from-file']
+        if 'ignore' not in given:
+            return None
+        return patterns_in(line for text in texts_of(found, given, 'ignore') for line in text.split('\n'))
     patterns = []
-    for name in names if isinstance(names, list) else [names]:
-        path = os.path.join(os.path.dirname(found.path), str(name))
+    for name in texts_of(found, given, 'ignore-from-file'):
+        path = os.path.join(os.path.dirname(found.path), name)
         try:
-            patterns += patterns_in(read(path).decode('utf-8'))
+            patterns += patterns_in(read(path).decode('utf-8').split('\n'))
         except UnicodeDecodeError:
             raise Refused(2, '%s: it is not UTF-8' % path) from None
     return patterns
@@ -94,7 +102,9 @@ def extended(found, given, path, seen):
     """The rules and the ignored patterns that `extends` names."""
     if 'extends' not in given:
         return {}, []
-    name = str(given['extends'])
+    if isinstance(given['extends'], list):
+        raise Refused(2, '%s: extends is a list' % found.path)
+    name = texts_of(found, given, 'extends')[0]
     if name in ('default', 'relaxed'):
         return (DEFAULT if name == 'default' else RELAXED), []
     return rules_and_patterns(found, os.path.join(os.path.dirname(path), name), seen)
