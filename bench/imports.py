@@ -93,7 +93,7 @@ CALLS = (
     ({}, ['--as', 'prettier', '--', 'own.conf'], 0, 'indent = 3  # tabWidth\n'),
     ({}, ['.prettierrc.toml'], 3, '.prettierrc.toml: the script reads only JSON and YAML'),
     ({}, ['.prettierrc'], 3, '.prettierrc: No such file or directory'),
-    ({}, ['--as=yamllint', 'bad.conf'], 2, 'bad.conf: yamlfmt can\'t read it: 1:5 refused: syntax'),
+    ({}, ['--as=yamllint', 'bad.conf'], 2, 'bad.conf: it is not YAML: 1:5 refused: syntax'),
     ({'.prettierrc': '"@a/b"'}, [], 2, '.prettierrc: it names the package "@a/b"'),
     ({'.prettierrc': '[1]'}, [], 2, '.prettierrc: it is no mapping'),
     ({'.prettierrc': 'overrides: [1]'}, [], 2, '.prettierrc: overrides[0] is not a mapping'),

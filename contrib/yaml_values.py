@@ -47,9 +47,11 @@ def events(path):
         done = subprocess.run(command, input=text, cwd='/', stdout=subprocess.PIPE, stderr=subprocess.PIPE)
     except OSError as error:
         raise Refused(3, 'yamlfmt does not run: %s' % error.strerror) from None
+    said = done.stderr.decode('utf-8', 'replace').strip()
+    if done.returncode == 2:
+        raise Refused(2, '%s: it is not YAML: %s' % (path, said))
     if done.returncode:
-        said = done.stderr.decode('utf-8', 'replace').strip()
-        raise Refused(2 if done.returncode == 2 else 3, '%s: yamlfmt can\'t read it: %s' % (path, said))
+        raise Refused(3, 'yamlfmt fails with status %d: %s' % (done.returncode, said))
     return done.stdout.decode('utf-8').split('\n')[:-1]
 
 
