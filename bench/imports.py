@@ -82,6 +82,8 @@ ROWS = (
 BESIDE = {'.gitignore': '# made\n/made\n!/made/kept\n', 'base.yaml': 'ignore: x\nrules: {line-length: {max: 99}}\n',
           'self.yaml': 'extends: self.yaml\n', 'own.conf': 'tabWidth: 3\n', 'bad.conf': 'a: b: c\n'}
 
+# A program that fails without reading its input.
+BROKEN = 'false'
 # Files, the words of a command line, the exit status, and a part of the error line or of the settings.
 CALLS = (
     ({}, ['--help'], 0, 'Usage: import_settings '),
@@ -114,6 +116,16 @@ CALLS = (
      ['.yamllint', '.prettierrc'], 0, 'max_line = 90  # line-length: max\n'),
     ({'.prettierrc': '"\\e[2J\\u202e": 1'}, [], 0, '# .prettierrc: \\u001b[2J\\u202e: yamlfmt has no such setting\n'),
 )
+
+
+def broken(text):
+    """The line of a run with a program that fails."""
+    env = {**os.environ, 'YAMLFMT_PROGRAM': BROKEN}
+    with tempfile.TemporaryDirectory() as folder:
+        with open(folder + '/.prettierrc', 'w', encoding='utf-8') as file:
+            file.write(text)
+        done = subprocess.run([sys.executable, SCRIPT], cwd=folder, env=env, capture_output=True, text=True)
+    return (done.returncode, done.stdout, done.stderr)
 
 
 def run(program, files, words):
@@ -162,13 +174,18 @@ def main():
     if len(sys.argv) != 2 or sys.argv[1].startswith('-'):
         sys.exit(__doc__)
     program, failed = os.path.abspath(sys.argv[1]), 0
+    # A text that is longer than a pipe holds.
+    said = broken('# a comment\n' * 9999)
+    if said != (3, '', 'import_settings: yamlfmt fails with status 1\n'):
+        print('a program that fails: %r' % (said,))
+        failed += 1
     for test, rows in ((faults_of_row, ROWS), (faults_of_call, CALLS)):
         for row in rows:
             fault = test(program, *row)
             if fault:
                 print('%r: %s' % (row[:2], fault))
                 failed += 1
-    print('%d rows, %d failed' % (len(ROWS) + len(CALLS), failed))
+    print('%d rows, %d failed' % (len(ROWS) + len(CALLS) + 1, failed))
     return 1 if failed else 0
 
 

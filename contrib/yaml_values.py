@@ -51,7 +51,7 @@ def events(path):
     if done.returncode == 2:
         raise Refused(2, '%s: it is not YAML: %s' % (path, said))
     if done.returncode:
-        raise Refused(3, 'yamlfmt fails with status %d: %s' % (done.returncode, said))
+        raise Refused(3, 'yamlfmt fails with status %d%s' % (done.returncode, said and ': ' + said))
     return done.stdout.decode('utf-8').split('\n')[:-1]
 
 
