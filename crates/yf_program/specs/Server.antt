@@ -17,7 +17,7 @@ use Rattle.yf_program.specs.Problems.{FindsProblems}
 use Rattle.yf_program.specs.Report.{fault_line, fault_status}
 use Rattle.yf_program.specs.World.{OutputStreams}
 
--- What the formatting of a text in a style gives: the text of which `Headline` speaks; or none, since the text is too
+-- The result of formatting a text in a style: the text that `Headline` describes; or none, since the text is too
 -- long, or refused.
 abbrev pub FormatsText : Style → List ℕ → Option (List ℕ) → Type 0
 FormatsText style text (Some new) = Headline text style new
