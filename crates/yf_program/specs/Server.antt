@@ -1,10 +1,13 @@
 -- What the editor server does with standard input and the two streams that it writes to.
-use Rattle.std.specs.Prelude.{◌≡◌, ◌≢◌, ◌⊎◌, ◌<◌, ℕ, List, length, Bool, true, false, Option, None, Some, codes}
+use Rattle.std.specs.Prelude.{◌≡◌, ◌≢◌, ◌⊎◌, ◌<◌, ◌+◌, ◌==◌, ℕ, List, [], ◌∷◌, length, take, Bool, true, false, Option, None, Some, codes}
+use Rattle.std.specs.List.{count_by}
 use Rattle.yf_forms.specs.declared.style.Style.{Style}
 use Rattle.yf_json_rpc.specs.declared.frame.FrameError.{FrameError}
 use Rattle.yf_json_rpc.specs.declared.frame.FrameError.TheVariants as frame
 use Rattle.yf_lines.specs.declared.fault.Fault.{Fault}
 use Rattle.yf_lines.specs.declared.fault.Fault.TheVariants as fault
+use Rattle.yf_line_ranges.specs.declared.range.LineRange.{LineRange}
+use Rattle.yf_parts.specs.PartRun.{IsPart}
 use Rattle.yf_rules.specs.Headline.{Headline}
 use Rattle.yf_rules.specs.Runs.ByteStream.{ByteStream, NothingWritten, WrittenOrFailed}
 use Rattle.yf_rules.specs.declared.run.TheConstants.{INPUT_LIMIT}
@@ -24,9 +27,24 @@ FormatsText style text (Some new) = Headline text style new
 FormatsText style text None =
     (INPUT_LIMIT < length text) ⊎ ((why : Fault) × (why ≢ fault.Memory) × StreamFault text why)
 
+-- The number of the line that an offset is in. Lines end after a line feed, and their numbers begin at 1.
+abbrev pub line_number : List ℕ → ℕ → ℕ
+line_number text offset = count_by (λ b. b == 10) (take offset text) + 1
+
+-- What the formatting of the lines from that of one offset to that of another one gives: the text of which `PartKept`
+-- speaks; or none, as for the whole text.
+abbrev pub FormatsLines : Style → List ℕ → ℕ → ℕ → Option (List ℕ) → Type 0
+FormatsLines style text first last (Some new) =
+    IsPart style (record { first = line_number text first; last = line_number text last } ∷ []) text new
+FormatsLines style text first last None = FormatsText style text None
+
 -- What the server knows of texts.
 abbrev pub text_claim : Style → TextClaim
-text_claim style = record { Formats = FormatsText style; Finds = FindsProblems style }
+text_claim style = record {
+  Formats = FormatsText style;
+  FormatsLines = FormatsLines style;
+  Finds = FindsProblems style;
+}
 
 -- The fault is that memory was refused.
 abbrev pub is_memory : Fault → Bool

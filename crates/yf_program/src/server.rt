@@ -1,7 +1,8 @@
 //! The editor server, over any reader and any two streams.
-ghost use Rattle.std.specs.Prelude.{◌≡◌};
+ghost use Rattle.std.specs.Prelude.{◌≡◌, ◌≤◌, ◌==◌, length};
+ghost use Rattle.std.specs.List.{count_by};
 ghost use Rattle.yf_rules.specs.Runs.ByteStream.{stream_of};
-ghost use Rattle.yf_program.specs.Server.{Served, TellsEnd, exit_status, frame_line, is_memory};
+ghost use Rattle.yf_program.specs.Server.{Served, TellsEnd, exit_status, frame_line, is_memory, line_number};
 
 use crate::problems::problems_in;
 use crate::report::report;
@@ -9,9 +10,11 @@ use crate::streams::Streams;
 use std::alloc::{AllocError, Global};
 use yf_forms::style::Style;
 use yf_json_rpc::frame::FrameError;
+use yf_line_ranges::range::LineRange;
 use yf_lines::fault::Fault;
 use yf_lines::output::write_text;
 use yf_lines::watched::{Sink, Source};
+use yf_parts::run::with_lines_formatted;
 use yf_rules::format::format;
 use yf_rules::run::INPUT_LIMIT;
 use yf_server::analysis::{Analysis, Problem};
@@ -34,6 +37,30 @@ fn is_memory(fault: &Fault) -> bool
     matches!(fault, Fault::Memory)
 }
 
+// Returns how many line feeds the bytes have.
+fn line_feeds(bytes: &[u8]) -> usize
+    ensures count { result ≡ count_by (λ b. b == 10) bytes.now }
+    ensures bound { result ≤ length bytes.now }
+{
+    let mut count = 0;
+    for byte in bytes {
+        if *byte == b'\n' {
+            count += 1;
+        }
+    }
+    count
+}
+
+// Returns the number of the line that an offset is in. Lines end after a line feed, as for `yf_parts`.
+#[tactic(auto, using(std::proofs::lemmas::List::take_min))]
+fn line_number(text: &str, offset: usize) -> usize
+    ensures { result ≡ line_number text.now offset }
+{
+    let bytes = text.as_bytes();
+    let before = offset.min(bytes.len());
+    line_feeds(&bytes[..before]) + 1
+}
+
 impl Analysis for StyleAnalysis<'_> {
     ghost use Rattle.yf_program.specs.Server.{text_claim};
 
@@ -44,6 +71,31 @@ impl Analysis for StyleAnalysis<'_> {
             return Ok(None);
         }
         match format(alloc, text, self.style) {
+            Ok(new) => Ok(Some(new)),
+            Err(fault) => {
+                if is_memory(&fault) {
+                    return Err(AllocError);
+                }
+                Ok(None)
+            }
+        }
+    }
+
+    fn formatted_lines(
+        &self,
+        alloc: Global,
+        text: &str,
+        first: usize,
+        last: usize,
+    ) -> Result<Option<String>, AllocError> {
+        if text.len() > INPUT_LIMIT {
+            return Ok(None);
+        }
+        let lines = [LineRange {
+            first: line_number(text, first),
+            last: line_number(text, last),
+        }];
+        match with_lines_formatted(alloc, text, self.style, &lines) {
             Ok(new) => Ok(Some(new)),
             Err(fault) => {
                 if is_memory(&fault) {

@@ -100,7 +100,8 @@ steps_notified claim before after d reaction t p e is docs note =
       task = t;
       knows = λ uri. knows_is uri before after d _ p e (docs uri) (rw is refl);
       sends = rw is note;
-      answers = note_none before.terms.encoding before.documents.items (method_of (kind_of d)) (event_of (method_of (kind_of d)) d)
+      answers = note_none before.terms.encoding before.documents.items (method_of (kind_of d))
+          (event_of (method_of (kind_of d)) d)
           (option_map view reaction.message) note ∙ sym (none_wanted before.phase (kind_of d) is);
     }
 
@@ -162,7 +163,8 @@ steps_requested claim before after d reaction t p e is docs answer =
       task = t;
       knows = λ uri. knows_is uri before after d _ p e (ap (find uri) docs) (rw other refl);
       sends = rw (other, is) answer;
-      answers = request_once claim before.terms.encoding before.documents.items (id_of (kind_of d)) (method_of (kind_of d)) d
+      answers = request_once claim before.terms.encoding before.documents.items (id_of (kind_of d))
+          (method_of (kind_of d)) d
           (option_map view reaction.message) answer ∙ sym (id_wanted before.phase (kind_of d) is);
     }
 

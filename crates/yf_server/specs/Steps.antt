@@ -137,8 +137,9 @@ abbrev pub capabilities : Encoding → Data
 capabilities e = object (member (codes "codeActionProvider") action_options
     (member (codes "diagnosticProvider") diagnostic_options
     (member (codes "documentFormattingProvider") (boolean true)
+    (member (codes "documentRangeFormattingProvider") (boolean true)
     (member (codes "positionEncoding") (string (name_of e))
-    (member (codes "textDocumentSync") sync_options no_members)))))
+    (member (codes "textDocumentSync") sync_options no_members))))))
 
 -- `InitializeResult`
 abbrev pub initialize_result : Encoding → Data
@@ -182,9 +183,11 @@ IsNoteOf e documents method (Some event) sent = IsNote (outcome_of e (find event
 -- the message that is sent, by the formatting of a text
 abbrev pub Sends : TextClaim → Server → Data → Option Data → Type 0
 Sends claim server d sent = MatchBool (is_notification (step_of server.phase (kind_of d)).task)
-    (IsNoteOf server.terms.encoding server.documents.items (method_of (kind_of d)) (event_of (method_of (kind_of d)) d) sent)
+    (IsNoteOf server.terms.encoding server.documents.items (method_of (kind_of d))
+    (event_of (method_of (kind_of d)) d) sent)
     (MatchBool (is_request (step_of server.phase (kind_of d)).task)
-    (AnswersRequest claim server.terms.encoding server.documents.items (id_of (kind_of d)) (method_of (kind_of d)) d sent)
+    (AnswersRequest claim server.terms.encoding server.documents.items (id_of (kind_of d))
+    (method_of (kind_of d)) d sent)
     (IsAnswer (id_of (kind_of d)) (terms_after server.terms (step_of server.phase (kind_of d)).task d).encoding
     (step_of server.phase (kind_of d)).task sent))
 

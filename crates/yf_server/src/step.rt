@@ -103,6 +103,7 @@ fn initialize_result(alloc: Global, encoding: Encoding) -> Result<Value, AllocEr
         "positionEncoding": name,
         "textDocumentSync": {"openClose": true, "change": 2},
         "documentFormattingProvider": true,
+        "documentRangeFormattingProvider": true,
         "codeActionProvider": {"codeActionKinds": ["source.fixAll.yamlfmt"]},
         "diagnosticProvider": {"interFileDependencies": false, "workspaceDiagnostics": false}
     }})
