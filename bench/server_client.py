@@ -175,6 +175,56 @@ def random_edits(program, count, seed, encoding):
     assert server.end() == (0, b'', b''), 'the end of a session'
 
 
+def check_lost(server, uri=NAME):
+    """The text of the document is lost, and the client hears of it."""
+    assert server.receive()['method'] == 'window/logMessage'
+    cleared = server.receive()
+    assert cleared['params'] == {'uri': uri, 'diagnostics': []}, cleared
+    answer, _ = server.request('textDocument/formatting', {'textDocument': {'uri': uri}})
+    assert answer['error']['code'] == -32803, answer
+
+
+def faulty_changes(program, server):
+    """After a change at fault, a document has no text until it is opened again or sent whole. Another one stays."""
+    reversed_range = {'start': {'line': 1, 'character': 0}, 'end': {'line': 0, 'character': 0}}
+    server.open('b:   2\n', uri='file:///tmp/two.yaml')
+    server.receive()
+    for version, changes in ((1, [{'text': ''}]), (2, [{'range': reversed_range, 'text': ''}]),
+                             (2, [{'text': ''}, {'range': reversed_range, 'text': ''}]), (None, [{'text': ''}]),
+                             ('2', [{'text': ''}]), (2, None), (2, [{}]), (2, [{'range': {}, 'text': ''}])):
+        server.change(version, changes)
+        check_lost(server)
+        server.change(2, [{'range': {'start': {'line': 0, 'character': 0}, 'end': {'line': 0, 'character': 0}},
+                           'text': ''}])
+        check_lost(server)
+        server.change(2, [{'text': 'c:   3\n'}])
+        check_diagnostics(program, server.receive(), 'c:   3\n', 2, 'utf-16')
+        check_document(program, server, 'c:   3\n', 'utf-16')
+        server.open('a:   1\n')
+        check_diagnostics(program, server.receive(), 'a:   1\n', 1, 'utf-16')
+    server.open(None)
+    check_lost(server)
+    server.open('a:   1\n')
+    check_diagnostics(program, server.receive(), 'a:   1\n', 1, 'utf-16')
+    server.notify('textDocument/didChange', {'contentChanges': [{'text': ''}]})
+    assert server.receive()['method'] == 'window/logMessage'
+    check_document(program, server, 'a:   1\n', 'utf-16')
+    answer, _ = server.request('textDocument/diagnostic', {'textDocument': {'uri': 'file:///tmp/two.yaml'}})
+    check_problems(program, answer['result']['items'], 'b:   2\n', 'utf-16')
+
+
+def vault(server):
+    """A file from Ansible Vault is left alone."""
+    name = 'file:///tmp/vault.yaml'
+    server.open('$ANSIBLE_VAULT;1.1;AES256\n3366\n6131\n', uri=name)
+    assert server.receive()['params'] == {'uri': name, 'version': 1, 'diagnostics': []}
+    whole = {'start': {'line': 0, 'character': 0}, 'end': {'line': 3, 'character': 0}}
+    for method, result in (('formatting', None), ('willSaveWaitUntil', None), ('rangeFormatting', None),
+                           ('codeAction', []), ('diagnostic', {'kind': 'full', 'items': []})):
+        answer, _ = server.request('textDocument/' + method, {'textDocument': {'uri': name}, 'range': whole})
+        assert answer['result'] == result, answer
+
+
 def life_cycle(program):
     server = Server(program)
     answer, _ = server.request('textDocument/formatting', {})
@@ -185,7 +235,7 @@ def life_cycle(program):
     assert answer['error']['code'] == -32600, answer
     answer, _ = server.request('workspace/symbol', {})
     assert answer['error']['code'] == -32601, answer
-    for method in ('formatting', 'willSaveWaitUntil', 'codeAction', 'diagnostic'):
+    for method in ('formatting', 'willSaveWaitUntil', 'rangeFormatting', 'codeAction', 'diagnostic'):
         answer, _ = server.request('textDocument/' + method, {'textDocument': {'uri': NAME}})
         assert answer['error']['code'] == -32602, answer
         answer, _ = server.request('textDocument/' + method, {})
@@ -198,16 +248,9 @@ def life_cycle(program):
     assert answer['error']['code'] == -32600 and answer['id'] is None, answer
     server.open('a:   1\n')
     assert server.receive()['params']['version'] == 1
-    server.change(1, [{'text': ''}])
-    assert server.receive()['method'] == 'window/logMessage'
-    again = server.receive()
-    check_diagnostics(program, again, 'a:   1\n', 1, 'utf-16')
-    server.change(2, [{'range': {'start': {'line': 1, 'character': 0}, 'end': {'line': 0, 'character': 0}},
-                       'text': ''}])
-    assert server.receive()['method'] == 'window/logMessage'
-    check_diagnostics(program, server.receive(), 'a:   1\n', 1, 'utf-16')
-    check_document(program, server, 'a:   1\n', 'utf-16')
+    faulty_changes(program, server)
     some_lines(server)
+    vault(server)
     server.notify('textDocument/didSave', {'textDocument': {'uri': NAME}})
     server.notify('$/cancelRequest', {'id': 1})
     server.notify('textDocument/didClose', {'textDocument': {'uri': NAME}})

@@ -5,15 +5,13 @@ use Rattle.yf_json_rpc.specs.Messages.{kind_of}
 use Rattle.yf_server.specs.declared.lifecycle.Phase.{Phase}
 use Rattle.yf_server.specs.declared.step.Server.{Server}
 use Rattle.yf_server.specs.Documents.{Updates, find, without_text}
-use Rattle.yf_server.specs.Edits.{named_uri}
 use Rattle.yf_server.specs.Lifecycle.{step_of}
-use Rattle.yf_server.specs.Steps.{IsSame, is_notification, is_of_document, method_of}
+use Rattle.yf_server.specs.Steps.{IsSame, about_uri, is_notification, method_of}
 
 -- the URI of the document that a message is about, if it is a notification on a document that counts
 abbrev pub notified_uri : Phase → Data → Option (List ℕ)
 notified_uri phase d =
-    if is_notification (step_of phase (kind_of d)).task
-    then (if is_of_document (method_of (kind_of d)) then named_uri d else None) else None
+    if is_notification (step_of phase (kind_of d)).task then about_uri (method_of (kind_of d)) d else None
 
 -- the text of the document with a URI is lost, and nothing else has changed
 pub record LosesText (before after : Server) (uri : List ℕ) : Type 0 where

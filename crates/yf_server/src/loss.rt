@@ -6,8 +6,7 @@ ghost use Rattle.yf_server.specs.Losses.{Loses, LosesText, notified_uri};
 
 use crate::documents::lose;
 use crate::lifecycle::{Phase, next_step};
-use crate::notify::is_of_document;
-use crate::respond::named_uri;
+use crate::notify::about_uri;
 use crate::step::{Server, is_notification, method_of};
 use serde_json::Value;
 use yf_json_rpc::message::message_of;
@@ -20,10 +19,7 @@ fn notified_uri(phase: Phase, value: &Value) -> Option<&str>
     if !is_notification(next_step(phase, message).task) {
         return None;
     }
-    if !is_of_document(method_of(message)) {
-        return None;
-    }
-    named_uri(value)
+    about_uri(method_of(message), value)
 }
 
 /// Drops the text of the document that a message is about, and returns true; returns false if the message is no

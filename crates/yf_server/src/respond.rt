@@ -12,7 +12,6 @@ use crate::analysis::Analysis;
 use crate::diagnostics::report;
 use crate::documents::{OpenDocument, place_of};
 use crate::edits::edits_to;
-use crate::notify::LOST;
 use crate::parameters::string_in;
 use crate::query::{Query, query_of};
 use serde_json::Value;
@@ -22,6 +21,10 @@ use yf_json_rpc::message::{failure, reply};
 use yf_positions::document::Document;
 use yf_positions::encoding::Encoding;
 use yf_positions::position::LspRange;
+
+/// What a client shows of a document whose text is lost.
+pub const LOST: &str =
+    "the server does not have the text of the document: open it again, or send the whole text";
 
 /// Returns the text that a client shows for an error.
 fn text_of(code: ErrorCode) -> &'static str {

@@ -17,9 +17,9 @@ use yf_json_rpc::message::{Message, message_of, push_message};
 use yf_server::analysis::Analysis;
 use yf_server::lifecycle::Task;
 use yf_server::loss::lose_notified;
-use yf_server::notify::{LOST, log_message};
+use yf_server::notify::log_message;
 use yf_server::publish::publish;
-use yf_server::respond::failure_of;
+use yf_server::respond::{LOST, failure_of};
 use yf_server::step::{Reaction, Server, step};
 
 /// The result of handling a message's content.
