@@ -211,6 +211,15 @@ def faulty_changes(program, server):
     check_document(program, server, 'a:   1\n', 'utf-16')
     answer, _ = server.request('textDocument/diagnostic', {'textDocument': {'uri': 'file:///tmp/two.yaml'}})
     check_problems(program, answer['result']['items'], 'b:   2\n', 'utf-16')
+    # content that is not JSON may be a change of any document
+    server.write(b'Content-Length: 14\r\n\r\n{"a":"\\ud83d"}')
+    answer = server.receive()
+    assert answer['error']['code'] == -32700 and answer['id'] is None, answer
+    for uri in (NAME, 'file:///tmp/two.yaml'):
+        answer, _ = server.request('textDocument/formatting', {'textDocument': {'uri': uri}})
+        assert answer['error']['code'] == -32803, answer
+    server.open('a:   1\n')
+    check_diagnostics(program, server.receive(), 'a:   1\n', 1, 'utf-16')
 
 
 def vault(server):

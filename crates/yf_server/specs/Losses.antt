@@ -1,4 +1,4 @@
--- What becomes of a document if a notification on it cannot be acted on.
+-- What becomes of documents if a notification cannot be acted on.
 use Rattle.std.specs.Prelude.{◌≡◌, ℕ, List, Bool, true, false, Option, None, Some, option_map, if◌then◌else◌}
 use Rattle.serde_json.specs.Data.{Data}
 use Rattle.yf_json_rpc.specs.Messages.{kind_of}
@@ -19,6 +19,13 @@ pub record LosesText (before after : Server) (uri : List ℕ) : Type 0 where
   pub terms : after.terms ≡ before.terms
   pub documents : Updates before.documents.items after.documents.items uri
       (option_map without_text (find uri before.documents.items))
+
+-- the texts of all documents are lost, and nothing else has changed
+pub record LosesAll (before after : Server) : Type 0 where
+  pub phase : after.phase ≡ before.phase
+  pub terms : after.terms ≡ before.terms
+  pub documents : (uri : List ℕ) → find uri after.documents.items
+      ≡ option_map without_text (find uri before.documents.items)
 
 -- the text of the document is lost that a message is about, if there is one
 abbrev pub Loses : Server → Server → Option (List ℕ) → Bool → Type 0
