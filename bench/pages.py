@@ -148,11 +148,11 @@ def numbers(text):
                 yield 'the number %s, for %s' % (said, in_words(number))
 
 
-def settings():
-    """The keys of the settings, from the constants of the file that reads them."""
-    for path in glob.glob(TOP + '/crates/*/src/settings.rt'):
+def settings(file, key):
+    """The keys of the settings in a file of yf_settings that has the key, from its constants."""
+    for path in glob.glob(TOP + '/crates/*/src/%s.rt' % file):
         found = re.findall(r'const [A-Z_]+: &str = "(\w+)";', read(path))
-        if 'indent' in found:
+        if key in found:
             return sorted(found)
     return []
 
@@ -169,12 +169,13 @@ def options():
 
 def lists():
     """The differences of a page's list of settings or options from the program's."""
-    keys = settings()
-    places = (('README.md', r'^    (\w+) = '), ('docs/STYLE.md', r'^\| `(\w+)` \| .* \| .* \| .* \|$'),
-              ('dist/yamlfmt.1.in', r'^(\w+) = '))
-    for page, pattern in places:
-        if sorted(re.findall(pattern, read(page), re.M)) != keys:
-            yield page, 'its settings are not %s' % ' '.join(keys)
+    keys = settings('settings', 'indent')
+    every = sorted(keys + settings('texts', 'exclude'))
+    places = (('README.md', r'^    (\w+) = ', keys), ('dist/yamlfmt.1.in', r'^(\w+) = ', keys),
+              ('docs/STYLE.md', r'^\| `(\w+)` \| .* \| .* \| .* \|$', every))
+    for page, pattern, wanted in places:
+        if sorted(re.findall(pattern, read(page), re.M)) != wanted:
+            yield page, 'its settings are not %s' % ' '.join(wanted)
     own = options()
     if not keys or not own:
         yield 'bench/pages.py', 'finds no settings or options in the code'

@@ -20,12 +20,10 @@ TOP = os.path.dirname(os.path.dirname(os.path.abspath(__file__)))
 PAGE = 'docs/PROVED_TABLES.md'
 HEAD = '''# Proved, crate by crate
 
-Made by `bench/proved.py` from the sources. [PROVED](PROVED.md) explains the theorem of the whole program, and
-`bench/edits.py` lists the must-fail edits.
+Made by `bench/proved.py` from the sources. [PROVED](PROVED.md) explains the theorem of the whole program.
 
 The numbers after a crate's name count its functions, those with a contract, and its must-fail edits. Every function is
-proved safe and terminating. Below are the main calls, with the names of their clauses and the first words of their
-documentation.
+proved safe and terminating. Below are the main calls, with the names of their clauses.
 
 '''
 HEADER = re.compile(r'^ *(pub(?:\([^)]*\))? )?(?:const )?fn (\w+)')

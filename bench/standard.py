@@ -74,8 +74,7 @@ NOTES = {
 
 HEAD = """# The standard's productions, letter by letter
 
-`bench/standard.py` makes this page from `crates/yf_standard/specs` and `bench/standard.txt`; with `--check` it fails if
-the page is stale.
+`bench/standard.py` makes this page from `crates/yf_standard/specs` and `bench/standard.txt`.
 
 **Proved** (`standard_laws` of `yf_standard`, `specs/Laws.antt`). Take a UTF-8 text. Production 211, with the reading
 rules below and at most `DEPTH` open collections, derives all of it exactly if `Stream` of `yf_stream`, which the reader
@@ -84,12 +83,12 @@ follows, derives it. Whatever the reading rules allow, the standard's letter all
 exactly if 211 derives it and it breaks no [further rule](GRAMMAR.md#what-must-hold-besides) (`IsStandardText` of
 `specs/Acceptance.antt`; `headline` of `yf_rules`).
 
-**The table's columns.** The second column is the production as YAML 1.2.2 prints it, written from memory and compared
-with two transcriptions of the previous edition ([DECISIONS](DECISIONS.md#the-standards-productions)). The third column
-is the clause of `Characters` or `Productions`, without the name if it has no parameters. `bench/standard_lines.py`
-compares the second with the third, operator by operator, except for the conditions of the reading rules and six
-clauses. The fourth column is what the production derives with the reading rules (proved in `proofs/Standing.antt` and
-`Closed.antt`): a relation of a lower crate, or `·` for one character.
+**The table's columns.** The second column is the production as YAML 1.2.2 prints it, written [from
+memory](DECISIONS.md#the-standards-productions). The third column is the clause of `Characters` or `Productions`,
+without the name if it has no parameters. `bench/standard_lines.py` compares the second with the third, operator by
+operator, except for the conditions of the reading rules and six clauses. The fourth column is the relation of a lower
+crate that the production derives with the reading rules (proved in `proofs/Standing.antt` and `Closed.antt`), or `·`
+for one character.
 
 ## Notation
 
@@ -137,11 +136,10 @@ anything.
 
 ## Meanings
 
-The standard describes meanings in prose. Here a meaning is a function of a derivation, by cases on its productions.
-`content` (`specs/Contents.antt`) returns the text that a derivation adds to a scalar. `tokens` (`specs/Tokens.antt`)
-returns its comments, names, scalars, collections, directives and documents. `said` and `stream_said`
-(`specs/Tokens.antt`, `specs/Readings.antt`) turn the tokens into events, each node with the properties before it, and
-documents, each with its directives.
+A meaning is a function of a derivation, by cases on its productions. `content` (`specs/Contents.antt`) returns the text
+that a derivation adds to a scalar. `tokens` (`specs/Tokens.antt`) returns its comments, names, scalars, collections,
+directives and documents. `said` and `stream_said` (`specs/Tokens.antt`, `specs/Readings.antt`) turn the tokens into
+events and documents.
 
 | | Production | Meaning | Section |
 |---|---|---|---|
@@ -168,11 +166,9 @@ documents, each with its directives.
 | both | all others | the meanings of their parts, in order | |
 
 `meaning_laws` of `yf_standard` proves that each derivation with the reading rules means what the program reads, for
-plain, single-quoted and double-quoted scalars (131, 120, 109), the content of literal and folded scalars (173, 182),
-block scalars (170, 174), comments (79), separation (80), aliases (104), node properties (96), flow nodes (161), block
-nodes (196) and streams (211). The laws on quoted scalars, block scalars and nodes hold for those that cover no
-forbidden line. The meaning of a node is its events, its comments, the offsets of its tags, and the offsets of escapes
-that write no character; that of a stream is its documents, each with its directives, and all comments. So all
+plain and quoted scalars (131, 120, 109), the content of literal and folded scalars (173, 182), block scalars (170,
+174), comments (79), separation (80), aliases (104), node properties (96), flow nodes (161), block nodes (196) and
+streams (211). The laws on quoted scalars, block scalars and nodes hold for those that cover no forbidden line. So all
 derivations of a text that has a reading mean the documents, directives, comments and bad escapes of that reading. The
 tokens have neither the offsets of nodes, entries and documents, nor whether `...` ends a document.
 

@@ -110,6 +110,7 @@ settings_not_both given asked.Defaults p q = q.1 p.1
 -- The two are equal, except for the capacity of their vectors.
 pub record SameRequest (a b : Request) : Type 0 where
   pub settings : a.settings ≡ b.settings
+  pub shows : a.shows_settings ≡ b.shows_settings
   pub explain : a.explain ≡ b.explain
   pub command : SameCommand a.command b.command
 
@@ -122,6 +123,7 @@ met_once rules before met a b p q =
     record {
       settings = settings_once q.given a.settings b.settings
           (subst (λ (rows : List Row). IsSettings rows a.settings) given p.settings) q.settings;
+      shows = p.shows ∙ (ap (is_flag (codes "show-settings")) given ∙ sym q.shows);
       explain = p.explain ∙ (ap explained given ∙ sym q.explain);
       command = command_once rules q.name q.given a.command b.command
           (subst (λ (m : Text × List Row). IsCommand rules m.0 m.1 a.command) same p.command) q.command;
@@ -211,10 +213,11 @@ module _ (inputs : List Input → Vec Input Global) (inputs_are : (l : List Inpu
           | inl s ↦ inl (
             record {
               settings = s.0;
+              shows_settings = is_flag (codes "show-settings") m.1;
               explain = is_flag (codes "explain") before || is_flag (codes "explain") m.1;
               command = a.0;
             },
-            record { name = m.0; given = m.1; named = refl; command = a.1; settings = s.1; explain = refl },
+            record { name = m.0; given = m.1; named = refl; command = a.1; settings = s.1; shows = refl; explain = refl },
           )
           | inr twice ↦ inr (inr twice)
         ]

@@ -16,6 +16,11 @@ config_option = record (new_rule (codes "config")) { long = Some (codes "config"
 abbrev pub no_config_flag : Rule
 no_config_flag = record (new_rule (codes "no-config")) { long = Some (codes "no-config"); action = Some SetTrue }
 
+-- `--show-settings`
+abbrev pub show_settings_flag : Rule
+show_settings_flag =
+    record (new_rule (codes "show-settings")) { long = Some (codes "show-settings"); action = Some SetTrue }
+
 -- `--explain`
 abbrev pub explain_flag : Rule
 explain_flag = record (new_rule (codes "explain")) { long = Some (codes "explain"); action = Some SetTrue }
@@ -57,31 +62,35 @@ file_words = record (new_rule (codes "file")) { value_names = 1; action = Some A
 abbrev pub with_config : Text → App
 with_config name = with_rule (new_app name) config_option
 
--- The words that every command takes: `NAME [--config FILE] [--no-config]`
-abbrev pub with_settings : Text → App
-with_settings name = with_rule (with_config name) no_config_flag
+-- `NAME [--config FILE] [--no-config]`
+abbrev pub with_defaults : Text → App
+with_defaults name = with_rule (with_config name) no_config_flag
 
--- `NAME [--config FILE] [--no-config] [--explain]`
+-- SETTINGS, the words that every command takes: `NAME [--config FILE] [--no-config] [--show-settings]`
+abbrev pub with_settings : Text → App
+with_settings name = with_rule (with_defaults name) show_settings_flag
+
+-- `NAME SETTINGS [--explain]`
 abbrev pub configured : Text → App
 configured name = with_rule (with_settings name) explain_flag
 
--- `NAME [--config FILE] [--no-config] [--explain] [FILE]`
+-- `NAME SETTINGS [--explain] [FILE]`
 abbrev pub reading_command : Text → App
 reading_command name = with_rule (configured name) file_word
 
--- `check [--config FILE] [--no-config] [--explain] [--without RULES] [FILE..]`
+-- `check SETTINGS [--explain] [--without RULES] [FILE..]`
 abbrev pub checking_command : App
 checking_command = with_rule (with_rule (configured (codes "check")) without_option) file_words
 
--- `fmt [--config FILE] [--no-config] [--explain] [--write] [--check] [--diff]`
+-- `fmt SETTINGS [--explain] [--write] [--check] [--diff]`
 abbrev pub formatting_command : App
 formatting_command = with_rule (with_rule (with_rule (configured (codes "fmt")) write_flag) check_flag) diff_flag
 
--- `fmt [--config FILE] [--no-config] [--explain] [--write] [--check] [--diff] [--lines LINES] [FILE..]`
+-- `fmt SETTINGS [--explain] [--write] [--check] [--diff] [--lines LINES] [FILE..]`
 abbrev pub writing_command : App
 writing_command = with_rule (with_rule formatting_command lines_option) file_words
 
--- `server [--config FILE] [--no-config] [--stdio]`
+-- `server SETTINGS [--stdio]`
 abbrev pub serving_command : App
 serving_command = with_rule (with_settings (codes "server")) stdio_flag
 

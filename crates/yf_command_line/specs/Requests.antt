@@ -185,6 +185,8 @@ pub record IsRequest (rules : List Text) (before : List Row) (met : Met) (reques
   pub command : IsCommand rules name given request.command
   -- `--config FILE`, `--no-config`, or neither
   pub settings : IsSettings given request.settings
+  -- `--show-settings`
+  pub shows : request.shows_settings ≡ is_flag (codes "show-settings") given
   -- `--explain`, before the command or after it
   pub explain : request.explain ≡ (is_flag (codes "explain") before || is_flag (codes "explain") given)
 

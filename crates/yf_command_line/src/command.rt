@@ -97,6 +97,8 @@ pub enum Settings {
 pub struct Request {
     /// The settings.
     pub settings: Settings,
+    /// Whether to print the settings in force and to do nothing else.
+    pub shows_settings: bool,
     /// Whether to explain each fault and each finding.
     pub explain: bool,
     /// The command.

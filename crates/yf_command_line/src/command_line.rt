@@ -8,8 +8,8 @@ ghost use Rattle.yf_command_line.specs.Requests.{is_flag, lines_given, writes};
 use crate::command::{Command, Fmt, Request, Settings};
 use crate::inputs::{files_of, first_input, has_standard_input, inputs_of};
 use crate::options::{
-    CHECK, CONFIG, DIFF, EVENTS, EXPLAIN, FILE, FMT, LINES, NO_CONFIG, SERVER, WITHOUT, WRITE,
-    yamlfmt_command,
+    CHECK, CONFIG, DIFF, EVENTS, EXPLAIN, FILE, FMT, LINES, NO_CONFIG, SERVER, SHOW_SETTINGS,
+    WITHOUT, WRITE, yamlfmt_command,
 };
 use crate::part::part_met;
 use crate::refused_words::{
@@ -34,7 +34,7 @@ use std::alloc::Global;
 ///   more than once.
 /// - `server [SETTINGS] [--stdio]`. It always reads standard input, and `--stdio` changes nothing: editors pass it.
 ///
-/// SETTINGS is `--config FILE` or `--no-config`.
+/// SETTINGS is `--config FILE` or `--no-config`, and `--show-settings`.
 ///
 /// A FILE `-` is standard input. Without a FILE a command reads standard input.
 ///
@@ -76,6 +76,7 @@ fn request_met(alloc: Global, matches: &ArgMatches<'_>, rules: &[&str]) -> Resul
     };
     Ok(Request {
         settings,
+        shows_settings: is_given(given, SHOW_SETTINGS),
         explain: is_explained(matches, given),
         command,
     })

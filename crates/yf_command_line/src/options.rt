@@ -3,7 +3,8 @@ ghost use Rattle.std.specs.Prelude.{◌≡◌, IfOk};
 ghost use Rattle.clap.specs.Words.{App, Rule, app_of, with_rule, with_subcommand};
 ghost use Rattle.yf_command_line.specs.Options.{bare_command, check_flag, checking_command, config_option, configured};
 ghost use Rattle.yf_command_line.specs.Options.{diff_flag, explain_flag, file_word, file_words, formatting_command};
-ghost use Rattle.yf_command_line.specs.Options.{lines_option, no_config_flag, with_config, with_settings, write_flag};
+ghost use Rattle.yf_command_line.specs.Options.{lines_option, no_config_flag, show_settings_flag, with_config};
+ghost use Rattle.yf_command_line.specs.Options.{with_defaults, with_settings, write_flag};
 ghost use Rattle.yf_command_line.specs.Options.{reading_command, serving_command, stdio_flag, without_option};
 ghost use Rattle.yf_command_line.specs.Options.{writing_command, yamlfmt};
 ghost use Rattle.yf_command_line.specs.Options.{IsOption, IsPart};
@@ -23,6 +24,8 @@ pub(crate) const SERVER: &str = "server";
 pub(crate) const CONFIG: &str = "config";
 
 pub(crate) const NO_CONFIG: &str = "no-config";
+
+pub(crate) const SHOW_SETTINGS: &str = "show-settings";
 
 pub(crate) const EXPLAIN: &str = "explain";
 
@@ -125,20 +128,31 @@ fn server_command<'a>(alloc: Global) -> Result<Command<'a>, AllocError>
     with_arg(command, stdio_flag(alloc))
 }
 
-// A command with `--config`, `--no-config` and `--explain`.
+// A command with `--config`, `--no-config`, `--show-settings` and `--explain`.
 fn configured<'a>(alloc: Global, name: &'a str, about: &'a str) -> Result<Command<'a>, AllocError>
     ensures { IfOk result (λ c. IsPart c (configured name.entry.now)) }
 {
     with_arg(with_settings(alloc, name, about), explain_flag(alloc))
 }
 
-// A command with `--config` and `--no-config`.
+// A command with `--config`, `--no-config` and `--show-settings`.
 fn with_settings<'a>(
     alloc: Global,
     name: &'a str,
     about: &'a str,
 ) -> Result<Command<'a>, AllocError>
     ensures { IfOk result (λ c. IsPart c (with_settings name.entry.now)) }
+{
+    with_arg(with_defaults(alloc, name, about), show_settings_flag(alloc))
+}
+
+// A command with `--config` and `--no-config`.
+fn with_defaults<'a>(
+    alloc: Global,
+    name: &'a str,
+    about: &'a str,
+) -> Result<Command<'a>, AllocError>
+    ensures { IfOk result (λ c. IsPart c (with_defaults name.entry.now)) }
 {
     with_arg(with_config(alloc, name, about), no_config_flag(alloc))
 }
@@ -181,6 +195,15 @@ fn no_config_flag<'a>(alloc: Global) -> Arg<'a>
         .long(NO_CONFIG)
         .action(ArgAction::SetTrue)
         .help("Use the default settings, and look for no settings file")
+}
+
+fn show_settings_flag<'a>(alloc: Global) -> Arg<'a>
+    ensures { IsOption result show_settings_flag }
+{
+    Arg::new(alloc, SHOW_SETTINGS)
+        .long(SHOW_SETTINGS)
+        .action(ArgAction::SetTrue)
+        .help("Print the settings in force as TOML, and do nothing else")
 }
 
 fn explain_flag<'a>(alloc: Global) -> Arg<'a>

@@ -12,3 +12,5 @@ pub mod FilesLemmas
 pub mod FurtherLemmas
 -- `add_rule`, `found_by_rules`
 pub mod ProblemLemmas
+-- `show_in_force`
+pub mod SettingsShownLemmas

@@ -5,7 +5,8 @@ use Rattle.std.specs.Str.{IsUtf8}
 use Rattle.yf_lines.specs.declared.fault.Fault.{Fault}
 use Rattle.yf_lines.specs.declared.fault.Fault.TheVariants.{NotUtf8, Syntax, TooDeep, UnknownHandle, UnknownAlias, RepeatedDirective, BadVersion, EscapeValue, Memory, ReadFailed, WriteFailed, Config}
 use Rattle.yf_command_line.specs.declared.command.Input.TheVariants.{File}
-use Rattle.yf_program.specs.Answer.{FileRefused, FileSets, Opens, RanFmtDiff, SettingsOfFile, Unset}
+use Rattle.yf_program.specs.Answer.{Opens, RanFmtDiff}
+use Rattle.yf_program.specs.SettingsFile.{FileRefused, FileSets, SettingsOfFile, Unset}
 use Rattle.yf_rules.specs.Quoted.{quoted}
 use Rattle.yf_program.specs.World.{InputClaim, streams_of}
 use Rattle.yf_program.specs.declared.task.Task.{Task}

@@ -45,8 +45,6 @@ use Rattle.yf_program.specs.Server.{Served}
 use Rattle.yf_program.specs.Report.{check_status, fault_line, fault_status, format_status}
 use Rattle.yf_program.specs.Settings.{Scoped}
 use Rattle.yf_program.specs.declared.scope.Scope.{Scope}
-use Rattle.yf_settings.specs.FileSettings.{AreDefaults, HasSettings, RefusesFile}
-use Rattle.yf_settings.specs.declared.file_settings.FileSettings.{FileSettings}
 use Rattle.yf_program.specs.World.{Host, InputClaim, LinkClaim, OutputStreams, TextClaim, WorkClaim, World}
 use Rattle.yf_program.specs.declared.sources.Sources.{Sources}
 use Rattle.yf_program.specs.declared.task.Task.{Task}
@@ -111,43 +109,9 @@ Opens claim input reader left =
     (claim.tells → reader.contents ≡ claim.holds input) × (reader.failed ≡ false)
     × (claim.tells → left.failed ≡ true → claim.fails input)
 
--- ---- The settings are read
-
--- The inputs that are opened for the settings.
-abbrev pub settings_of : Option (List ℕ) → List Input
-settings_of (Some name) = File name ∷ []
-settings_of None = []
-
--- The bytes that were read have these settings.
-abbrev pub FileSets : Option (List ℕ) → FileSettings → Type 0
-FileSets known settings =
-    (text : List ℕ) × Gave known text × (length text ≤ INPUT_LIMIT) × IsUtf8 text × HasSettings text settings
-
--- A settings file is refused: it could not be read; it is no text, and the key is empty; or its text is refused.
-abbrev pub FileRefused : ByteStream → ByteStream → Fault → Type 0
-FileRefused reader left fault.Memory = NoFailure reader left
-FileRefused reader left (fault.Config key) = NoFailure reader left
-    × ((text : List ℕ) × Gave reader.contents text × (length text ≤ INPUT_LIMIT)
-    × (((¬ IsUtf8 text) × (key ≡ [])) ⊎ (IsUtf8 text × RefusesFile text (fault.Config key))))
-FileRefused reader left fault.ReadFailed = ReadRefusal INPUT_LIMIT reader left fault.ReadFailed
-FileRefused reader left _ = ⊥
-
--- The settings are those of the settings file, or the defaults.
-abbrev pub SettingsOfFile : InputClaim → Option (List ℕ) → FileSettings → Type 0
-SettingsOfFile claim (Some name) settings = (reader : ByteStream) × (left : ByteStream)
-    × Opens claim (File name) reader left × FileSets reader.contents settings
-SettingsOfFile claim None settings = AreDefaults settings
-
--- The settings file can't be opened, or is refused.
-abbrev pub Unset : InputClaim → Option (List ℕ) → Fault → Type 0
-Unset claim (Some name) f =
-    ((f ≡ fault.ReadFailed) × (claim.tells → claim.fails (File name)))
-    ⊎ ((reader : ByteStream) × (left : ByteStream) × Opens claim (File name) reader left × FileRefused reader left f)
-Unset claim None f = ⊥
-
 -- ---- A work is done with the text of an input
 
--- What is done with a reader for a task: by the status, the reader before and after, and the streams before and after.
+-- The work on a reader for a task: by the status, the reader before and after, and the streams before and after.
 abbrev pub RunClaim : Type 1
 RunClaim = Task → ℕ → ByteStream → ByteStream → OutputStreams → OutputStreams → Type 0
 
@@ -179,7 +143,7 @@ RanFmt task status reader left before after =
     ⊎ ((f : Fault) × RefusedFmt task.style reader left before.output after.output f
     × EndsOver task.explain reader.contents f status before.errors after.errors)
 
--- `fmt --check` wrote where the text differs from its formatting, if it does, or was refused.
+-- `fmt --check` wrote the first position at which the text differs from its formatting, if it does, or was refused.
 abbrev pub RanFmtCheck : RunClaim
 RanFmtCheck task status reader left before after =
     ((same : Bool) × CompareRun task.style reader before.output after.output same
@@ -255,7 +219,7 @@ ScopedInput host scope task = Scoped host scope task.explain (DoesInput host tas
 
 -- ---- A file is rewritten
 
--- What is known of the system, by the ghost members of what reads the inputs and of the files.
+-- The facts that are known of the system, by the ghost members of what reads the inputs and of the files.
 -- (claim: of the inputs; tells, state, leads: of the files)
 abbrev pub host_in : {I F : Type 0} → (I → InputClaim) → Type 0 → (F → FilesState) → LinkClaim F → Sources I F → Host F
 host_in claim tells state leads sources = record {
@@ -325,7 +289,7 @@ ToldNamed Whole run status output faults before after =
     (Whole × AreTold run status output faults before after)
     ⊎ (NothingWritten before.output after.output × EndsBy fault.Memory status before.errors after.errors)
 
--- What is in memory was written so, with a name before each line.
+-- The texts in memory were written so, with a name before each line.
 abbrev pub ToldMemory : List ℕ → ℕ → ℕ → OutputStreams → OutputStreams → OutputStreams → Type 0
 ToldMemory name run status memory before after =
     (output : List ℕ) × (faults : List ℕ) × (memory.output.contents ≡ Some output)
@@ -339,7 +303,7 @@ empty_memory = record {
   errors = record { contents = Some []; failed = false };
 }
 
--- It was done as if for the only file, and written to memory. What is in memory was written with the file's name before
+-- It was done as if for the only file, and written to memory. The texts there were written with the file's name before
 -- each line.
 abbrev pub DoesNamed : {F : Type 0} → List ℕ → WorkClaim F → WorkClaim F
 DoesNamed name Does status before after =

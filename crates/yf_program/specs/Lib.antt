@@ -3,6 +3,7 @@ pub mod World
 pub mod Rewriting
 pub mod Settings
 pub mod Answer
+pub mod SettingsFile
 pub mod Run
 -- the lines that are written
 pub mod Report

@@ -1,4 +1,4 @@
--- What is known of inputs in memory.
+-- The facts that are known of inputs in memory.
 use Rattle.std.specs.Prelude.{◌≡◌, ⊤, ℕ, List, [], ◌∷◌, Option, Some, None, is_some, codes, if◌then◌else◌}
 use Rattle.std.specs.Str.{bytes_eq}
 use Rattle.yf_command_line.specs.declared.command.Input.{Input}

@@ -1,22 +1,26 @@
 -- The whole program, from the words of its command line to its status. Its last definition, `ProgramRuns`, is the whole.
 -- (before, after: the world, the streams or one stream before and after a step)
-use Rattle.std.specs.Prelude.{◌≡◌, ◌⊎◌, ℕ, List, [], Bool, Option, unwrap_or}
+use Rattle.std.specs.Prelude.{◌≡◌, ◌⊎◌, ◌++◌, ℕ, List, [], Bool, MatchBool, Option, Some, None, codes, unwrap_or}
 use Rattle.yf_command_line.specs.Requests.{AsksFor, RefusesWords}
 use Rattle.yf_command_line.specs.declared.command.Command.{Command}
 use Rattle.yf_command_line.specs.declared.command.Input.{Input}
 use Rattle.yf_command_line.specs.declared.command.Request.{Request}
+use Rattle.yf_command_line.specs.Shown.{shown}
 use Rattle.yf_command_line.specs.declared.usage.Usage.{Usage}
+use Rattle.yf_command_line.specs.declared.usage.Usage.TheVariants as usage
 use Rattle.yf_lines.specs.declared.fault.Fault.{Fault}
 use Rattle.yf_lines.specs.declared.fault.Fault.TheVariants as fault
-use Rattle.yf_program.specs.Answer.{AnyLines, DoesIn, EndsBy, InputsOpened, SettingsOfFile, TellsMore, Unset, UsageWritten, WrittenOut, settings_of}
+use Rattle.yf_program.specs.Answer.{AnyLines, DoesIn, EndsBy, InputsOpened, TellsMore, UsageWritten, WrittenOut}
 use Rattle.yf_program.specs.Report.{fault_status}
 use Rattle.yf_program.specs.Settings.{IsInForce, IsUnfound, NothingDone, RefusesVersion, named_fault, no_folder_line, scope_of, settings_line}
+use Rattle.yf_program.specs.SettingsFile.{SettingsOfFile, Unset, settings_of}
 use Rattle.yf_program.specs.World.{Host, OutputStreams, WorkClaim, World}
 use Rattle.yf_program.specs.declared.search.InForce.{InForce}
 use Rattle.yf_program.specs.declared.search.Unfound.{Unfound}
 use Rattle.yf_program.specs.declared.search.Unfound.TheVariants as unfound
 use Rattle.yf_rules.specs.AllRules.{rule_names}
 use Rattle.yf_rules.specs.Runs.ByteStream.{ByteStream, NothingWritten, WrittenOrFailed}
+use Rattle.yf_settings.specs.Page.{ShowsSettings}
 use Rattle.yf_settings.specs.declared.file_settings.FileSettings.{FileSettings}
 
 -- A line was written to the stream of faults, and with `--explain` more lines after it. The status is that of the fault.
@@ -55,13 +59,38 @@ SettingsTaken host in_force explain what status before after =
     × InputsOpened host.inputs before.opened opened (settings_of in_force.config)
     × DoesWith host in_force settings explain what status (record before { opened = opened }) after)
 
--- It isn't known which settings file is in force, and no input was opened; or its settings were taken.
+-- The first line of a page of settings: a comment with the name of the settings file.
+abbrev pub file_heading : List ℕ → List ℕ
+file_heading name = codes "# " ++ (shown name ++ codes "\n")
+
+abbrev pub heading : Option (List ℕ) → List ℕ
+heading (Some name) = file_heading name
+heading None = codes "# no settings file\n"
+
+-- A page with these settings was written to the output, or could not be; or memory was refused.
+abbrev pub PageShown : Option (List ℕ) → FileSettings → ℕ → OutputStreams → OutputStreams → Type 0
+PageShown config settings status before after =
+    ((page : List ℕ) × ShowsSettings settings page × UsageWritten (usage.Help (heading config ++ page)) status before after)
+    ⊎ UsageWritten usage.Memory status before after
+
+-- The settings file in force is refused, or a page shows its settings. Nothing else was done.
+abbrev pub SettingsShown : {F : Type 0} → Host F → InForce → Bool → WorkClaim F
+SettingsShown host in_force explain status before after =
+    (after.files ≡ before.files) × InputsOpened host.inputs before.opened after.opened (settings_of in_force.config)
+    × (((f : Fault) × Unset host.inputs in_force.config f × NothingWritten before.streams.output after.streams.output
+    × EndsByLine explain (settings_line in_force.is_nearest (unwrap_or in_force.config []) f) f status
+    before.streams.errors after.streams.errors)
+    ⊎ ((settings : FileSettings) × SettingsOfFile host.inputs in_force.config settings
+    × PageShown in_force.config settings status before.streams after.streams))
+
+-- It isn't known which settings file is in force, and no input was opened; or its settings were shown or taken.
 abbrev pub RequestDone : {F : Type 0} → Host F → Request → WorkClaim F
 RequestDone host request status before after =
     ((why : Unfound) × IsUnfound host.inputs request.settings why × NothingDone host before after
     × TellsUnfound request.explain why status before.streams.errors after.streams.errors)
     ⊎ ((in_force : InForce) × IsInForce host.inputs request.settings in_force
-    × SettingsTaken host in_force request.explain request.command status before after)
+    × MatchBool request.shows_settings (SettingsShown host in_force request.explain status before after)
+    (SettingsTaken host in_force request.explain request.command status before after))
 
 -- What the words ask for was done; or they ask for help or are wrong, and nothing was opened.
 abbrev pub Follows : {F : Type 0} → Host F → List (List ℕ) → WorkClaim F

@@ -25,7 +25,7 @@ use Rattle.yf_program.specs.World.{OutputStreams}
 abbrev pub IsLeft : List ℕ → Type 0
 IsLeft text = IsVault text ⊎ (INPUT_LIMIT < length text)
 
--- What the formatting of a text in a style gives: the text of which `Headline` speaks; or none, since the text is left
+-- The result of formatting a text in a style: the text that `Headline` describes; or none, since the text is left
 -- alone, or refused.
 abbrev pub FormatsText : Style → List ℕ → Option (List ℕ) → Type 0
 FormatsText style text (Some new) = (IsLeft text → ⊥) × Headline text style new

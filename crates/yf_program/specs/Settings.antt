@@ -28,7 +28,7 @@ use Rattle.yf_settings.specs.declared.texts.Required.TheVariants as required
 
 -- ---- Which settings file is in force
 
--- The search begins in the current folder, whose path says how many folders are above it.
+-- The search begins in the current folder. Its path says how many folders are above it.
 abbrev pub SearchEnds : InputClaim → List ℕ → Discovery → Type 0
 SearchEnds claim current d =
     (names : List (List ℕ)) × Leads [] current (Some names) × IsNearest claim.shows (length names) d

@@ -22,7 +22,7 @@ pub record World (F : Type 0) : Type 0 where
 abbrev pub Holdings : Type 0
 Holdings = Input → Option (List ℕ)
 
--- What is known of the inputs.
+-- The facts that are known of the inputs.
 pub record InputClaim : Type 1 where
   -- holds if the contents of the inputs are known, and which of them fail
   pub tells : Type 0
@@ -66,12 +66,12 @@ RewriteClaim F = F → F → List ℕ → TextClaim → Result Unit (RewriteErro
 abbrev pub LinkClaim : Type 0 → Type 1
 LinkClaim F = F → List ℕ → List ℕ → Type 0
 
--- What is known of the system: of its inputs, and of the files that are rewritten.
+-- The facts that are known of the system: of its inputs, and of the files that are rewritten.
 pub record Host (F : Type 0) : Type 1 where
   pub inputs : InputClaim
   pub Rewrites : RewriteClaim F
 
--- What is done with one of several inputs: a relation of the exit status and the worlds before and after.
+-- The work on one of several inputs: a relation of the exit status and the worlds before and after.
 abbrev pub WorkClaim : Type 0 → Type 1
 WorkClaim F = ℕ → World F → World F → Type 0
 

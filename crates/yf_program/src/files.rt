@@ -79,10 +79,10 @@ pub enum NewText<'a> {
 
 /// Rewrites the file at this name with its new text. If the name is a link, the file to which it leads is rewritten.
 ///
-/// The function first reads and formats the whole text. If the new text equals the text, nothing else happens. Otherwise
-/// it writes a new file, whose name is the file's name with `.yamlfmt-new` after it, and renames it to the file. So at
-/// any moment, even if the run or the machine stops, the file holds its old text or exactly the new text. Every name
-/// except the new one has what it had.
+/// The function first reads and formats the whole text. If the new text equals the text, nothing else happens.
+/// Otherwise it writes a new file (its name is the file's name with `.yamlfmt-new` after it), and renames it to the
+/// file. So at any moment, even if the run or the machine stops, the file holds its old text or exactly the new text.
+/// Every name except the new one has what it had.
 ///
 /// # Errors
 ///
@@ -158,7 +158,7 @@ pub fn report_rewrite<E: Sink>(error: &RewriteError<Fault>, error_stream: &mut E
     }
 }
 
-// Writes the line of a file whose new text is not in place, or may not survive a crash. Returns the status.
+// Writes the line of a file if its new text is not in place, or may not survive a crash. Returns the status.
 fn report_unwritten<E: Sink>(left: ReplaceError, error_stream: &mut E) -> u8
     ensures status { result ≡ 3 }
     ensures line { WrittenOrFailed (stream_of E.contents E.has_failed error_stream.old)

@@ -27,7 +27,7 @@ pub trait Inputs {
     /// Standard input.
     type Standard: Source + Drop;
 
-    /// What is known of the inputs. Nothing is known of the system's own files.
+    /// The facts that are known of the inputs. None is known of the system's own files.
     ghost claim: { Self → InputClaim };
 
     /// The inputs that were opened so far, in order.

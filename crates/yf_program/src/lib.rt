@@ -25,6 +25,7 @@ pub mod rewrites;
 pub mod scope;
 pub mod search;
 pub mod server;
+pub mod settings_shown;
 pub mod sources;
 pub mod streams;
 pub mod task;

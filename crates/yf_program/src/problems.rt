@@ -200,7 +200,7 @@ fn refusal_words(fault: &Fault) -> &'static str
     }
 }
 
-// Returns the offset that is so many characters after another one, or the end of the text.
+// Returns the offset that is `count` characters after another one, or the end of the text.
 fn after_characters(text: &str, from: usize, count: usize) -> usize
     requires { IsCharBoundary text.now from }
     ensures { IsCharBoundary text.now result }

@@ -1,10 +1,11 @@
-//! What is done with a reader of an input, over any reader and any two streams; and the beginning and the end of a run.
+//! The work on a reader of an input, over any reader and any two streams; and the beginning and the end of a run.
 ghost use Rattle.std.specs.Prelude.{◌≡◌, true, IfErr, IfOk, IfSome, MatchResult, OnOk};
 ghost use Rattle.yf_rules.specs.Runs.ByteStream.{stream_of};
 ghost use Rattle.yf_rules.specs.Runs.Compare.{IsClean};
 ghost use Rattle.yf_rules.specs.Runs.Diffed.{DiffRun, RefusedDiff};
 ghost use Rattle.yf_rules.specs.Runs.Run.{Gave, Keeps};
-ghost use Rattle.yf_program.specs.Answer.{FileRefused, FileSets, Ran, RanCheck, RanEvents, RanFmt, RanFmtCheck, RanFmtDiff, UsageWritten, WrittenOut, name_of};
+ghost use Rattle.yf_program.specs.SettingsFile.{FileRefused, FileSets};
+ghost use Rattle.yf_program.specs.Answer.{Ran, RanCheck, RanEvents, RanFmt, RanFmtCheck, RanFmtDiff, UsageWritten, WrittenOut, name_of};
 ghost use Rattle.yf_rules.specs.Quoted.{quoted};
 
 use crate::each::name_of;
@@ -40,8 +41,8 @@ pub const FINDINGS: u8 = 1;
 /// The status if the words on the command line are refused.
 const USAGE: u8 = 3;
 
-/// Does a task with a reader of an input, and returns the status: that of the run, or that of the fault whose line was
-/// written to the stream of faults.
+/// Does a task with a reader of an input. Returns the status of the run, or that of the fault that was reported on the
+/// stream of faults.
 pub fn run<R: Source, W: Sink, E: Sink>(
     alloc: Global,
     task: &Task,
@@ -239,8 +240,8 @@ fn run_writer<R: Source, W: Sink, E: Sink>(
     }
 }
 
-/// Writes out what the writer holds back, unless it has failed, which was reported. Returns the status: that of the run,
-/// or that of a write that fails, whose line was written to the stream of faults.
+/// Writes out the bytes that the writer holds back, unless it has failed, which was reported. Returns the status of the
+/// run, or that of a write that fails and was reported on the stream of faults.
 pub fn written_out<W: Sink, E: Sink>(status: u8, streams: &mut Streams<W, E>) -> u8
     ensures { WrittenOut status result streams.old streams.new }
 {

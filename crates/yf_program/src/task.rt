@@ -1,19 +1,19 @@
-//! What is done with an input.
+//! The work on an input.
 
 use yf_forms::style::Style;
 use yf_lines::text::OwnedText;
 use yf_parts::run::PartTask;
 
-/// What is done with the text of an input.
+/// The work on the text of an input.
 #[derive(Drop)]
 pub enum Work {
     /// Its events are printed.
     Events,
-    /// What the rules find in it is printed. The rules of these names are left out.
+    /// The findings of the rules in it are printed. The rules of these names are left out.
     Check(Vec<OwnedText>),
     /// Its formatting is printed.
     Print,
-    /// The place is printed where it first differs from its formatting.
+    /// The first position at which it differs from its formatting is printed.
     Compare,
     /// The diff of it and its formatting is printed.
     Diff,
@@ -23,10 +23,10 @@ pub enum Work {
     Serve,
 }
 
-/// What is done with an input, and how.
+/// The work on an input, and how it is done.
 #[derive(Drop)]
 pub struct Task {
-    /// What is done.
+    /// The work.
     pub work: Work,
     /// The style of the task.
     pub style: Style,

@@ -1,10 +1,11 @@
 //! A request with the settings that are in force.
 ghost use Rattle.std.specs.Prelude.{◌≡◌, [], unwrap_or, MatchResult};
 ghost use Rattle.yf_rules.specs.Runs.ByteStream.{NothingWritten, WrittenOrFailed, stream_of};
-ghost use Rattle.yf_program.specs.Answer.{DoesIn, InputsOpened, SettingsOfFile, Unset, host_in, settings_of};
+ghost use Rattle.yf_program.specs.Answer.{DoesIn, InputsOpened, host_in};
 ghost use Rattle.yf_program.specs.Report.{fault_status};
-ghost use Rattle.yf_program.specs.Run.{DoesWith, EndsByLine, RequestDone, SettingsTaken, TellsUnfound};
+ghost use Rattle.yf_program.specs.Run.{DoesWith, EndsByLine, RequestDone, SettingsShown, SettingsTaken, TellsUnfound};
 ghost use Rattle.yf_program.specs.Settings.{scope_of, settings_line};
+ghost use Rattle.yf_program.specs.SettingsFile.{SettingsOfFile, Unset, settings_of};
 ghost use Rattle.yf_program.specs.World.{StillKnown, world_in};
 
 use crate::answer::do_command;
@@ -15,6 +16,7 @@ use crate::program::read_settings;
 use crate::report::{report, report_named};
 use crate::scope::Scope;
 use crate::search::{InForce, Unfound, report_unfound, settings_in_force};
+use crate::settings_shown::show_settings;
 use crate::sources::Sources;
 use crate::streams::Streams;
 use crate::version::report_version;
@@ -39,11 +41,17 @@ pub fn do_request<I: Inputs, S: Links, W: Sink, E: Sink>(
 {
     let Request {
         settings,
+        shows_settings,
         explain,
         command,
     } = request;
     match settings_in_force(alloc, settings, &sources.inputs) {
-        Ok(in_force) => do_in_force(alloc, in_force, explain, command, sources, streams),
+        Ok(in_force) => {
+            if shows_settings {
+                return show_in_force(alloc, &in_force, explain, sources, streams);
+            }
+            do_in_force(alloc, in_force, explain, command, sources, streams)
+        }
         Err(unfound) => stop_unfound(alloc, explain, &sources.inputs, &unfound, streams),
     }
 }
@@ -60,6 +68,32 @@ fn stop_unfound<I: Inputs, W: Sink, E: Sink>(
     ensures errors { TellsUnfound explain unfound.now result streams.old.errors streams.new.errors }
 {
     report_unfound(alloc, explain, inputs, unfound, &mut streams.errors)
+}
+
+// Prints the settings of the file in force. Returns the status.
+fn show_in_force<I: Inputs, S: Links, W: Sink, E: Sink>(
+    alloc: Global,
+    in_force: &InForce,
+    explain: bool,
+    sources: &mut Sources<I, S>,
+    streams: &mut Streams<W, E>,
+) -> u8
+    ensures { SettingsShown (host_in I.claim S.tells S.state S.leads sources.old) in_force.now explain result
+        (world_in I.opened sources.old streams.old) (world_in I.opened sources.new streams.new) }
+{
+    let mut bytes = Vec::new(alloc);
+    match settings_set(alloc, &in_force.config, &mut sources.inputs, &mut bytes) {
+        Ok(settings) => show_settings(alloc, &in_force.config, settings, streams),
+        Err(fault) => report_unset(
+            alloc,
+            explain,
+            in_force,
+            &sources.inputs,
+            bytes.as_slice(),
+            &fault,
+            &mut streams.errors,
+        ),
+    }
 }
 
 // Does a command with the settings of the file in force.

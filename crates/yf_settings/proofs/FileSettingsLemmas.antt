@@ -8,7 +8,7 @@ use Rattle.toml.specs.Parse.{parse_document, lines}
 use Rattle.yf_lines.specs.declared.fault.Fault.{Fault}
 use Rattle.yf_lines.specs.declared.fault.Fault.TheVariants.{NotUtf8, Syntax, TooDeep, UnknownHandle, UnknownAlias, RepeatedDirective, BadVersion, EscapeValue, Memory, ReadFailed, WriteFailed, Config}
 use Rattle.yf_excludes.specs.declared.pattern.Pattern.{Pattern}
-use Rattle.yf_settings.specs.FileSettings.{HasSettings, RefusesKey, RefusesFile, RefusesTable, SettingsOfTable, TextsAreRight}
+use Rattle.yf_settings.specs.FileSettings.{HasSettings, KeepsSettings, RefusesKey, RefusesFile, RefusesTable, TextsAreRight}
 use Rattle.yf_settings.specs.declared.file_settings.FileSettings.{FileSettings}
 use Rattle.yf_settings.specs.declared.texts.Required.{Required}
 use Rattle.yf_settings.specs.Settings.{IsLeastWrong, IsRight, IsWrong, RefusesSettings}
@@ -93,10 +93,10 @@ none_wrong version patterns table w right =
 
 -- A text has the settings of its table, or is refused for the table's fault.
 pub text_settings : (text : List ℕ) (table : Members) (r : Result FileSettings Fault)
-    → parse_document text ≡ Some table → MatchResult r (SettingsOfTable table) (RefusesTable table)
+    → parse_document text ≡ Some table → MatchResult r (KeepsSettings table) (RefusesTable table)
     → MatchResult r (HasSettings text) (RefusesFile text)
 text_settings text table (Ok settings) read has =
-    subst (λ o. IsSomeAnd o (λ t. SettingsOfTable t settings)) (sym read) has
+    subst (λ o. IsSomeAnd o (λ t. KeepsSettings t settings)) (sym read) has
 text_settings text table (Err fault) read refused = refuses_text text table fault read refused
 
 -- The values of both keys, given what was read from them.

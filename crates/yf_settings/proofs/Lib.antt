@@ -4,3 +4,5 @@ pub mod SettingsLemmas
 pub mod FileSettingsLemmas
 -- `patterns_at`, `required_at`
 pub mod TextsLemmas
+-- `settings_page`
+pub mod PageLemmas

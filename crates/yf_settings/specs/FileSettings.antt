@@ -3,6 +3,7 @@ use Rattle.std.specs.Prelude.{◌≡◌, ◌≢◌, ℕ, Bool, true, List, [], c
 use Rattle.toml.specs.Data.{Members, no_members, get_member}
 use Rattle.toml.specs.Parse.{parse_document}
 use Rattle.toml.specs.Errors.{IsBlank}
+use Rattle.toml.specs.View.{table_view}
 use Rattle.yf_excludes.specs.declared.pattern.Pattern.{Pattern}
 use Rattle.yf_lines.specs.declared.fault.Fault.{Fault}
 use Rattle.yf_lines.specs.declared.fault.Fault.TheVariants.{Config, Memory}
@@ -18,6 +19,11 @@ pub record SettingsOfTable (table : Members) (settings : FileSettings) : Type 0 
   pub style : StyleOfTable table settings.style
   pub required : Requires (get_member (codes "required_version") table) settings.required
   pub exclude : Excludes (get_member (codes "exclude") table) settings.exclude.items
+
+-- The table has these settings, which keep the table.
+pub record KeepsSettings (table : Members) (settings : FileSettings) : Type 0 where
+  pub has : SettingsOfTable table settings
+  pub kept : table_view settings.table ≡ table
 
 -- Whether the values of `required_version` and `exclude` are right.
 pub record TextsAreRight (table : Members) (version patterns : Bool) : Type 0 where
@@ -46,10 +52,11 @@ pub record AreDefaults (settings : FileSettings) : Type 0 where
   pub style : IsHouse settings.style
   pub required : settings.required ≡ Any
   pub exclude : settings.exclude.items ≡ []
+  pub table : table_view settings.table ≡ no_members
 
--- The text is TOML, and its table has these settings.
+-- The text is TOML, and its table has these settings, which keep the table.
 abbrev pub HasSettings : List ℕ → FileSettings → Type 0
-HasSettings text settings = IsSomeAnd (parse_document text) (λ table. SettingsOfTable table settings)
+HasSettings text settings = IsSomeAnd (parse_document text) (λ table. KeepsSettings table settings)
 
 -- The key is empty if the text is not TOML. Otherwise it is the least wrong key. Memory is refused only if the text has
 -- a key.

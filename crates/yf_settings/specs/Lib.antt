@@ -1,3 +1,4 @@
 pub mod Settings
 pub mod Texts
 pub mod FileSettings
+pub mod Page

@@ -85,7 +85,7 @@ abbrev pub IsRight : Bool → Bool → Members → List ℕ → Type 0
 IsRight version patterns table key =
     (value : Data) → get_member key table ≡ Some value → is_right version patterns key value ≡ true
 
--- A key of the table that is not a setting, or whose value the setting can't have.
+-- A key of the table that is not a setting, or has a value that the setting can't have.
 abbrev pub IsWrong : Bool → Bool → Members → List ℕ → Type 0
 IsWrong version patterns table key =
     (value : Data) × (get_member key table ≡ Some value) × (is_right version patterns key value ≡ false)

@@ -2,7 +2,7 @@
 ghost use Rattle.std.specs.Prelude.{List, ℕ, MatchResult, codes};
 ghost use Rattle.toml.specs.Data.{get_member};
 ghost use Rattle.toml.specs.View.{table_view};
-ghost use Rattle.yf_settings.specs.FileSettings.{AreDefaults, HasSettings, RefusesFile, RefusesTable, SettingsOfTable, TextsAreRight};
+ghost use Rattle.yf_settings.specs.FileSettings.{AreDefaults, HasSettings, KeepsSettings, RefusesFile, RefusesTable, TextsAreRight};
 ghost use Rattle.yf_settings.specs.Settings.{IsWrong};
 ghost use Rattle.yf_settings.specs.Texts.{Excludes, Requires};
 
@@ -23,6 +23,8 @@ pub struct FileSettings {
     pub exclude: Vec<Pattern>,
     /// The versions of the program that the file requires.
     pub required: Required,
+    /// The table of the file's text. Without a settings file it is empty.
+    pub table: Table,
 }
 
 impl FileSettings {
@@ -34,6 +36,7 @@ impl FileSettings {
             style: Style::house(),
             exclude: Vec::new(alloc),
             required: Required::Any,
+            table: Table::new(alloc),
         }
     }
 }
@@ -53,7 +56,7 @@ pub fn settings_from_toml(alloc: Global, text: &str) -> Result<FileSettings, Fau
     ensures { MatchResult result (HasSettings text.now) (RefusesFile text.now) }
 {
     match toml::table_from_str(alloc, text) {
-        Ok(table) => settings_of(alloc, &table),
+        Ok(table) => settings_of(alloc, table),
         Err(error) => {
             if error.is_memory() {
                 return Err(Fault::Memory);
@@ -64,25 +67,25 @@ pub fn settings_from_toml(alloc: Global, text: &str) -> Result<FileSettings, Fau
 }
 
 // Returns the settings of a table.
-fn settings_of(alloc: Global, table: &Table) -> Result<FileSettings, Fault>
-    ensures { MatchResult result (SettingsOfTable (table_view table.now)) (RefusesTable (table_view table.now)) }
+fn settings_of(alloc: Global, table: Table) -> Result<FileSettings, Fault>
+    ensures { MatchResult result (KeepsSettings (table_view table)) (RefusesTable (table_view table)) }
 {
-    let required = match required_at(alloc, table) {
+    let required = match required_at(alloc, &table) {
         Ok(required) => required,
         Err(_) => return Err(Fault::Memory),
     };
-    let exclude = match patterns_at(alloc, table) {
+    let exclude = match patterns_at(alloc, &table) {
         Ok(exclude) => exclude,
         Err(_) => return Err(Fault::Memory),
     };
     match required {
         Some(required) => match exclude {
             Some(exclude) => settings_with(alloc, table, required, exclude),
-            None => Err(refusal(alloc, table, true, false)),
+            None => Err(refusal(alloc, &table, true, false)),
         },
         None => match exclude {
-            Some(_) => Err(refusal(alloc, table, false, true)),
-            None => Err(refusal(alloc, table, false, false)),
+            Some(_) => Err(refusal(alloc, &table, false, true)),
+            None => Err(refusal(alloc, &table, false, false)),
         },
     }
 }
@@ -90,20 +93,21 @@ fn settings_of(alloc: Global, table: &Table) -> Result<FileSettings, Fault>
 // Returns the settings of a table with right values of `required_version` and `exclude`.
 fn settings_with(
     alloc: Global,
-    table: &Table,
+    table: Table,
     required: Required,
     exclude: Vec<Pattern>,
 ) -> Result<FileSettings, Fault>
-    requires required_read { Requires (get_member (codes "required_version") (table_view table.now)) required }
-    requires exclude_read { Excludes (get_member (codes "exclude") (table_view table.now)) exclude.items }
-    ensures { MatchResult result (SettingsOfTable (table_view table.now)) (RefusesTable (table_view table.now)) }
+    requires required_read { Requires (get_member (codes "required_version") (table_view table)) required }
+    requires exclude_read { Excludes (get_member (codes "exclude") (table_view table)) exclude.items }
+    ensures { MatchResult result (KeepsSettings (table_view table)) (RefusesTable (table_view table)) }
 {
-    match least_wrong_key(table, true, true) {
+    match least_wrong_key(&table, true, true) {
         Some(key) => Err(wrong_key(alloc, key)),
         None => Ok(FileSettings {
-            style: style_of(table),
+            style: style_of(&table),
             exclude,
             required,
+            table,
         }),
     }
 }

@@ -20,19 +20,19 @@ use yf_lines::invisible::Invisible;
 use yf_lines::quotes::Quotes;
 use yf_lines::text::OwnedText;
 
-const INDENT: &str = "indent";
+pub(crate) const INDENT: &str = "indent";
 
-const MAX_LINE: &str = "max_line";
+pub(crate) const MAX_LINE: &str = "max_line";
 
-const QUOTES: &str = "quotes";
+pub(crate) const QUOTES: &str = "quotes";
 
-const SEQ_INDENT: &str = "seq_indent";
+pub(crate) const SEQ_INDENT: &str = "seq_indent";
 
-const DOCUMENT_START: &str = "document_start";
+pub(crate) const DOCUMENT_START: &str = "document_start";
 
-const COMMENTS: &str = "comments";
+pub(crate) const COMMENTS: &str = "comments";
 
-const INVISIBLE: &str = "invisible";
+pub(crate) const INVISIBLE: &str = "invisible";
 
 /// Returns the style that a settings text sets. The text is a TOML document with the keys `indent` (an integer from 2
 /// to 8), `max_line` (an integer from 40 to 1000), `quotes` (`"double"` or `"single"`), `seq_indent` (a boolean),
@@ -83,8 +83,8 @@ pub(crate) fn wrong_key(alloc: Global, key: &str) -> Fault
     }
 }
 
-// Returns the least key of the table that is not a setting, or whose value the setting can't have. (version, patterns:
-// whether the values of `required_version` and `exclude` are right)
+// Returns the least key of the table that is not a setting, or has a value that the setting can't have. (version,
+// patterns: whether the values of `required_version` and `exclude` are right)
 pub(crate) fn least_wrong_key<'t>(
     table: &'t Table,
     version: bool,

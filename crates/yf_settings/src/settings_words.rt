@@ -28,10 +28,9 @@ const ALLOWED: [(&str, &str); 9] = [
 ];
 
 /// The explanation of any other key.
-const NO_KEY: &str =
-    "keys: comments document_start exclude indent invisible max_line quotes required_version seq_indent";
+const NO_KEY: &str = "there is no such setting; the manual (`man yamlfmt`) lists them";
 
-/// Returns the explanation of the bytes of a settings file whose `key` is refused. An empty key means that the text is
+/// Returns the explanation of the bytes of a settings file with a refused `key`. An empty key means that the text is
 /// not TOML.
 ///
 /// # Errors
@@ -57,7 +56,7 @@ pub fn explain_settings(alloc: Global, bytes: &[u8], key: &str) -> Result<Page, 
     }
 }
 
-// Returns the allowed values of a key, or the names of all keys if there is no such key.
+// Returns the allowed values of a key, or that there is no such key.
 fn allowed(key: &str) -> &'static str {
     for (name, words) in &ALLOWED {
         if *name == key {

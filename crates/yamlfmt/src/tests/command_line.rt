@@ -181,6 +181,7 @@ Arguments:
 Options:
       --config <FILE>  Read the settings from this TOML file
       --no-config      Use the default settings, and look for no settings file
+      --show-settings  Print the settings in force as TOML, and do nothing else
       --explain        Explain errors and findings on standard error
   -h, --help           Print help
 ",
@@ -199,6 +200,7 @@ Arguments:
 Options:
       --config <FILE>    Read the settings from this TOML file
       --no-config        Use the default settings, and look for no settings file
+      --show-settings    Print the settings in force as TOML, and do nothing else
       --explain          Explain errors and findings on standard error
       --without <RULES>  Skip the rules with these ids (comma-separated)
   -h, --help             Print help
@@ -215,6 +217,7 @@ Usage: yamlfmt server [OPTIONS]
 Options:
       --config <FILE>  Read the settings from this TOML file
       --no-config      Use the default settings, and look for no settings file
+      --show-settings  Print the settings in force as TOML, and do nothing else
       --stdio          Accepted for editors; changes nothing
   -h, --help           Print help
 ",

@@ -77,7 +77,7 @@ fn has_text(rt: &HostRuntime, text: &str) -> bool {
 type Row = (&'static str, u32, bool, Step, Answer, &'static str);
 
 /// Returns whether rewriting a file has this result, and both paths then have the right contents. The file keeps its
-/// permissions. A file whose text stays is still the same inode.
+/// permissions. If its text stays, it is still the same inode.
 fn ends_with(rt: &HostRuntime, row: &Row) -> io::Result<bool> {
     let (old, mode, is_left, fails, wanted, new) = *row;
     make_folder(rt, "yamlfmt_rewrites")?;

@@ -111,7 +111,7 @@ const AS_SINGLE: &str = "---\na: 'x'  # c\n";
 /// The line of a file that is left out.
 const LEFT_OUT: &str = "left out: the settings exclude it\n";
 
-pub static ROWS: [Row; 32] = [
+pub static ROWS: [Row; 36] = [
     // which settings file is in force
     (&[A], "/w/d", "fmt a.yaml", 0, AS_DOUBLE, "", "a.yaml "),
     (
@@ -353,6 +353,43 @@ pub static ROWS: [Row; 32] = [
         AS_DOUBLE,
         "",
         ".yamlfmt.toml a.yaml ",
+    ),
+    // the settings are shown
+    (
+        &[OTHER],
+        "/w/d",
+        "check --show-settings --config other.toml a.yaml",
+        0,
+        "# other.toml\ncomments = \"next\"\ndocument_start = \"always\"\nexclude = [\"*.yaml\"]\nindent = 2\ninvisible = \"plain\"\nmax_line = 100\nquotes = \"single\"\nseq_indent = true\n",
+        "",
+        "other.toml ",
+    ),
+    (
+        &[THIS],
+        "/w/d",
+        "fmt --show-settings",
+        0,
+        "# .yamlfmt.toml\ncomments = \"next\"\ndocument_start = \"always\"\nindent = 2\ninvisible = \"plain\"\nmax_line = 100\nquotes = \"double\"\nrequired_version = \">=0.2, <0.3\"\nseq_indent = true\n",
+        "",
+        ".yamlfmt.toml ",
+    ),
+    (
+        &[SINGLE],
+        "/w/d",
+        "events --no-config --show-settings a.yaml",
+        0,
+        "# no settings file\ncomments = \"next\"\ndocument_start = \"always\"\nindent = 2\ninvisible = \"plain\"\nmax_line = 100\nquotes = \"double\"\nseq_indent = true\n",
+        "",
+        "",
+    ),
+    (
+        &[FAULTY],
+        "/w/d",
+        "server --show-settings",
+        3,
+        "",
+        ".yamlfmt.toml: config: indent\n",
+        ".yamlfmt.toml ",
     ),
     // paths from the folder of the settings file
     (

@@ -15,7 +15,7 @@ use yf_program::task::{Task, Work};
 /// The first and the last line of a range.
 type Range = (usize, usize);
 
-/// Lines, how the result is shown, a text, the status, and what is shown or reported.
+/// Lines, how the result is shown, a text, the status, and the output or the report.
 type Row = (&'static [Range], Show, &'static str, u8, &'static str);
 
 /// Lines 2, 4 and 6 differ from the formatting.
@@ -138,7 +138,7 @@ static ROWS: [Row; 27] = [
     ),
     // an empty text is its own formatting
     (&[(1, 1)], Show::Text, "", 0, ""),
-    // where the text first differs from the result
+    // the first position at which the text differs from the result
     (&[(4, 6)], Show::Place, THREE, 1, "4:4 not formatted\n"),
     (&[(1, 1), (3, 3)], Show::Place, THREE, 0, ""),
     // how it differs

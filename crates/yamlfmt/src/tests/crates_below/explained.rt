@@ -155,7 +155,7 @@ fn tells_bytes(rt: HostRuntime) {
     assert!(rt; !tells_byte(rt.alloc(), b"a", 1, ""));
 }
 
-/// The explanations of an alias whose name may be an anchor's name, and of one that is more likely a text.
+/// The explanations of an alias that may name an anchor, and of one that is more likely a text.
 const NO_ANCHOR: &str = "  no anchor with this name comes before it in this document\n";
 
 const NO_ALIAS: &str = "  no anchor has this name: quote a text that begins with `*`\n";

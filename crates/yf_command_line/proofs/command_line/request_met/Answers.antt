@@ -9,5 +9,6 @@ returns c = record {
   named = search rules;
   command = c.in-Ok.ensures;
   settings = c.in-Ok-settings_met.ensures;
+  shows = c.is_given.ensures;
   explain = c.is_explained.ensures;
 }

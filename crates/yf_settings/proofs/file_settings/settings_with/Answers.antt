@@ -5,6 +5,6 @@ use Rattle.yf_settings.proofs.file_settings.settings_with.Goals as goal
 
 pub returns-in-Some : goal.returns-in-Some
 returns-in-Some c =
-    refuses_key true true (table_view c.args.table.now) _ _
+    refuses_key true true (table_view c.args.table) _ _
     (both_right _ c.args.required c.args.exclude.items c.requires.required_read c.requires.exclude_read)
     c.in-Some.ensures c.wrong_key.ensures
