@@ -79,8 +79,8 @@ def links(page, text):
 
 def words_of_code():
     """All words of the code, the definitions, the proofs and the scripts."""
-    kinds = ('crates/**/*.rt', 'crates/**/*.antt', 'crates/**/*.edit', 'bench/*', 'dist/*', 'hooks/*', 'crates.txt',
-             'docs/proving/*.txt')
+    kinds = ('crates/**/*.rt', 'crates/**/*.antt', 'crates/**/*.edit', 'bench/*', 'contrib/*', 'dist/*', 'hooks/*',
+             'crates.txt', 'docs/proving/*.txt')
     found = set()
     for kind in kinds:
         for path in glob.glob('%s/%s' % (TOP, kind), recursive=True):
@@ -99,7 +99,7 @@ def names(text, words):
     """The names in backticks that do not occur in the repository."""
     for name in dict.fromkeys(re.findall(r'(?<!`)`([^`\n]+)`(?!`)', prose(text))):
         if FILE.fullmatch(name) and not re.search(r'\b[A-Z]{1,6}\b(?!\.md)|^\d|^/|^\.\.?/', name):
-            known = re.match(r'(crates|docs|bench|dist|hooks|specs|proofs|src|must-fail|\w+\.(rt|antt|py))\b', name)
+            known = re.match(r'(crates|docs|bench|contrib|dist|hooks|specs|proofs|src|must-fail|\w+\.(rt|antt|py))\b', name)
             is_example = name.rstrip('/').endswith('/out') or name.split('/')[-1].split('.')[0] in FOREIGN
             if known and not is_example and not is_there(name.rstrip('/')):
                 yield 'no file `%s`' % name

@@ -1,10 +1,9 @@
 //! The settings in force, as `--show-settings` prints them.
 ghost use Rattle.std.specs.Prelude.{◌++◌};
-ghost use Rattle.toml.specs.View.{table_view};
 ghost use Rattle.yf_program.specs.Answer.{UsageWritten};
 ghost use Rattle.yf_program.specs.Run.{PageShown, file_heading, heading};
 ghost use Rattle.yf_rules.specs.Runs.ByteStream.{WriteEnds, stream_of};
-ghost use Rattle.yf_settings.specs.FileSettings.{SettingsOfTable};
+ghost use Rattle.yf_settings.specs.FileSettings.{AreKept};
 
 use crate::report::report;
 use crate::streams::Streams;
@@ -25,8 +24,7 @@ pub fn show_settings<W: Sink, E: Sink>(
     settings: FileSettings,
     streams: &mut Streams<W, E>,
 ) -> u8
-    ensures { SettingsOfTable (table_view settings.table) settings
-        → PageShown config.now settings result streams.old streams.new }
+    ensures { AreKept settings → PageShown config.now settings result streams.old streams.new }
 {
     match settings_page(alloc, settings) {
         Ok(page) => show_page(config, page.as_str(), streams),

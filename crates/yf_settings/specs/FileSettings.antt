@@ -25,6 +25,10 @@ pub record KeepsSettings (table : Members) (settings : FileSettings) : Type 0 wh
   pub has : SettingsOfTable table settings
   pub kept : table_view settings.table ≡ table
 
+-- The settings are those of the table that they keep.
+abbrev pub AreKept : FileSettings → Type 0
+AreKept settings = SettingsOfTable (table_view settings.table) settings
+
 -- Whether the values of `required_version` and `exclude` are right.
 pub record TextsAreRight (table : Members) (version patterns : Bool) : Type 0 where
   pub required : MatchBool version

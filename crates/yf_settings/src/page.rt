@@ -2,7 +2,7 @@
 ghost use Rattle.std.specs.Prelude.{◌≡◌, ◌∷◌, IfOk, OnOk, [], codes, string_bytes};
 ghost use Rattle.toml.specs.Data.{string};
 ghost use Rattle.toml.specs.View.{table_view, view};
-ghost use Rattle.yf_settings.specs.FileSettings.{SettingsOfTable};
+ghost use Rattle.yf_settings.specs.FileSettings.{AreKept};
 ghost use Rattle.yf_settings.specs.Page.{Completes, ShowsSettings, house_values};
 
 use crate::file_settings::FileSettings;
@@ -19,8 +19,7 @@ use toml::{Table, Value};
 ///
 /// `AllocError` if memory is refused.
 pub fn settings_page(alloc: Global, settings: FileSettings) -> Result<String, AllocError>
-    ensures { IfOk result (λ page. SettingsOfTable (table_view settings.table) settings
-        → ShowsSettings settings (string_bytes page)) }
+    ensures { IfOk result (λ page. AreKept settings → ShowsSettings settings (string_bytes page)) }
 {
     let FileSettings { table, .. } = settings;
     let table = completed(alloc, table)?;
