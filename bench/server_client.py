@@ -4,164 +4,18 @@
     bench/server_client.py PROGRAM [--times] [--edits N] [--seed N]
 
 PROGRAM is the built program (crates/yamlfmt/out/yamlfmt). The script opens documents, edits them at random, formats
-them, and compares each answer with a model of its own: the text that the edits must give, and what PROGRAM itself prints
-for that text by `fmt` and `check`. It asks for the edits, the code actions and the problems in each way that there is.
-Then it sends what a broken client sends, and runs a session with too little memory. With --times it measures how long an
-edit in a document of 1 MB and of 16 MB takes until its diagnostics are there.
+them, and compares each answer with a model (bench/server_model.py): the text that the edits must give, and what PROGRAM
+itself prints for that text by `fmt` and `check`. It asks for the edits, the code actions and the problems in each way
+that there is. Then it sends what a broken client sends, and runs a session with too little memory. With --times it
+measures how long an edit in a document of 1 MB and of 16 MB takes until its diagnostics are there.
 """
 import argparse
-import json
 import os
 import random
-import resource
-import subprocess
 import sys
 import time
 
-NAME = 'file:///tmp/one.yaml'
-CAPABILITIES = {
-    'textDocumentSync': {'openClose': True, 'change': 2},
-    'documentFormattingProvider': True,
-    'codeActionProvider': {'codeActionKinds': ['source.fixAll.yamlfmt']},
-    'diagnosticProvider': {'interFileDependencies': False, 'workspaceDiagnostics': False},
-}
-
-
-class Server:
-    """A running server, and its pipes."""
-
-    def __init__(self, program, words=('server',), limit=None):
-        """limit: how many bytes of memory it may have"""
-        refuse = (lambda: resource.setrlimit(resource.RLIMIT_AS, (limit, limit))) if limit else None
-        self.process = subprocess.Popen([program, *words], stdin=subprocess.PIPE, stdout=subprocess.PIPE,
-                                        stderr=subprocess.PIPE, preexec_fn=refuse)
-        self.next_id = 0
-
-    def write(self, data):
-        self.process.stdin.write(data)
-        self.process.stdin.flush()
-
-    def send(self, message):
-        body = json.dumps(message, ensure_ascii=False).encode()
-        self.write(b'Content-Length: %d\r\n\r\n' % len(body) + body)
-
-    def notify(self, method, params=None):
-        message = {'jsonrpc': '2.0', 'method': method}
-        if params is not None:
-            message['params'] = params
-        self.send(message)
-
-    def receive(self):
-        length = None
-        while True:
-            line = self.process.stdout.readline()
-            if not line:
-                return None
-            if line == b'\r\n':
-                break
-            name, value = line.split(b':', 1)
-            if name.lower() == b'content-length':
-                length = int(value)
-        return json.loads(self.process.stdout.read(length))
-
-    def request(self, method, params=None):
-        """Sends a request and returns its response, and the notifications before it."""
-        self.next_id += 1
-        message = {'jsonrpc': '2.0', 'id': self.next_id, 'method': method}
-        if params is not None:
-            message['params'] = params
-        self.send(message)
-        before = []
-        while True:
-            answer = self.receive()
-            if answer is None or 'id' in answer:
-                return answer, before
-            before.append(answer)
-
-    def end(self):
-        """Closes the input, and returns the status and what was written since."""
-        output, errors = self.process.communicate(timeout=60)
-        return self.process.returncode, output, errors
-
-    def open(self, text, version=1, uri=NAME):
-        self.notify('textDocument/didOpen', {'textDocument': {
-            'uri': uri, 'languageId': 'yaml', 'version': version, 'text': text}})
-
-    def change(self, version, changes, uri=NAME):
-        self.notify('textDocument/didChange', {'textDocument': {'uri': uri, 'version': version},
-                                               'contentChanges': changes})
-
-
-def initialize(server, encodings=None):
-    capabilities = {'general': {'positionEncodings': encodings}} if encodings else {}
-    answer, _ = server.request('initialize', {'processId': None, 'rootUri': None, 'capabilities': capabilities})
-    server.notify('initialized', {})
-    return answer['result']['capabilities']
-
-
-# ---- the model: positions in UTF-16, lines that end with LF, CR LF or CR
-
-def lines_of(text):
-    lines, start, at = [], 0, 0
-    while at < len(text):
-        if text.startswith('\r\n', at):
-            lines.append((start, at))
-            at += 2
-            start = at
-        elif text[at] in '\r\n':
-            lines.append((start, at))
-            at += 1
-            start = at
-        else:
-            at += 1
-    lines.append((start, len(text)))
-    return lines
-
-
-def units(character, encoding):
-    if encoding == 'utf-32':
-        return 1
-    if encoding == 'utf-8':
-        return len(character.encode())
-    return 2 if ord(character) > 0xFFFF else 1
-
-
-def offset_of(text, position, encoding):
-    lines = lines_of(text)
-    if position['line'] >= len(lines):
-        return len(text)
-    start, end = lines[position['line']]
-    left = position['character']
-    at = start
-    while at < end and left >= units(text[at], encoding):
-        left -= units(text[at], encoding)
-        at += 1
-    return at
-
-
-def position_of(text, offset, encoding):
-    lines = lines_of(text)
-    number = max(k for k, line in enumerate(lines) if line[0] <= offset)
-    start, end = lines[number]
-    return {'line': number, 'character': sum(units(c, encoding) for c in text[start:min(offset, end)])}
-
-
-def apply(text, edits, encoding):
-    """The text after text edits, which are all of the same text."""
-    spans = [(offset_of(text, e['range']['start'], encoding), offset_of(text, e['range']['end'], encoding),
-              e['newText']) for e in edits]
-    for before, after in zip(spans, spans[1:]):
-        assert before[1] <= after[0], 'edits overlap'
-    for start, end, new in reversed(spans):
-        text = text[:start] + new + text[end:]
-    return text
-
-
-# ---- what the program says of a text elsewhere
-
-def run(program, command, text):
-    done = subprocess.run([program, *command], input=text.encode(), capture_output=True, check=False)
-    return done.returncode, done.stdout.decode(), done.stderr.decode()
+from server_model import CAPABILITIES, NAME, Server, apply, initialize, offset_of, position_of, run
 
 
 def code_actions(server, context):
@@ -187,6 +41,50 @@ def check_actions(server, text, formatted, encoding):
         assert apply(text, action['edit']['changes'][NAME], encoding) == formatted, 'the action gives another text'
 
 
+def lines_formatted(server, text, start, end, encoding):
+    """The text in which the server formats the lines of a range, which is given by offsets."""
+    answer, before = server.request('textDocument/rangeFormatting', {
+        'textDocument': {'uri': NAME}, 'options': {'tabSize': 8, 'insertSpaces': False},
+        'range': {'start': position_of(text, start, encoding), 'end': position_of(text, end, encoding)}})
+    assert before == [], before
+    return None if answer['result'] is None else apply(text, answer['result'], encoding)
+
+
+def check_lines(program, server, text, formatted, encoding):
+    """Formatting some lines keeps what the formatting is. (formatted: None if the text is refused)"""
+    for start, end in ((0, len(text)), (0, 0), (len(text) // 3, 2 * len(text) // 3), (len(text), len(text))):
+        part = lines_formatted(server, text, start, end, encoding)
+        if formatted is None:
+            assert part is None, 'a refused text is formatted'
+            continue
+        assert run(program, ['fmt'], part)[1] == formatted, 'the lines give another text'
+        if (start, end) == (0, len(text)):
+            assert part == formatted, 'the lines are not all lines'
+
+
+def some_lines(server):
+    """Ranges of one text, and what becomes of it. A range that ends at the start of a line does not have that line."""
+    text = '---\na:   1\nx: 1\nb:   \U0001F600\ny: 1\nc:   3\n'
+    server.change(3, [{'text': text}])
+    server.receive()
+    for start, end, part in (
+            ((3, 0), (3, 0), '---\na:   1\nx: 1\nb: \U0001F600\ny: 1\nc:   3\n'),
+            ((3, 5), (3, 7), '---\na:   1\nx: 1\nb: \U0001F600\ny: 1\nc:   3\n'),
+            ((1, 0), (3, 0), '---\na: 1\nx: 1\nb:   \U0001F600\ny: 1\nc:   3\n'),
+            ((1, 3), (3, 1), '---\na: 1\nx: 1\nb: \U0001F600\ny: 1\nc:   3\n'),
+            ((3, 0), (9, 9), '---\na:   1\nx: 1\nb: \U0001F600\ny: 1\nc: 3\n'),
+            ((5, 1), (3, 0), '---\na:   1\nx: 1\nb:   \U0001F600\ny: 1\nc: 3\n'),
+            ((0, 0), (0, 3), text), ((2, 0), (3, 0), text), ((6, 0), (6, 0), text), ((7, 0), (8, 0), text)):
+        answer, _ = server.request('textDocument/rangeFormatting', {
+            'textDocument': {'uri': NAME}, 'options': {'tabSize': 2, 'insertSpaces': True},
+            'range': {'start': {'line': start[0], 'character': start[1]},
+                      'end': {'line': end[0], 'character': end[1]}}})
+        assert apply(text, answer['result'], 'utf-16') == part, (start, end, answer)
+    for params in ({}, {'range': None}, {'range': {'start': {'line': 0, 'character': 0}}}):
+        answer, _ = server.request('textDocument/rangeFormatting', {'textDocument': {'uri': NAME}, **params})
+        assert answer['error']['code'] == -32602, answer
+
+
 def check_document(program, server, text, encoding):
     """What an open document gets on request agrees with `fmt` and `check`."""
     answer, before = server.request('textDocument/formatting', {
@@ -201,6 +99,7 @@ def check_document(program, server, text, encoding):
     saved, _ = server.request('textDocument/willSaveWaitUntil', {'textDocument': {'uri': NAME}, 'reason': 1})
     assert saved['result'] == answer['result'], 'other edits before a save'
     check_actions(server, text, formatted if status == 0 else None, encoding)
+    check_lines(program, server, text, formatted if status == 0 else None, encoding)
     pulled, _ = server.request('textDocument/diagnostic', {'textDocument': {'uri': NAME}})
     assert set(pulled['result']) == {'kind', 'items'} and pulled['result']['kind'] == 'full', pulled
     check_problems(program, pulled['result']['items'], text, encoding)
@@ -233,8 +132,8 @@ def check_problems(program, listed, text, encoding):
 
 # ---- sessions
 
-PIECES = ['a: 1\n', '- x\n', '  b:   2 \r\n', "k: 'v'\n", '# c\n', '\u00e9: \U0001F600\n', '[1,  2]\n', '\r\n', '\n', ' ',
-          'x', '\U0001F600', '---\n', '"q": |\n  text\n', '\t', '{a: b}\r\n', '&a x\n', '*a\n', '\r', '\u2028']
+PIECES = ['a: 1\n', '- x\n', '  b:   2 \r\n', "k: 'v'\n", '# c\n', '\u00e9: \U0001F600\n', '[1,  2]\n', '\r\n', '\n',
+          ' ', 'x', '\U0001F600', '---\n', '"q": |\n  text\n', '\t', '{a: b}\r\n', '&a x\n', '*a\n', '\r', '\u2028']
 
 
 def random_edits(program, count, seed, encoding):
@@ -276,6 +175,65 @@ def random_edits(program, count, seed, encoding):
     assert server.end() == (0, b'', b''), 'the end of a session'
 
 
+def check_lost(server, uri=NAME):
+    """The text of the document is lost, and the client hears of it."""
+    assert server.receive()['method'] == 'window/logMessage'
+    cleared = server.receive()
+    assert cleared['params'] == {'uri': uri, 'diagnostics': []}, cleared
+    answer, _ = server.request('textDocument/formatting', {'textDocument': {'uri': uri}})
+    assert answer['error']['code'] == -32803, answer
+
+
+def faulty_changes(program, server):
+    """After a change at fault, a document has no text until it is opened again or sent whole. Another one stays."""
+    reversed_range = {'start': {'line': 1, 'character': 0}, 'end': {'line': 0, 'character': 0}}
+    server.open('b:   2\n', uri='file:///tmp/two.yaml')
+    server.receive()
+    for version, changes in ((1, [{'text': ''}]), (2, [{'range': reversed_range, 'text': ''}]),
+                             (2, [{'text': ''}, {'range': reversed_range, 'text': ''}]), (None, [{'text': ''}]),
+                             ('2', [{'text': ''}]), (2, None), (2, [{}]), (2, [{'range': {}, 'text': ''}])):
+        server.change(version, changes)
+        check_lost(server)
+        server.change(2, [{'range': {'start': {'line': 0, 'character': 0}, 'end': {'line': 0, 'character': 0}},
+                           'text': ''}])
+        check_lost(server)
+        server.change(2, [{'text': 'c:   3\n'}])
+        check_diagnostics(program, server.receive(), 'c:   3\n', 2, 'utf-16')
+        check_document(program, server, 'c:   3\n', 'utf-16')
+        server.open('a:   1\n')
+        check_diagnostics(program, server.receive(), 'a:   1\n', 1, 'utf-16')
+    server.open(None)
+    check_lost(server)
+    server.open('a:   1\n')
+    check_diagnostics(program, server.receive(), 'a:   1\n', 1, 'utf-16')
+    server.notify('textDocument/didChange', {'contentChanges': [{'text': ''}]})
+    assert server.receive()['method'] == 'window/logMessage'
+    check_document(program, server, 'a:   1\n', 'utf-16')
+    answer, _ = server.request('textDocument/diagnostic', {'textDocument': {'uri': 'file:///tmp/two.yaml'}})
+    check_problems(program, answer['result']['items'], 'b:   2\n', 'utf-16')
+    # content that is not JSON may be a change of any document
+    server.write(b'Content-Length: 14\r\n\r\n{"a":"\\ud83d"}')
+    answer = server.receive()
+    assert answer['error']['code'] == -32700 and answer['id'] is None, answer
+    for uri in (NAME, 'file:///tmp/two.yaml'):
+        answer, _ = server.request('textDocument/formatting', {'textDocument': {'uri': uri}})
+        assert answer['error']['code'] == -32803, answer
+    server.open('a:   1\n')
+    check_diagnostics(program, server.receive(), 'a:   1\n', 1, 'utf-16')
+
+
+def vault(server):
+    """A file from Ansible Vault is left alone."""
+    name = 'file:///tmp/vault.yaml'
+    server.open('$ANSIBLE_VAULT;1.1;AES256\n3366\n6131\n', uri=name)
+    assert server.receive()['params'] == {'uri': name, 'version': 1, 'diagnostics': []}
+    whole = {'start': {'line': 0, 'character': 0}, 'end': {'line': 3, 'character': 0}}
+    for method, result in (('formatting', None), ('willSaveWaitUntil', None), ('rangeFormatting', None),
+                           ('codeAction', []), ('diagnostic', {'kind': 'full', 'items': []})):
+        answer, _ = server.request('textDocument/' + method, {'textDocument': {'uri': name}, 'range': whole})
+        assert answer['result'] == result, answer
+
+
 def life_cycle(program):
     server = Server(program)
     answer, _ = server.request('textDocument/formatting', {})
@@ -286,7 +244,7 @@ def life_cycle(program):
     assert answer['error']['code'] == -32600, answer
     answer, _ = server.request('workspace/symbol', {})
     assert answer['error']['code'] == -32601, answer
-    for method in ('formatting', 'willSaveWaitUntil', 'codeAction', 'diagnostic'):
+    for method in ('formatting', 'willSaveWaitUntil', 'rangeFormatting', 'codeAction', 'diagnostic'):
         answer, _ = server.request('textDocument/' + method, {'textDocument': {'uri': NAME}})
         assert answer['error']['code'] == -32602, answer
         answer, _ = server.request('textDocument/' + method, {})
@@ -299,15 +257,9 @@ def life_cycle(program):
     assert answer['error']['code'] == -32600 and answer['id'] is None, answer
     server.open('a:   1\n')
     assert server.receive()['params']['version'] == 1
-    server.change(1, [{'text': ''}])
-    assert server.receive()['method'] == 'window/logMessage'
-    again = server.receive()
-    check_diagnostics(program, again, 'a:   1\n', 1, 'utf-16')
-    server.change(2, [{'range': {'start': {'line': 1, 'character': 0}, 'end': {'line': 0, 'character': 0}},
-                       'text': ''}])
-    assert server.receive()['method'] == 'window/logMessage'
-    check_diagnostics(program, server.receive(), 'a:   1\n', 1, 'utf-16')
-    check_document(program, server, 'a:   1\n', 'utf-16')
+    faulty_changes(program, server)
+    some_lines(server)
+    vault(server)
     server.notify('textDocument/didSave', {'textDocument': {'uri': NAME}})
     server.notify('$/cancelRequest', {'id': 1})
     server.notify('textDocument/didClose', {'textDocument': {'uri': NAME}})
@@ -316,6 +268,21 @@ def life_cycle(program):
     server.request('shutdown')
     answer, _ = server.request('textDocument/formatting', {'textDocument': {'uri': NAME}})
     assert answer['error']['code'] == -32600, answer
+    server.notify('exit')
+    assert server.end() == (0, b'', b'')
+
+
+def asking_client(program):
+    """A client that asks for problems gets them only on request."""
+    server = Server(program)
+    server.request('initialize', {'capabilities': {'textDocument': {'diagnostic': {'dynamicRegistration': False}}}})
+    server.open('a:   1\n')
+    assert check_document(program, server, 'a:   1\n', 'utf-16') == [], 'problems are published'
+    server.change(2, [{'text': 'a: ['}])
+    assert check_document(program, server, 'a: [', 'utf-16') == [], 'problems are published'
+    server.change(2, [{'text': ''}])
+    assert server.receive()['method'] == 'window/logMessage'
+    server.request('shutdown')
     server.notify('exit')
     assert server.end() == (0, b'', b'')
 
@@ -361,9 +328,13 @@ def broken_clients(program):
 def with_memory(program, limit, breaks):
     """A session in which a change adds many lines. Returns what became of it."""
     server = Server(program, limit=limit)
-    outcome = 'kept'
     try:
         initialize(server)
+    except (BrokenPipeError, TypeError):
+        server.end()
+        return 'not started'
+    outcome = 'kept'
+    try:
         server.open('a:   1\n')
         check_diagnostics(program, server.receive(), 'a:   1\n', 1, 'utf-16')
         server.change(2, [{'range': {'start': {'line': 0, 'character': 6}, 'end': {'line': 0, 'character': 6}},
@@ -453,6 +424,8 @@ def main():
     program = os.path.abspath(given.program)
     life_cycle(program)
     print('life cycle: as expected')
+    asking_client(program)
+    print('a client that asks for problems: as expected')
     broken_clients(program)
     print('broken clients: as expected')
     counts = ', '.join(f'{count} {name}' for name, count in refused_memory(program).items())

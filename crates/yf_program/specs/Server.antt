@@ -1,14 +1,18 @@
 -- What the editor server does with standard input and the two streams that it writes to.
-use Rattle.std.specs.Prelude.{◌≡◌, ◌≢◌, ◌⊎◌, ◌<◌, ℕ, List, length, Bool, true, false, Option, None, Some, codes}
+use Rattle.std.specs.Prelude.{◌≡◌, ◌≢◌, ◌⊎◌, ◌<◌, ◌+◌, ◌==◌, ℕ, List, [], ◌∷◌, length, take, Bool, true, false, Option, None, Some, codes}
+use Rattle.std.specs.List.{count_by}
 use Rattle.yf_forms.specs.declared.style.Style.{Style}
+use Rattle.yf_guard.specs.Guards.{IsVault}
 use Rattle.yf_json_rpc.specs.declared.frame.FrameError.{FrameError}
 use Rattle.yf_json_rpc.specs.declared.frame.FrameError.TheVariants as frame
 use Rattle.yf_lines.specs.declared.fault.Fault.{Fault}
 use Rattle.yf_lines.specs.declared.fault.Fault.TheVariants as fault
+use Rattle.yf_line_ranges.specs.declared.range.LineRange.{LineRange}
+use Rattle.yf_parts.specs.PartRun.{IsPart}
 use Rattle.yf_rules.specs.Headline.{Headline}
 use Rattle.yf_rules.specs.Runs.ByteStream.{ByteStream, NothingWritten, WrittenOrFailed}
 use Rattle.yf_rules.specs.declared.run.TheConstants.{INPUT_LIMIT}
-use Rattle.yf_server.specs.Analysis.{TextClaim}
+use Rattle.yf_server.specs.Analysis.{Found, TextClaim}
 use Rattle.yf_server_loop.specs.Sessions.{Moment, SessionRuns}
 use Rattle.yf_server_loop.specs.declared.ended.Ended.{Ended}
 use Rattle.yf_server_loop.specs.declared.ended.Ended.TheVariants as ended
@@ -17,16 +21,39 @@ use Rattle.yf_program.specs.Problems.{FindsProblems}
 use Rattle.yf_program.specs.Report.{fault_line, fault_status}
 use Rattle.yf_program.specs.World.{OutputStreams}
 
--- The result of formatting a text in a style: the text that `Headline` describes; or none, since the text is too
--- long, or refused.
+-- The text is left alone: it is an Ansible Vault file, or too long.
+abbrev pub IsLeft : List ℕ → Type 0
+IsLeft text = IsVault text ⊎ (INPUT_LIMIT < length text)
+
+-- The result of formatting a text in a style: the text that `Headline` describes; or none, since the text is left
+-- alone, or refused.
 abbrev pub FormatsText : Style → List ℕ → Option (List ℕ) → Type 0
-FormatsText style text (Some new) = Headline text style new
-FormatsText style text None =
-    (INPUT_LIMIT < length text) ⊎ ((why : Fault) × (why ≢ fault.Memory) × StreamFault text why)
+FormatsText style text (Some new) = (IsLeft text → ⊥) × Headline text style new
+FormatsText style text None = IsLeft text ⊎ ((why : Fault) × (why ≢ fault.Memory) × StreamFault text why)
+
+-- The number of the line that an offset is in. Lines end after a line feed, and their numbers begin at 1.
+abbrev pub line_number : List ℕ → ℕ → ℕ
+line_number text offset = count_by (λ b. b == 10) (take offset text) + 1
+
+-- What the formatting of the lines from that of one offset to that of another one gives: the text of which `PartKept`
+-- speaks; or none, as for the whole text.
+abbrev pub FormatsLines : Style → List ℕ → ℕ → ℕ → Option (List ℕ) → Type 0
+FormatsLines style text first last (Some new) = (IsLeft text → ⊥)
+    × IsPart style (record { first = line_number text first; last = line_number text last } ∷ []) text new
+FormatsLines style text first last None = FormatsText style text None
+
+-- The problems of a text in a style. An Ansible Vault file has none.
+abbrev pub FindsInText : Style → List ℕ → List Found → Type 0
+FindsInText style text found =
+    (IsVault text × (found ≡ [])) ⊎ ((IsVault text → ⊥) × FindsProblems style text found)
 
 -- What the server knows of texts.
 abbrev pub text_claim : Style → TextClaim
-text_claim style = record { Formats = FormatsText style; Finds = FindsProblems style }
+text_claim style = record {
+  Formats = FormatsText style;
+  FormatsLines = FormatsLines style;
+  Finds = FindsInText style;
+}
 
 -- The fault is that memory was refused.
 abbrev pub is_memory : Fault → Bool

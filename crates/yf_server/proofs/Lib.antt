@@ -2,6 +2,8 @@
 pub mod LifecycleLemmas
 -- the documents of a list by their URIs
 pub mod DocumentLemmas
+-- the texts of all documents that are lost
+pub mod LossLemmas
 -- the changes of an array
 pub mod ParameterLemmas
 -- a step of a server, and a run of steps

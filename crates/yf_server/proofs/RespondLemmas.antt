@@ -1,8 +1,8 @@
 -- Responses to requests.
-use Rattle.std.proofs.Common.{◌≡◌, ℕ, List, [], ◌∷◌, Bool, true, false, MatchBool, Option, None, Some, Result, Ok, Err, IfOk, option_to_list, refl, ap}
+use Rattle.std.proofs.Common.{◌≡◌, ℕ, List, [], ◌∷◌, Bool, true, false, MatchBool, Option, None, Some, Result, Ok, Err, IfOk, option_to_list, refl, rules, subst}
 use Rattle.std.specs.declared.alloc.AllocError.{AllocError}
-use Rattle.serde_json.specs.Data.{Data}
-use Rattle.serde_json.specs.declared.value.Value.{Value}
+use Rattle.serde_json.specs.Data.{Data, null}
+use Rattle.serde_json.specs.declared.value.Value.{Value, Null, the_lemmas}
 use Rattle.serde_json.specs.View.{view}
 use Rattle.yf_json_rpc.specs.declared.error_code.ErrorCode.{ErrorCode}
 use Rattle.yf_positions.specs.declared.encoding.Encoding.{Encoding}
@@ -58,3 +58,15 @@ pub request_once : (claim : TextClaim) (e : Encoding) (documents : List OpenDocu
     → AnswersRequest claim e documents id method d sent → response_ids (option_to_list sent) ≡ id ∷ []
 request_once claim e documents id method d sent h =
     query_once claim e documents id (named_uri d) (query_of method d) sent h
+
+pub view_null : view Null ≡ null
+view_null = search (rules, the_lemmas)
+
+-- an answer, by an id and a method that are equal
+pub answers_same : (claim : TextClaim) (e : Encoding) (documents : List OpenDocument) (d id same : Data)
+    (method also : List ℕ) (r : Result Value AllocError) → id ≡ same → method ≡ also
+    → IfOk r (λ answer. AnswersRequest claim e documents id method d (Some (view answer)))
+    → IfOk r (λ answer. AnswersRequest claim e documents same also d (Some (view answer)))
+answers_same claim e documents d id same method also r i m h =
+    subst (λ (x : Data). IfOk r (λ answer. AnswersRequest claim e documents x also d (Some (view answer)))) i
+    (subst (λ (x : List ℕ). IfOk r (λ answer. AnswersRequest claim e documents id x d (Some (view answer)))) m h)

@@ -20,7 +20,7 @@ use Rattle.yf_server.specs.Documents.{Event, OpenText, find, outcome_of}
 use Rattle.yf_server.specs.Responses.{AnswersRequest}
 use Rattle.yf_server.specs.Laws.{is_answer, wants_answer}
 use Rattle.yf_server.specs.Lifecycle.{step_of}
-use Rattle.yf_server.specs.Steps.{IsAnswer, IsLogged, IsNote, IsNoteOf, Knows, Steps, StepsTo, after_any, after_message, after_messages, event_of, id_of, is_notification, is_of_document, is_request, knows, method_of, no_step, one_step, response_id, response_ids, terms_after, wanted_id, wanted_ids}
+use Rattle.yf_server.specs.Steps.{IsAnswer, IsLogged, IsNote, IsNoteOf, Knows, Steps, StepsTo, after_message, after_messages, after_notification, event_of, id_of, is_notification, is_of_document, is_request, knows, method_of, no_step, one_step, response_id, response_ids, terms_after, wanted_id, wanted_ids}
 
 sent_ids : (task : Task) (id : Data) (e : Encoding) (sent : Option Data) → IsAnswer id e task sent
     → response_ids (option_to_list sent) ≡ (if is_answer task then id ∷ [] else [])
@@ -91,8 +91,8 @@ pub steps_notified : (claim : TextClaim) (before after : Server) (d : Data) (rea
     → after.phase ≡ (step_of before.phase (kind_of d)).phase
     → after.terms ≡ terms_after before.terms (step_of before.phase (kind_of d)).task d
     → is_notification (step_of before.phase (kind_of d)).task ≡ true
-    → ((uri : List ℕ) → find uri after.documents.items ≡ after_any before.terms.encoding uri
-    (find uri before.documents.items) (event_of (method_of (kind_of d)) d))
+    → ((uri : List ℕ) → find uri after.documents.items ≡ after_notification before.terms.encoding uri
+    (find uri before.documents.items) (method_of (kind_of d)) d)
     → IsNoteOf before.terms.encoding before.documents.items (method_of (kind_of d)) (event_of (method_of (kind_of d)) d)
     (option_map view reaction.message) → StepsTo claim before after d reaction
 steps_notified claim before after d reaction t p e is docs note =
@@ -100,7 +100,8 @@ steps_notified claim before after d reaction t p e is docs note =
       task = t;
       knows = λ uri. knows_is uri before after d _ p e (docs uri) (rw is refl);
       sends = rw is note;
-      answers = note_none before.terms.encoding before.documents.items (method_of (kind_of d)) (event_of (method_of (kind_of d)) d)
+      answers = note_none before.terms.encoding before.documents.items (method_of (kind_of d))
+          (event_of (method_of (kind_of d)) d)
           (option_map view reaction.message) note ∙ sym (none_wanted before.phase (kind_of d) is);
     }
 
@@ -162,7 +163,8 @@ steps_requested claim before after d reaction t p e is docs answer =
       task = t;
       knows = λ uri. knows_is uri before after d _ p e (ap (find uri) docs) (rw other refl);
       sends = rw (other, is) answer;
-      answers = request_once claim before.terms.encoding before.documents.items (id_of (kind_of d)) (method_of (kind_of d)) d
+      answers = request_once claim before.terms.encoding before.documents.items (id_of (kind_of d))
+          (method_of (kind_of d)) d
           (option_map view reaction.message) answer ∙ sym (id_wanted before.phase (kind_of d) is);
     }
 

@@ -1,4 +1,4 @@
--- Code actions as JSON (`CodeAction` of the Language Server Protocol 3.17), and the answer to `textDocument/codeAction`.
+-- Code actions as JSON (`CodeAction` of the Language Server Protocol 3.17), which `textDocument/codeAction` returns.
 use Rattle.std.specs.Prelude.{◌≡◌, ℕ, List, codes, bytes_eq, Bool, MatchBool, Option, None, Some}
 use Rattle.serde_json.specs.Data.{Data, string, array, object, no_items, item, no_members, member}
 use Rattle.yf_positions.specs.declared.encoding.Encoding.{Encoding}

@@ -31,5 +31,7 @@ severity_number Hint = 4
 pub record TextClaim : Type 1 where
   -- the formatting of a text, or none if the text cannot be formatted
   pub Formats : List ℕ → Option (List ℕ) → Type 0
+  -- what the formatting of some lines of a text gives: the lines from that of one offset to that of another one
+  pub FormatsLines : List ℕ → ℕ → ℕ → Option (List ℕ) → Type 0
   -- the problems of a text, in order
   pub Finds : List ℕ → List Found → Type 0

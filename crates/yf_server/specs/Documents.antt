@@ -1,5 +1,5 @@
 -- The open documents of a server, by their URIs, and what a client does with them.
-use Rattle.std.specs.Prelude.{◌≡◌, ℕ, ℤ, ◌+◌, ◌<◌, List, [], ◌∷◌, length, take, drop, true, ⊤, bytes_eq, int_lt, string_bytes, Option, None, Some, option_and_then, if◌then◌else◌}
+use Rattle.std.specs.Prelude.{◌≡◌, ℕ, ℤ, ◌+◌, ◌<◌, List, [], ◌∷◌, length, take, drop, Bool, true, false, ⊤, bytes_eq, int_lt, string_bytes, Option, None, Some, option_and_then, option_map, if◌then◌else◌}
 use Rattle.yf_positions.specs.declared.encoding.Encoding.{Encoding}
 use Rattle.yf_positions.specs.declared.position.LspRange.{LspRange}
 use Rattle.yf_positions.specs.Changes.{TextChange, all_changed}
@@ -121,6 +121,27 @@ abbrev pub outcome_of : Encoding → Option OpenText → Act → Outcome
 outcome_of e was (open_text version text) = Done
 outcome_of e was (change version changes) = change_outcome e was version changes
 outcome_of e was close = close_outcome was
+
+abbrev pub is_done : Outcome → Bool
+is_done Done = true
+is_done NotOpen = false
+is_done OldVersion = false
+is_done ReversedRange = false
+is_done Lost = false
+
+-- A document after an action. If the action could not be done, its text is lost: the client's text is another one from
+-- then on.
+abbrev pub tried : Encoding → Option OpenText → Act → Option OpenText
+tried e was act = if is_done (outcome_of e was act) then acted e was act else option_map without_text was
+
+-- that with a URI, after an event, which may be of another document
+abbrev pub after_tried : Encoding → List ℕ → Option OpenText → Event → Option OpenText
+after_tried e uri was event = if bytes_eq uri event.uri then tried e was event.act else was
+
+-- the document with a URI, after the text of another one or of none is lost
+abbrev pub after_loss : List ℕ → Option OpenText → Option (List ℕ) → Option OpenText
+after_loss uri was None = was
+after_loss uri was (Some lost) = if bytes_eq uri lost then option_map without_text was else was
 
 -- documents change only if the outcome is `Done`
 abbrev pub StaysAt : Outcome → List OpenDocument → List OpenDocument → Type 0

@@ -1,5 +1,5 @@
 -- Text edits as JSON (`TextEdit` of the Language Server Protocol 3.17), and the answers that carry them.
-use Rattle.std.specs.Prelude.{◌≡◌, ℕ, List, map, codes, true, Option, None, Some, option_and_then}
+use Rattle.std.specs.Prelude.{◌≡◌, ℕ, ◌-◌, nat_lt, if◌then◌else◌, List, map, codes, true, Option, None, Some, option_and_then}
 use Rattle.serde_json.specs.Data.{Data, null, number, string, array, object, no_members, member, unsigned}
 use Rattle.serde_json.specs.Find.{get}
 use Rattle.serde_json.specs.View.{items_of}
@@ -9,6 +9,7 @@ use Rattle.yf_positions.specs.declared.encoding.Encoding.{Encoding}
 use Rattle.yf_positions.specs.declared.position.LspPosition.{LspPosition}
 use Rattle.yf_positions.specs.declared.position.LspRange.{LspRange}
 use Rattle.yf_positions.specs.Edits.{EditsOfScript, RangeEdit, edited, in_order}
+use Rattle.yf_positions.specs.Offsets.{offset_of}
 use Rattle.yf_server.specs.Analysis.{TextClaim}
 use Rattle.yf_server.specs.Parameters.{string_in}
 
@@ -55,6 +56,18 @@ pub record IsFormatting (claim : TextClaim) (e : Encoding) (old : List ℕ) (val
   pub new : Option (List ℕ)
   pub formats : claim.Formats old new
   pub edits : AreEditsFor e old new value
+
+-- the offset of the last character of a range, or of its start if it has none
+abbrev pub last_offset : ℕ → ℕ → ℕ
+last_offset start end = if nat_lt start end then end - 1 else start
+
+-- the result of `textDocument/rangeFormatting` for a text: the edits that format the lines of the range
+pub record IsLineFormatting (claim : TextClaim) (e : Encoding) (range : LspRange) (old : List ℕ) (value : Data) : Type 0
+  where
+    pub new : Option (List ℕ)
+    pub formats : claim.FormatsLines old (offset_of e old range.start)
+        (last_offset (offset_of e old range.start) (offset_of e old range.end)) new
+    pub edits : AreEditsFor e old new value
 
 -- one message is the response with this result
 pub record Replies (P : Data → Type 0) (id : Data) (sent : Option Data) : Type 0 where

@@ -3,9 +3,11 @@ use Rattle.std.specs.Prelude.{◌||◌, ℕ, List, codes, bytes_eq, Bool, true, 
 use Rattle.serde_json.specs.Data.{Data, Items, no_items, item}
 use Rattle.serde_json.specs.Find.{as_array, as_str, get}
 use Rattle.yf_json_rpc.specs.declared.error_code.ErrorCode.{ErrorCode}
-use Rattle.yf_json_rpc.specs.declared.error_code.ErrorCode.TheVariants.{MethodNotFound}
+use Rattle.yf_json_rpc.specs.declared.error_code.ErrorCode.TheVariants.{InvalidParams, MethodNotFound}
+use Rattle.yf_positions.specs.declared.position.LspRange.{LspRange}
 use Rattle.yf_server.specs.declared.query.Query.{Query}
-use Rattle.yf_server.specs.declared.query.Query.TheVariants.{Formatting, Actions, Problems}
+use Rattle.yf_server.specs.declared.query.Query.TheVariants.{Formatting, Lines, Actions, Problems}
+use Rattle.yf_server.specs.Parameters.{range_of}
 
 -- the kinds of code actions that `source.fixAll.yamlfmt` is one of: this kind, and those above it
 abbrev pub covers : List ℕ → Bool
@@ -30,10 +32,19 @@ abbrev pub only_of : Data → Option Items
 only_of d = option_and_then as_array (option_and_then (get (codes "only"))
     (option_and_then (get (codes "context")) (get (codes "params") d)))
 
+-- the range of `DocumentRangeFormattingParams`
+abbrev pub asked_range : Data → Option LspRange
+asked_range d = option_and_then range_of (option_and_then (get (codes "range")) (get (codes "params") d))
+
+abbrev pub lines_by : Option LspRange → Result Query ErrorCode
+lines_by None = Err InvalidParams
+lines_by (Some range) = Ok (Lines range)
+
 -- what a request asks for, or why it fails
 abbrev pub query_of : List ℕ → Data → Result Query ErrorCode
 query_of method d =
     if bytes_eq method (codes "textDocument/formatting") then Ok Formatting
     else (if bytes_eq method (codes "textDocument/willSaveWaitUntil") then Ok Formatting
+    else (if bytes_eq method (codes "textDocument/rangeFormatting") then lines_by (asked_range d)
     else (if bytes_eq method (codes "textDocument/codeAction") then Ok (Actions (wants (only_of d)))
-    else (if bytes_eq method (codes "textDocument/diagnostic") then Ok Problems else Err MethodNotFound)))
+    else (if bytes_eq method (codes "textDocument/diagnostic") then Ok Problems else Err MethodNotFound))))

@@ -15,8 +15,8 @@ use Rattle.yf_server.specs.declared.lifecycle.Task.TheVariants.{Initialize, Shut
 use Rattle.yf_server.specs.declared.step.Reaction.{Reaction}
 use Rattle.yf_server.specs.declared.step.Server.{Server}
 use Rattle.yf_server.specs.Analysis.{TextClaim}
-use Rattle.yf_server.specs.Documents.{Event, OpenText, after_event, find, outcome_of}
-use Rattle.yf_server.specs.Edits.{FailsWith}
+use Rattle.yf_server.specs.Documents.{Event, OpenText, after_loss, after_tried, find, outcome_of}
+use Rattle.yf_server.specs.Edits.{FailsWith, named_uri}
 use Rattle.yf_server.specs.Handshake.{agreed, fresh_terms, name_of}
 use Rattle.yf_server.specs.Lifecycle.{step_of}
 use Rattle.yf_server.specs.Parameters.{changed, closed, opened}
@@ -85,10 +85,18 @@ chosen (Some params) = agreed params
 abbrev pub terms_after : Terms → Task → Data → Terms
 terms_after terms task d = if is_initialize task then chosen (get (codes "params") d) else terms
 
--- a document after an event, if there is one
-abbrev pub after_any : Encoding → List ℕ → Option OpenText → Option Event → Option OpenText
-after_any e uri was None = was
-after_any e uri was (Some event) = after_event e uri was event
+-- the URI of the document that a message is about, if it is a notification on a document
+abbrev pub about_uri : List ℕ → Data → Option (List ℕ)
+about_uri method d = if is_of_document method then named_uri d else None
+
+-- The document with a URI after a notification: after its event; or if its parameters are malformed, without its text if
+-- the notification is about it. (about: the URI of the document that it is about)
+abbrev pub after_any : Encoding → List ℕ → Option OpenText → Option (List ℕ) → Option Event → Option OpenText
+after_any e uri was about None = after_loss uri was about
+after_any e uri was about (Some event) = after_tried e uri was event
+
+abbrev pub after_notification : Encoding → List ℕ → Option OpenText → List ℕ → Data → Option OpenText
+after_notification e uri was method d = after_any e uri was (about_uri method d) (event_of method d)
 
 -- the knowledge of a server that matters for the document with one URI
 pub record Knows : Type 0 where
@@ -110,7 +118,7 @@ after_message uri k d = record {
   terms = terms_after k.terms (step_of k.phase (kind_of d)).task d;
   document =
       if is_notification (step_of k.phase (kind_of d)).task
-      then after_any k.terms.encoding uri k.document (event_of (method_of (kind_of d)) d) else k.document;
+      then after_notification k.terms.encoding uri k.document (method_of (kind_of d)) d else k.document;
 }
 
 -- that after messages, one after the other
@@ -119,7 +127,7 @@ after_messages uri k [] = k
 after_messages uri k (d ∷ rest) = after_messages uri (after_message uri k d) rest
 
 -- the code actions that the server has, the problems that it reports on request, and how it follows documents: by
--- changes of ranges
+-- changes of ranges, and before they are saved
 abbrev pub action_options : Data
 action_options = object (member (codes "codeActionKinds")
     (array (item (string (codes "source.fixAll.yamlfmt")) no_items)) no_members)
@@ -130,15 +138,16 @@ diagnostic_options = object (member (codes "interFileDependencies") (boolean fal
 
 abbrev pub sync_options : Data
 sync_options = object (member (codes "change") (number (unsigned 2)) (member (codes "openClose") (boolean true)
-    no_members))
+    (member (codes "willSaveWaitUntil") (boolean true) no_members)))
 
 -- `ServerCapabilities`
 abbrev pub capabilities : Encoding → Data
 capabilities e = object (member (codes "codeActionProvider") action_options
     (member (codes "diagnosticProvider") diagnostic_options
     (member (codes "documentFormattingProvider") (boolean true)
+    (member (codes "documentRangeFormattingProvider") (boolean true)
     (member (codes "positionEncoding") (string (name_of e))
-    (member (codes "textDocumentSync") sync_options no_members)))))
+    (member (codes "textDocumentSync") sync_options no_members))))))
 
 -- `InitializeResult`
 abbrev pub initialize_result : Encoding → Data
@@ -182,9 +191,11 @@ IsNoteOf e documents method (Some event) sent = IsNote (outcome_of e (find event
 -- the message that is sent, by the formatting of a text
 abbrev pub Sends : TextClaim → Server → Data → Option Data → Type 0
 Sends claim server d sent = MatchBool (is_notification (step_of server.phase (kind_of d)).task)
-    (IsNoteOf server.terms.encoding server.documents.items (method_of (kind_of d)) (event_of (method_of (kind_of d)) d) sent)
+    (IsNoteOf server.terms.encoding server.documents.items (method_of (kind_of d))
+    (event_of (method_of (kind_of d)) d) sent)
     (MatchBool (is_request (step_of server.phase (kind_of d)).task)
-    (AnswersRequest claim server.terms.encoding server.documents.items (id_of (kind_of d)) (method_of (kind_of d)) d sent)
+    (AnswersRequest claim server.terms.encoding server.documents.items (id_of (kind_of d))
+    (method_of (kind_of d)) d sent)
     (IsAnswer (id_of (kind_of d)) (terms_after server.terms (step_of server.phase (kind_of d)).task d).encoding
     (step_of server.phase (kind_of d)).task sent))
 

@@ -70,7 +70,8 @@ fn offered<A: Analysis>(
     document: &Document,
     encoding: Encoding,
 ) -> Result<Value, AllocError>
-    ensures { IfOk result (λ value. OffersFormatting (A.claim analysis.now) encoding uri.now document.now (view value)) }
+    ensures { IfOk result (λ value. OffersFormatting (A.claim analysis.now) encoding uri.now document.now
+        (view value)) }
 {
     match analysis.formatted(alloc, document.text())? {
         None => Ok(no_actions(alloc)),

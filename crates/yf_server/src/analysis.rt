@@ -54,6 +54,22 @@ pub trait Analysis {
     fn formatted(&self, alloc: Global, text: &str) -> Result<Option<String>, AllocError>
         ensures { IfOk result (λ new. (claim self.now).Formats text.now (option_map string_bytes new)) };
 
+    /// Returns a text in which some lines are formatted: those from the line of one byte offset to the line of another
+    /// one. `None` if the text cannot be formatted.
+    ///
+    /// # Errors
+    ///
+    /// `AllocError` if memory was refused.
+    fn formatted_lines(
+        &self,
+        alloc: Global,
+        text: &str,
+        first: usize,
+        last: usize,
+    ) -> Result<Option<String>, AllocError>
+        ensures { IfOk result (λ new.
+            (claim self.now).FormatsLines text.now first last (option_map string_bytes new)) };
+
     /// Returns the problems of a text, in order.
     ///
     /// # Errors

@@ -1,7 +1,7 @@
 //! The open documents of a server.
 ghost use Rattle.std.specs.Prelude.{◌≡◌, [], None, Some, IfOk, IsErrOf, MatchBool, MatchOption, OnErr, OnOk, int_lt, option_map, string_bytes};
 ghost use Rattle.yf_positions.specs.Changes.{all_changed};
-ghost use Rattle.yf_server.specs.Documents.{IsFirst, FollowsEvent, StaysAt, Updates, act_read, change_outcome, changed_by, close_outcome, event_read, find, outcome_of, start_of, text_after, text_of, text_outcome, without_text};
+ghost use Rattle.yf_server.specs.Documents.{IsFirst, FollowsEvent, StaysAt, Updates, act_read, change_outcome, changed_by, close_outcome, event_read, find, is_done, outcome_of, start_of, text_after, text_of, text_outcome, without_text};
 
 use std::alloc::{AllocError, Global};
 use yf_positions::change::{ChangeError, ContentChange};
@@ -234,6 +234,19 @@ fn close(documents: &mut Vec<OpenDocument>, uri: &str) -> Outcome
             withdraw(documents, uri);
             Outcome::Done
         }
+    }
+}
+
+/// Returns whether the outcome is that all was done.
+pub fn is_done(outcome: Outcome) -> bool
+    ensures { result ≡ is_done outcome }
+{
+    match outcome {
+        Outcome::Done => true,
+        Outcome::NotOpen => false,
+        Outcome::OldVersion => false,
+        Outcome::ReversedRange => false,
+        Outcome::Lost => false,
     }
 }
 

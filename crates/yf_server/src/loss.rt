@@ -1,13 +1,13 @@
-//! What becomes of a document if a notification on it cannot be acted on.
-ghost use Rattle.std.specs.Prelude.{◌≡◌, option_map};
+//! What becomes of documents if a notification cannot be acted on.
+ghost use Rattle.std.specs.Prelude.{◌≡◌, ℕ, List, option_map};
 ghost use Rattle.serde_json.specs.View.{view};
 ghost use Rattle.yf_json_rpc.specs.Messages.{kind_read};
-ghost use Rattle.yf_server.specs.Losses.{Loses, LosesText, notified_uri};
+ghost use Rattle.yf_server.specs.Documents.{find, without_text};
+ghost use Rattle.yf_server.specs.Losses.{Loses, LosesAll, LosesText, notified_uri};
 
-use crate::documents::lose;
+use crate::documents::{OpenDocument, lose};
 use crate::lifecycle::{Phase, next_step};
-use crate::notify::is_of_document;
-use crate::respond::named_uri;
+use crate::notify::about_uri;
 use crate::step::{Server, is_notification, method_of};
 use serde_json::Value;
 use yf_json_rpc::message::message_of;
@@ -20,10 +20,7 @@ fn notified_uri(phase: Phase, value: &Value) -> Option<&str>
     if !is_notification(next_step(phase, message).task) {
         return None;
     }
-    if !is_of_document(method_of(message)) {
-        return None;
-    }
-    named_uri(value)
+    about_uri(method_of(message), value)
 }
 
 /// Drops the text of the document that a message is about, and returns true; returns false if the message is no
@@ -39,4 +36,22 @@ pub fn lose_notified(server: &mut Server, value: &Value) -> bool
             true
         }
     }
+}
+
+/// Drops the text of each document.
+fn lose_each(documents: &mut Vec<OpenDocument>)
+    ensures { (uri : List ℕ) → find uri documents.new.items ≡ option_map without_text (find uri documents.old.items) }
+{
+    let mut at = 0;
+    while at < documents.len() {
+        documents[at].document = None;
+        at += 1;
+    }
+}
+
+/// Drops the text of each document. For content that is not JSON: it may be a change of any document.
+pub fn lose_all(server: &mut Server)
+    ensures { LosesAll server.old server.new }
+{
+    lose_each(&mut server.documents);
 }

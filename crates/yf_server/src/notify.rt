@@ -1,11 +1,13 @@
 //! Notifications on documents.
 ghost use Rattle.std.specs.Prelude.{◌≡◌, ◌≢◌, ℕ, List, None, MatchBool, IfOk, OnErr, OnOk, option_map};
 ghost use Rattle.serde_json.specs.View.{view};
-ghost use Rattle.yf_server.specs.Documents.{FollowsEvent, act_read, event_read, find, outcome_of};
-ghost use Rattle.yf_server.specs.Steps.{IsLogged, IsNote, IsNoteOf, after_any, event_named, event_of, is_of_document, log_message, warning_params};
+ghost use Rattle.yf_server.specs.Documents.{act_read, after_loss, after_tried, event_read, find, outcome_of};
+ghost use Rattle.yf_server.specs.Edits.{named_uri};
+ghost use Rattle.yf_server.specs.Steps.{IsLogged, IsNote, IsNoteOf, about_uri, after_notification, event_named, event_of, is_of_document, log_message, warning_params};
 
-use crate::documents::{DocumentEvent, OpenDocument, Outcome, act};
+use crate::documents::{DocumentEvent, OpenDocument, Outcome, act, is_done, lose};
 use crate::parameters::{changed, closed, opened};
+use crate::respond::{LOST, named_uri};
 use serde_json::{Value, json};
 use std::alloc::{AllocError, Global};
 use yf_json_rpc::message::notification;
@@ -45,19 +47,15 @@ fn event_of<'v>(
     }
 }
 
-/// What a client shows of a document whose text is lost.
-pub const LOST: &str =
-    "the server has no memory for the text of the document: open it again, or send the whole text";
-
 /// Returns what the client's log shows of an outcome.
 fn warning(outcome: Outcome) -> &'static str {
     match outcome {
         Outcome::Done => "the document was changed",
         Outcome::NotOpen => "the document is not open, so nothing was changed",
         Outcome::OldVersion =>
-            "the version is not higher than the one before, so the document was not changed",
+            "the version is not higher than the one before: open the document again, or send the whole text",
         Outcome::ReversedRange =>
-            "the end of a range is before its start, so the document was not changed",
+            "the end of a range is before its start: open the document again, or send the whole text",
         Outcome::Lost => LOST,
     }
 }
@@ -104,21 +102,27 @@ fn note_of(alloc: Global, outcome: Outcome) -> Result<Option<Value>, AllocError>
     }
 }
 
-/// Handles an event, and returns the warning if it failed.
+/// Handles an event, and returns the warning if it failed. The text of the document is then lost.
 fn act_on(
     alloc: Global,
     documents: &mut Vec<OpenDocument>,
     event: &DocumentEvent<'_>,
     encoding: Encoding,
 ) -> Result<Option<Value>, AllocError>
-    ensures done { OnOk result (FollowsEvent encoding documents.old.items documents.new.items (event_read event.now)) }
+    ensures done { OnOk result ((uri : List ℕ) → find uri documents.new.items ≡
+        after_tried encoding uri (find uri documents.old.items) (event_read event.now)) }
     ensures note { IfOk result (λ note. IsNote
         (outcome_of encoding (find event.now.uri.now documents.old.items) (act_read event.now.act))
         (option_map view note)) }
     ensures kept { OnErr result (documents.new.items ≡ documents.old.items) }
 {
     let outcome = act(alloc, documents, event, encoding)?;
-    note_of(alloc, outcome)
+    let note = note_of(alloc, outcome)?;
+    if is_done(outcome) {
+        return Ok(note);
+    }
+    lose(documents, event.uri);
+    Ok(note)
 }
 
 /// Returns whether a notification with this method is on a document.
@@ -130,10 +134,39 @@ pub fn is_of_document(method: &str) -> bool
         || method == "textDocument/didClose"
 }
 
-/// Returns the warning for a notification on a document if its parameters are malformed, or `None` for any other
-/// method.
-fn malformed(alloc: Global, method: &str) -> Result<Option<Value>, AllocError>
-    ensures { IfOk result (λ note. MatchBool (is_of_document method.now) (IsLogged (option_map view note))
+/// Returns the URI of the document that a notification is about, if it is a notification on a document.
+pub fn about_uri<'v>(method: &str, value: &'v Value) -> Option<&'v str>
+    ensures { option_map (λ uri. uri.now) result ≡ about_uri method.now (view value.now) }
+{
+    if !is_of_document(method) {
+        return None;
+    }
+    named_uri(value)
+}
+
+/// Drops the text of the document that the parameters of a message name.
+fn lose_named(documents: &mut Vec<OpenDocument>, value: &Value)
+    ensures { (uri : List ℕ) → find uri documents.new.items ≡
+        after_loss uri (find uri documents.old.items) (named_uri (view value.now)) }
+{
+    match named_uri(value) {
+        None => {}
+        Some(uri) => lose(documents, uri),
+    }
+}
+
+/// Drops the text of the document that a notification with malformed parameters is about, and returns the warning for
+/// it. Does nothing for a method that is not one on a document.
+fn malformed(
+    alloc: Global,
+    documents: &mut Vec<OpenDocument>,
+    method: &str,
+    value: &Value,
+) -> Result<Option<Value>, AllocError>
+    ensures done { OnOk result ((uri : List ℕ) → find uri documents.new.items ≡
+        after_loss uri (find uri documents.old.items) (about_uri method.now (view value.now))) }
+    ensures kept { OnErr result (documents.new.items ≡ documents.old.items) }
+    ensures note { IfOk result (λ note. MatchBool (is_of_document method.now) (IsLogged (option_map view note))
         (option_map view note ≡ None)) }
 {
     if !is_of_document(method) {
@@ -141,8 +174,9 @@ fn malformed(alloc: Global, method: &str) -> Result<Option<Value>, AllocError>
     }
     let note = log_message(
         alloc,
-        "the parameters are not those of the method, so nothing was changed",
+        "the parameters are not those of the method: open the document again, or send the whole text",
     )?;
+    lose_named(documents, value);
     Ok(Some(note))
 }
 
@@ -155,13 +189,13 @@ pub fn notify(
     encoding: Encoding,
 ) -> Result<Option<Value>, AllocError>
     ensures done { OnOk result ((uri : List ℕ) → find uri documents.new.items ≡
-        after_any encoding uri (find uri documents.old.items) (event_of method.now (view value.now))) }
+        after_notification encoding uri (find uri documents.old.items) method.now (view value.now)) }
     ensures note { IfOk result (λ note. IsNoteOf encoding documents.old.items method.now
         (event_of method.now (view value.now)) (option_map view note)) }
     ensures kept { OnErr result (documents.new.items ≡ documents.old.items) }
 {
     match event_of(alloc, method, value)? {
-        None => malformed(alloc, method),
+        None => malformed(alloc, documents, method, value),
         Some(event) => act_on(alloc, documents, &event, encoding),
     }
 }

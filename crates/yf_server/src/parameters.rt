@@ -60,7 +60,7 @@ fn position_in(value: &Value, key: &str) -> Option<LspPosition>
 }
 
 /// Returns the range that a value is.
-fn range_of(value: &Value) -> Option<LspRange>
+pub fn range_of(value: &Value) -> Option<LspRange>
     ensures { result ≡ range_of (view value.now) }
 {
     match position_in(value, "start") {

@@ -2,16 +2,22 @@
 ghost use Rattle.std.specs.Prelude.{◌≡◌, map};
 ghost use Rattle.serde_json.specs.Find.{as_str};
 ghost use Rattle.serde_json.specs.View.{items_of, view};
-ghost use Rattle.yf_server.specs.Queries.{covers, covers_any, covers_by, only_of, query_of, wants};
+ghost use Rattle.yf_server.specs.Queries.{asked_range, covers, covers_any, covers_by, only_of, query_of, wants};
 
+use crate::parameters::range_of;
 use serde_json::Value;
 use yf_json_rpc::error_code::ErrorCode;
+use yf_positions::position::LspRange;
 
 /// What a request asks of a document.
 #[derive(Clone, Copy)]
 pub enum Query {
     /// The edits that format it (`textDocument/formatting` and `textDocument/willSaveWaitUntil`).
     Formatting,
+    /// The edits that format the lines of a range (`textDocument/rangeFormatting`).
+    Lines {
+        range: LspRange,
+    },
     /// The code actions for it (`textDocument/codeAction`).
     Actions {
         /// Whether the client wants actions of the kind `source.fixAll.yamlfmt`.
@@ -69,11 +75,24 @@ fn is_wanted(value: &Value) -> bool
     }
 }
 
+/// Returns the range that the parameters of a request have.
+fn asked_range(value: &Value) -> Option<LspRange>
+    ensures { result ≡ asked_range (view value.now) }
+{
+    match value.get("params") {
+        None => None,
+        Some(params) => match params.get("range") {
+            None => None,
+            Some(range) => range_of(range),
+        },
+    }
+}
+
 /// Returns what a request asks for.
 ///
 /// # Errors
 ///
-/// Why the request fails: the server has no such method.
+/// Why the request fails: the server has no such method, or the parameters have no range.
 pub fn query_of(method: &str, value: &Value) -> Result<Query, ErrorCode>
     ensures { result ≡ query_of method.now (view value.now) }
 {
@@ -82,6 +101,12 @@ pub fn query_of(method: &str, value: &Value) -> Result<Query, ErrorCode>
     }
     if method == "textDocument/willSaveWaitUntil" {
         return Ok(Query::Formatting);
+    }
+    if method == "textDocument/rangeFormatting" {
+        return match asked_range(value) {
+            None => Err(ErrorCode::InvalidParams),
+            Some(range) => Ok(Query::Lines { range }),
+        };
     }
     if method == "textDocument/codeAction" {
         let is_wanted = is_wanted(value);

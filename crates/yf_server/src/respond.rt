@@ -1,9 +1,9 @@
 //! The answers to requests that are not of the life cycle.
-ghost use Rattle.std.specs.Prelude.{◌≡◌, Some, IfOk, option_map};
+ghost use Rattle.std.specs.Prelude.{◌≡◌, Some, IfOk, option_map, string_bytes};
 ghost use Rattle.serde_json.specs.View.{view};
 ghost use Rattle.yf_json_rpc.specs.Messages.{reply};
 ghost use Rattle.yf_server.specs.Documents.{find};
-ghost use Rattle.yf_server.specs.Edits.{FailsWith, IsFormatting, named_uri};
+ghost use Rattle.yf_server.specs.Edits.{AreEditsFor, FailsWith, IsFormatting, IsLineFormatting, last_offset, named_uri};
 ghost use Rattle.yf_server.specs.Queries.{query_of};
 ghost use Rattle.yf_server.specs.Responses.{AnswersFor, AnswersRequest, AnswersText, AnswersUri, IsResult};
 
@@ -12,7 +12,6 @@ use crate::analysis::Analysis;
 use crate::diagnostics::report;
 use crate::documents::{OpenDocument, place_of};
 use crate::edits::edits_to;
-use crate::notify::LOST;
 use crate::parameters::string_in;
 use crate::query::{Query, query_of};
 use serde_json::Value;
@@ -21,6 +20,11 @@ use yf_json_rpc::error_code::ErrorCode;
 use yf_json_rpc::message::{failure, reply};
 use yf_positions::document::Document;
 use yf_positions::encoding::Encoding;
+use yf_positions::position::LspRange;
+
+/// What a client shows of a document whose text is lost.
+pub const LOST: &str =
+    "the server does not have the text of the document: open it again, or send the whole text";
 
 /// Returns the text that a client shows for an error.
 fn text_of(code: ErrorCode) -> &'static str {
@@ -57,6 +61,22 @@ pub fn named_uri(value: &Value) -> Option<&str>
     }
 }
 
+/// Returns the edits that lead from a document to what its formatting gave, as JSON; null if it gave nothing.
+fn edits_for(
+    alloc: Global,
+    document: &Document,
+    new: &Option<String>,
+    encoding: Encoding,
+) -> Result<Value, AllocError>
+    ensures { IfOk result (λ value. AreEditsFor encoding document.now (option_map string_bytes new.now)
+        (view value)) }
+{
+    match new {
+        None => Ok(Value::Null),
+        Some(new) => edits_to(alloc, document, new.as_str(), encoding),
+    }
+}
+
 /// Returns the edits that format a document, as JSON; null if it cannot be formatted.
 fn formatting<A: Analysis>(
     alloc: Global,
@@ -66,10 +86,31 @@ fn formatting<A: Analysis>(
 ) -> Result<Value, AllocError>
     ensures { IfOk result (λ value. IsFormatting (A.claim analysis.now) encoding document.now (view value)) }
 {
-    match analysis.formatted(alloc, document.text())? {
-        None => Ok(Value::Null),
-        Some(new) => edits_to(alloc, document, new.as_str(), encoding),
-    }
+    let new = analysis.formatted(alloc, document.text())?;
+    edits_for(alloc, document, &new, encoding)
+}
+
+/// Returns the offset of the last character of a range, or of its start if it has none.
+fn last_offset(start: usize, end: usize) -> usize
+    ensures { result ≡ last_offset start end }
+{
+    if start < end { end - 1 } else { start }
+}
+
+/// Returns the edits that format the lines of a range, as JSON; null if the document cannot be formatted.
+fn formatting_lines<A: Analysis>(
+    alloc: Global,
+    analysis: &A,
+    range: LspRange,
+    document: &Document,
+    encoding: Encoding,
+) -> Result<Value, AllocError>
+    ensures { IfOk result (λ value. IsLineFormatting (A.claim analysis.now) encoding range document.now (view value)) }
+{
+    let first = document.offset_of(range.start, encoding);
+    let last = last_offset(first, document.offset_of(range.end, encoding));
+    let new = analysis.formatted_lines(alloc, document.text(), first, last)?;
+    edits_for(alloc, document, &new, encoding)
 }
 
 /// Returns what a request gets that asks for something of a document.
@@ -85,6 +126,7 @@ fn result_of<A: Analysis>(
 {
     match query {
         Query::Formatting => formatting(alloc, analysis, document, encoding),
+        Query::Lines { range } => formatting_lines(alloc, analysis, range, document, encoding),
         Query::Actions { is_wanted } => {
             actions(alloc, analysis, is_wanted, uri, document, encoding)
         }
@@ -145,10 +187,11 @@ fn answer_for<A: Analysis>(
 
 /// Returns the response to a request that is not of the life cycle.
 ///
-/// `textDocument/formatting` and `textDocument/willSaveWaitUntil` get the edits that format an open document, or null if
-/// it cannot be formatted. `textDocument/codeAction` gets the action with these edits, and `textDocument/diagnostic` the
-/// problems. Any other method gets the error -32601, a document that is not open the error -32602, and one whose text is
-/// lost the error -32803.
+/// `textDocument/formatting` and `textDocument/willSaveWaitUntil` get the edits that format an open document, or null
+/// if it cannot be formatted, and `textDocument/rangeFormatting` those that format some lines.
+/// `textDocument/codeAction` gets the action with the edits that format the document, and `textDocument/diagnostic` its
+/// problems. Any other method gets the error -32601, a document that is not open the error -32602, and one whose text
+/// is lost the error -32803.
 ///
 /// # Errors
 ///

@@ -101,8 +101,9 @@ fn initialize_result(alloc: Global, encoding: Encoding) -> Result<Value, AllocEr
     let name = name_of(encoding);
     json!(in alloc; {"capabilities": {
         "positionEncoding": name,
-        "textDocumentSync": {"openClose": true, "change": 2},
+        "textDocumentSync": {"openClose": true, "change": 2, "willSaveWaitUntil": true},
         "documentFormattingProvider": true,
+        "documentRangeFormattingProvider": true,
         "codeActionProvider": {"codeActionKinds": ["source.fixAll.yamlfmt"]},
         "diagnosticProvider": {"interFileDependencies": false, "workspaceDiagnostics": false}
     }})

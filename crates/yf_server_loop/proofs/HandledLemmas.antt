@@ -22,7 +22,8 @@ loses_since : (a b c : Server) (uri : List ℕ) → IsSame a b → LosesText b c
 loses_since a b c uri s l = record {
   phase = l.phase ∙ s.phase;
   terms = l.terms ∙ s.terms;
-  documents = subst (λ (xs : List OpenDocument). Updates xs c.documents.items uri (option_map without_text (find uri xs)))
+  documents = subst
+      (λ (xs : List OpenDocument). Updates xs c.documents.items uri (option_map without_text (find uri xs)))
       s.documents l.documents;
 }
 

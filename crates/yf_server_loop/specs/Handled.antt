@@ -13,7 +13,7 @@ use Rattle.yf_server.specs.declared.step.Server.{Server}
 use Rattle.yf_server.specs.Analysis.{TextClaim}
 use Rattle.yf_server.specs.Edits.{FailsWith}
 use Rattle.yf_server.specs.Laws.{wants_answer}
-use Rattle.yf_server.specs.Losses.{LosesText, notified_uri}
+use Rattle.yf_server.specs.Losses.{LosesAll, LosesText, notified_uri}
 use Rattle.yf_server.specs.Publish.{IsPublished}
 use Rattle.yf_server.specs.Steps.{IsLogged, IsSame, StepsTo, id_of}
 
@@ -47,9 +47,9 @@ exit_of Notification = None
 exit_of Ignore = None
 exit_of (Exit is_success) = Some is_success
 
--- a content that is not JSON gets an error with the id null, and the server is unchanged
+-- a content that is not JSON gets an error with the id null, and the texts of all documents are lost
 pub record IsRefused (before : Server) (answer : List ℕ) (after : Server) (exit : Option Bool) : Type 0 where
-  pub same : after ≡ before
+  pub loses : LosesAll before after
   pub goes_on : exit ≡ None
   pub sent : Data
   pub fails : FailsWith null ParseError (Some sent)

@@ -16,10 +16,10 @@ use yf_json_rpc::frame::Content;
 use yf_json_rpc::message::{Message, message_of, push_message};
 use yf_server::analysis::Analysis;
 use yf_server::lifecycle::Task;
-use yf_server::loss::lose_notified;
-use yf_server::notify::{LOST, log_message};
+use yf_server::loss::{lose_all, lose_notified};
+use yf_server::notify::log_message;
 use yf_server::publish::publish;
-use yf_server::respond::failure_of;
+use yf_server::respond::{LOST, failure_of};
 use yf_server::step::{Reaction, Server, step};
 
 /// The result of handling a message's content.
@@ -243,7 +243,8 @@ fn take_step<A: Analysis>(
     })
 }
 
-/// Handles a message. A content that is not JSON gets an error response.
+/// Handles a message. A content that is not JSON gets an error response, and the text of each document is lost, since it
+/// may be a change of any document.
 fn react<A: Analysis>(
     alloc: Global,
     analysis: &A,
@@ -256,6 +257,7 @@ fn react<A: Analysis>(
     match value {
         None => {
             let answer = failed(alloc, &Value::Null, ErrorCode::ParseError)?;
+            lose_all(server);
             Ok(Handled { answer, exit: None })
         }
         Some(value) => take_step(alloc, analysis, server, value),

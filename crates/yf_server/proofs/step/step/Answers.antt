@@ -5,7 +5,7 @@ use Rattle.yf_server.proofs.StepLemmas.{steps_answered, steps_notified, steps_re
 use Rattle.yf_server.specs.Documents.{find}
 use Rattle.yf_server.specs.Responses.{AnswersRequest}
 use Rattle.yf_server.specs.Lifecycle.{step_of}
-use Rattle.yf_server.specs.Steps.{IsAnswer, IsNoteOf, after_any, event_of, id_of, is_notification, is_request, method_of, terms_after}
+use Rattle.yf_server.specs.Steps.{IsAnswer, IsNoteOf, after_notification, event_of, id_of, is_notification, is_request, method_of, terms_after}
 use Rattle.yf_server.proofs.step.step.Goals as goal
 
 pub returns-then-is_notification-clause-done : goal.returns-then-is_notification-clause-done
@@ -20,8 +20,9 @@ returns-then-is_notification-clause-done g c =
     (c.terms_after-terms.ensures ∙ ap (λ t. terms_after server.terms t d) task)
     (ap is_notification (sym task) ∙ sym c.is_notification.ensures ∙ c.if-is_notification.true)
     (λ uri. c.in_ok-note.ensures.done uri
-    ∙ ap (λ m. after_any server.terms.encoding uri (find uri server.documents.items) (event_of m d)) method)
-    (subst (λ m. IsNoteOf server.terms.encoding server.documents.items m (event_of m d) (option_map view c.in_ok-note.note))
+    ∙ ap (λ m. after_notification server.terms.encoding uri (find uri server.documents.items) m d) method)
+    (subst (λ m. IsNoteOf server.terms.encoding server.documents.items m (event_of m d)
+    (option_map view c.in_ok-note.note))
     method c.in_ok-note.ensures.note)
 
 pub returns-clause-done : goal.returns-clause-done
@@ -37,8 +38,8 @@ returns-clause-done g c =
     (ap is_notification (sym task) ∙ sym c.is_notification.ensures ∙ c.if-is_notification.false)
     (ap is_request (sym task) ∙ sym c.is_request.ensures ∙ c.if-is_request.false)
     refl
-    (subst (λ t. IsAnswer (id_of (kind_of d)) (terms_after server.terms (step_of server.phase (kind_of d)).task d).encoding
-    t sent) task
+    (subst (λ t. IsAnswer (id_of (kind_of d))
+    (terms_after server.terms (step_of server.phase (kind_of d)).task d).encoding t sent) task
     (subst (λ t. IsAnswer (id_of (kind_of d)) t.encoding c.next_step-next.result.task sent) terms
     (subst (λ k. IsAnswer (id_of k) c.terms_after-terms.result.encoding c.next_step-next.result.task sent) kind
     c.in_ok-answer.ensures)))
