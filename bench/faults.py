@@ -44,7 +44,7 @@ def names_like_stages(room, clone, recipes):
     write(room + '/x.yaml', GOOD)
     write(room + '/0:x.yaml', BAD)
     done = commit(room, 'x.yaml', '0:x.yaml')
-    return done.returncode != 0 and '+++ 0:x.yaml (formatted)' in done.stdout
+    return done.returncode != 0 and '+++ 0:x.yaml\n' in done.stdout
 
 
 def hook_by_relative_path(room, clone, recipes):
@@ -123,7 +123,7 @@ def full_folder(room, clone, recipes):
     checked = each_file(clone, room, 'check', 'a.yaml', preexec_fn=without_room)
     shown = each_file(clone, room, 'fmt', '--diff', 'a.yaml', preexec_fn=without_room)
     told = checked.returncode == 1 and 'a.yaml:2:8 comment-space (fixable)\n' in checked.stdout
-    return told and shown.returncode == 1 and '+++ a.yaml (formatted)\n' in shown.stdout and '+a: "x"  # c\n' in shown.stdout
+    return told and shown.returncode == 1 and '+++ a.yaml\n' in shown.stdout and '+a: "x"  # c\n' in shown.stdout
 
 
 def names_of_bytes(room, clone, recipes):
