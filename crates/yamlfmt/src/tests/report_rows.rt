@@ -48,7 +48,7 @@ pub static REPORT_ROWS: [Row; 12] = [
         "check --format=checkstyle at2 a.yaml",
         2,
         "<?xml version=\"1.0\" encoding=\"UTF-8\"?>\n<checkstyle version=\"4.3\">\n<file name=\"at2\">\n<error line=\"2\" column=\"1\" severity=\"error\" message=\"byte is no UTF-8\" source=\"not-utf8\"/>\n</file>\n<file name=\"a.yaml\">\n<error line=\"2\" column=\"8\" severity=\"warning\" message=\"one space before the comment, expected 2\" source=\"comment-space\"/>\n</file>\n</checkstyle>\n",
-        "at2:byte 2 refused: not-utf8\n",
+        "at2: byte 2 refused: not-utf8\n",
         "at2 a.yaml ",
         BEFORE,
     ),
