@@ -78,22 +78,23 @@ HEAD = """# The standard's productions, letter by letter
 
 **Proved** (`standard_laws` of `yf_standard`, `specs/Laws.antt`). Take a UTF-8 text. Production 211, with the reading
 rules below and at most `DEPTH` open collections, derives all of it exactly if `Stream` of `yf_stream`, which the reader
-follows, derives it. Whatever the reading rules allow, the standard's letter allows too (`letter` of
-`specs/Rules.antt`), except for two readings that both sides share: N2, and the sum n + m for n = -1. A text is accepted
-exactly if 211 derives it and it breaks no [further rule](GRAMMAR.md#what-must-hold-besides) (`IsStandardText` of
-`specs/Acceptance.antt`; `headline` of `yf_rules`).
+follows, derives it. The standard's letter (`letter` of `specs/Rules.antt`) also allows what the reading rules allow,
+except for two readings that both sides share: N2, and the sum n + m for n = -1. A text is accepted exactly if 211
+derives it and it breaks no [further rule](GRAMMAR.md#further-rules) (`IsStandardText` of `specs/Acceptance.antt`;
+`headline` of `yf_rules`).
 
 **The table's columns.** The second column is the production as YAML 1.2.2 prints it, written [from
 memory](DECISIONS.md#the-standards-productions). The third column is the clause of `Characters` or `Productions`,
 without the name if it has no parameters. `bench/standard_lines.py` compares the second with the third, operator by
-operator, except for the conditions of the reading rules and six clauses. The fourth column is the relation of a lower
-crate that the production derives with the reading rules (proved in `proofs/Standing.antt` and `Closed.antt`), or `·`
-for one character.
+operator, except for the conditions of the reading rules and six clauses. The fourth column is the relation that holds
+for each part that the production derives with the reading rules (`proofs/Standing.antt`, proved in `Closed.antt`),
+or `·` for one character.
 
 ## Notation
 
 | The standard | Here |
 |---|---|
+| `x09`, `'-'`, `[x20-x7E]`, `<empty>`; no line | `x 0x09`, `x 45`, `0x20 to 0x7E`, `ε`; `never` |
 | `A B`, `A \\| B`, `A?`, `A*`, `A+`, `A{4}` | `A ∙ B`, `A ∣ B`, `A ⁇`, `A ⋆`, `A ⁺`, `times 4 A` |
 | one character of a set; a set's `\\|` and `-` | `‹ s ›`; `∪` and `∖` |
 | `A - s`, where A has more than one character | `A less s` |

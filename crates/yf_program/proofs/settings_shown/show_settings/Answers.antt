@@ -10,5 +10,5 @@ returns-in-Ok g c has =
     inl (
       string_bytes c.in-Ok.page,
       c.in-Ok.ensures has,
-      subst (λ (page : List ℕ). UsageWritten (usage.Help (heading c.args.config.now ++ page)) c.show_page.result c.args.streams.now c.show_page.new.streams) c.as_str.ensures c.show_page.ensures,
+      subst (λ (page : List ℕ). UsageWritten (usage.Help (heading c.args.config.now ++ page)) c.show_page.result c.args.streams.now c.show_page.new.streams) c.as_str.ensures.value c.show_page.ensures,
     )

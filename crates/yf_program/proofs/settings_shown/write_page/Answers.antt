@@ -8,4 +8,6 @@ returns-in_err-write_heading g c =
     writes_refused _ _ _ _ _ _ _ c.from_residual.ensures.1 broke.0 (broke_first _ _ _ (heading c.args.config.now) c.args.page.now broke.1)
 
 pub returns : goal.returns
-returns g c = writes_second _ _ _ _ _ _ (heading c.args.config.now) c.args.page.now _ c.in_ok-write_heading.ensures c.write_text.ensures
+returns g c =
+    writes_second _ _ _ _ _ _ (heading c.args.config.now) c.args.page.now _ c.in_ok-write_heading.ensures
+    (rw (← c.as_bytes.ensures.value) c.write_text.ensures)
