@@ -5,7 +5,7 @@ import subprocess
 
 NAME = 'file:///tmp/one.yaml'
 CAPABILITIES = {
-    'textDocumentSync': {'openClose': True, 'change': 2, 'willSaveWaitUntil': True},
+    'textDocumentSync': {'openClose': True, 'change': 2},
     'documentFormattingProvider': True,
     'documentRangeFormattingProvider': True,
     'codeActionProvider': {'codeActionKinds': ['source.fixAll.yamlfmt']},

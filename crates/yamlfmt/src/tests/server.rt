@@ -21,7 +21,7 @@ static RECEIVED: [&str; 11] = [
 
 /// What the server sends.
 static SENT: [&str; 10] = [
-    r#"{"id":1,"jsonrpc":"2.0","result":{"capabilities":{"codeActionProvider":{"codeActionKinds":["source.fixAll.yamlfmt"]},"diagnosticProvider":{"interFileDependencies":false,"workspaceDiagnostics":false},"documentFormattingProvider":true,"documentRangeFormattingProvider":true,"positionEncoding":"utf-16","textDocumentSync":{"change":2,"openClose":true,"willSaveWaitUntil":true}}}}"#,
+    r#"{"id":1,"jsonrpc":"2.0","result":{"capabilities":{"codeActionProvider":{"codeActionKinds":["source.fixAll.yamlfmt"]},"diagnosticProvider":{"interFileDependencies":false,"workspaceDiagnostics":false},"documentFormattingProvider":true,"documentRangeFormattingProvider":true,"positionEncoding":"utf-16","textDocumentSync":{"change":2,"openClose":true}}}}"#,
     r#"{"jsonrpc":"2.0","method":"textDocument/publishDiagnostics","params":{"diagnostics":[{"code":"document-start","message":"no `---` before the document","range":{"end":{"character":0,"line":0},"start":{"character":0,"line":0}},"severity":2,"source":"yamlfmt"}],"uri":"u","version":7}}"#,
     r#"{"id":"f","jsonrpc":"2.0","result":[{"newText":"---\n","range":{"end":{"character":0,"line":0},"start":{"character":0,"line":0}}}]}"#,
     r#"{"jsonrpc":"2.0","method":"textDocument/publishDiagnostics","params":{"diagnostics":[],"uri":"w","version":1}}"#,
