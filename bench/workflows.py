@@ -117,5 +117,5 @@ def gitlab_changed(room, text, clone):
     sh(['git', 'add', 'new.yaml'], room)
     sh(['git', 'commit', '-qm', 'merge request'], room)
     said, lost = (sh([*RUN_BASH, script_lines(text)], room, env={'CI_MERGE_REQUEST_DIFF_BASE_SHA': name}) for name in (base, 'f' * 40))
-    return (said.returncode == 123 and '+++ new.yaml\n' in said.stdout and 'a b.yaml' not in said.stdout
-            and lost.returncode not in (0, 123))
+    return (said.returncode == 1 and '+++ new.yaml\n' in said.stdout and 'a b.yaml' not in said.stdout
+            and lost.returncode not in (0, 1))
