@@ -9,8 +9,8 @@ pub const RULES: [Page; 14] = [
         text: concat!(
             "# trailing-blanks\n\n",
             "White space at the end of a line.\n\n",
-            "It is invisible, and editors remove it or not, so it makes changes that nobody meant. The content\n",
-            "lines of block scalars keep theirs, since it is data there.\n\n",
+            "It is invisible, and editors remove it or not, so it makes changes that nobody meant. In the\n",
+            "content of a block scalar, white space at the end of a line is data and no fault.\n\n",
             "Wrong:\n\n",
             "    ---\n",
             "    name: web<space>\n",
@@ -27,7 +27,9 @@ pub const RULES: [Page; 14] = [
         text: concat!(
             "# indentation\n\n",
             "A block collection, or the content of a block scalar, that is not at its column.\n\n",
-            "Entries are `indent` columns to the right of the entries around them. The message gives the column.\n\n",
+            "The entries of a collection are `indent` columns to the right of the entries around it. With\n",
+            "`seq_indent = false`, a sequence in a mapping begins at the column of its key. `--explain` prints\n",
+            "the expected column.\n\n",
             "Wrong:\n\n",
             "    ---\n",
             "    server:\n",
@@ -108,7 +110,7 @@ pub const RULES: [Page; 14] = [
         name: "byte-order-mark",
         text: concat!(
             "# byte-order-mark\n\n",
-            "A byte order mark (U+FEFF) outside of scalars.\n\n",
+            "A byte order mark (U+FEFF) outside scalars.\n\n",
             "UTF-8 needs none, and some tools take it for a part of the first key.\n\n",
             "Wrong:\n\n",
             "    <U+FEFF>---\n",
@@ -124,7 +126,8 @@ pub const RULES: [Page; 14] = [
         text: concat!(
             "# blank-lines\n\n",
             "A blank line too many.\n\n",
-            "One blank line separates entries. None is at the start or the end of a text, or after a `---`.\n\n",
+            "At most one blank line separates entries. A text has none at its start or end, after a `---`, or\n",
+            "before a `---`, a `...` or a directive.\n\n",
             "Wrong:\n\n",
             "    ---\n",
             "    name: web\n\n\n",
@@ -173,8 +176,8 @@ pub const RULES: [Page; 14] = [
         text: concat!(
             "# line-length\n\n",
             "A line with more columns than `max_line`.\n\n",
-            "`fmt` never breaks a line, since a break inside a scalar could change it. Break the line, use a\n",
-            "block scalar, or raise the limit.\n\n",
+            "`fmt` breaks no scalar, and joins the lines of a plain or quoted one. Use a block scalar, or raise\n",
+            "the limit.\n\n",
             "Wrong:\n\n",
             "    ---\n",
             "    text: xxxxxxxxxxxxxxxxxxxxxxxxxxxxxxxxxxxxxxxxxxxxxxxxxxxxxxxxxxxx",
