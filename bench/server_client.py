@@ -190,7 +190,7 @@ def faulty_changes(program, server):
     server.open('b:   2\n', uri='file:///tmp/two.yaml')
     server.receive()
     for version, changes in ((1, [{'text': ''}]), (2, [{'range': reversed_range, 'text': ''}]),
-                             (2, [{'text': ''}, {'range': reversed_range, 'text': ''}]), (None, [{'text': ''}]),
+                             (2, [{'text': 'x\ny\n'}, {'range': reversed_range, 'text': ''}]), (None, [{'text': ''}]),
                              ('2', [{'text': ''}]), (2, None), (2, [{}]), (2, [{'range': {}, 'text': ''}])):
         server.change(version, changes)
         check_lost(server)
