@@ -1,8 +1,8 @@
-//! yamlfmt: formats YAML in one house style, checks its style and prints its events.
+//! yamlfmt: formats YAML in one house style, checks its style, prints its events and serves editors.
 #![tactic(auto)]
 
 ghost use Rattle.std.specs.Prelude.{[]};
-ghost use Rattle.yf_program.specs.World.{nothing_known};
+ghost use Rattle.yf_host.specs.World.{nothing_known};
 
 #[cfg(test)]
 mod tests;
@@ -15,17 +15,17 @@ use std::process::ExitCode;
 use std::rt::Env;
 use std::{env, fs, io};
 use yf_discovery::folders::There;
+use yf_host::files::open;
+use yf_host::inputs::{Again, Inputs};
+use yf_host::replacing::SystemFiles;
+use yf_host::report::report;
+use yf_host::reserved::reserve;
+use yf_host::sources::Sources;
+use yf_host::streams::Streams;
 use yf_lines::fault::Fault;
 use yf_lines::watched::Watched;
 use yf_program::answer::answer;
-use yf_program::files::open;
-use yf_program::inputs::{Again, Inputs};
 use yf_program::left::{LEFT, Noting, Silenced};
-use yf_program::replacing::SystemFiles;
-use yf_program::report::report;
-use yf_program::reserved::reserve;
-use yf_program::sources::Sources;
-use yf_program::streams::Streams;
 use yf_rules::input::read_all;
 use yf_rules::run::INPUT_LIMIT;
 

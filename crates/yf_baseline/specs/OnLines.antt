@@ -1,4 +1,4 @@
--- Ranges with an asked line.
+-- Ranges that meet a line that the caller asks for.
 use Rattle.std.specs.Prelude.{◌≡◌, ℕ, ◌-◌, ◌≤◌, ◌&&◌, Bool, true, nat_le, nat_lt, List, if◌then◌else◌}
 use Rattle.std.specs.List.{list_any}
 use Rattle.yf_line_ranges.specs.declared.range.LineRange.{LineRange}
@@ -13,7 +13,7 @@ last_line r = if nat_le r.end_column 1 && nat_lt r.line r.end_line then r.end_li
 abbrev pub has_common : LineRange → ℕ → ℕ → Bool
 has_common lines first last = nat_le lines.first lines.last && (nat_le lines.first last && nat_le first lines.last)
 
--- the range has an asked line
+-- a line of the range is asked for
 abbrev pub is_on : List LineRange → Range → Bool
 is_on asked r = list_any (λ lines. has_common lines r.line (last_line r)) asked
 

@@ -17,7 +17,7 @@ pub fn entries_ignore_order()
     ensures { EntriesIgnoreOrder }
 {}
 
-/// A range is on asked lines if and only if one of its lines is asked.
+/// A range meets the lines of `asked` if and only if one of its lines is in `asked`.
 pub fn is_on_tells()
     ensures { IsOnTells }
 {}

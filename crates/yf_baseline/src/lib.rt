@@ -1,9 +1,9 @@
-//! Baselines and asked lines: they select findings of a check.
+//! Baselines and line ranges: both select findings of a check.
 //!
 //! A baseline lists the findings that a team has accepted, so that a check reports only new ones. An entry of it is a
 //! finding without its position: the file, the rule, a hash of the text of its line, and the number of earlier findings
-//! that have an equal rule and an equal hash. So an entry stays when lines move. The crate knows no YAML and no rule.
-//! docs/FORMATS.md describes the file for users.
+//! of the file with this rule and this hash. So an entry still matches when other lines change. The crate knows no YAML
+//! and no rule. docs/FORMATS.md describes the file for users.
 #![tactic(auto)]
 
 pub mod baseline;

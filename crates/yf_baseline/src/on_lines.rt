@@ -1,4 +1,4 @@
-//! The findings on asked lines.
+//! The findings on the lines that a caller asks for.
 ghost use Rattle.std.specs.Prelude.{◌≡◌, ◌≤◌, length, map, IfOk};
 ghost use Rattle.yf_baseline.specs.Chosen.{chosen};
 ghost use Rattle.yf_baseline.specs.OnLines.{has_common, is_on, last_line};
@@ -8,8 +8,8 @@ use std::alloc::{AllocError, Global};
 use yf_line_ranges::range::LineRange;
 use yf_report::problem::Range;
 
-/// Returns the findings whose ranges have an asked line, in order. The first range is that of the first finding, and so
-/// on. An empty range has the line of its position.
+/// Returns the findings that meet a line of `asked`, in order. `ranges` holds the ranges of the findings, in the order
+/// of the findings. An empty range meets the line of its position.
 ///
 /// # Errors
 ///
@@ -27,7 +27,7 @@ pub fn findings_on_lines<F: Copy + Drop>(
     chosen(alloc, findings, flags.as_slice())
 }
 
-// Returns for each range whether it has an asked line.
+// Returns for each range whether it meets a line of `asked`.
 fn flags_on(alloc: Global, ranges: &[Range], asked: &[LineRange]) -> Result<Vec<bool>, AllocError>
     ensures { IfOk result (λ flags. flags.items ≡ map (λ r. is_on asked.now r) ranges.now) }
 {
@@ -37,7 +37,7 @@ fn flags_on(alloc: Global, ranges: &[Range], asked: &[LineRange]) -> Result<Vec<
         .collect(alloc)
 }
 
-/// Returns whether a range has an asked line.
+/// Returns whether a range meets a line of `asked`.
 pub fn is_on(range: &Range, asked: &[LineRange]) -> bool
     ensures { result ≡ is_on asked.now range.now }
 {

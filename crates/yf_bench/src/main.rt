@@ -1,9 +1,9 @@
 //! Makes streams of YAML from the pieces of a file and a seed, runs one command on each, and prints a digest of the
 //! output. `bench/run` times it.
 //!
-//! Words: `events`, `check` or `fmt`; the number of streams; the number of pieces of the largest; the seed. Standard
-//! input contains the pieces, between lines `%%`; in a piece `@w` is replaced by a word, `@n` by a number, and `@i` by
-//! a number that occurs nowhere else in the streams.
+//! The arguments are `events`, `check` or `fmt`; the number of streams; the number of pieces of the largest stream; and
+//! the seed. Standard input contains the pieces, with lines `%%` between them. In a piece, `@w` means a word, `@n` a
+//! number, and `@i` a number that occurs nowhere else in the streams.
 #![tactic(auto)]
 
 mod command;

@@ -110,8 +110,8 @@ impl<'a> BlockReader<'a> {
         }
     }
 
-    // Like `take_content`, for content that begins with a property. Kept apart for speed: row `take_held_content` of
-    // docs/PERF.md.
+    // Like `take_content`, for content that begins with a property. A function of its own, which is
+    // faster: see row `take_held_content` of docs/PERF.md.
     #[inline(never)]
     fn take_held_content(
         &mut self,
@@ -164,8 +164,8 @@ impl<'a> BlockReader<'a> {
         }
     }
 
-    // Like `take_after_properties`, with properties on earlier lines. Kept apart for speed: row `take_after_lines` of
-    // docs/PERF.md.
+    // Like `take_after_properties`, with properties on earlier lines. A function of its own, which is faster:
+    // see row `take_after_lines` of docs/PERF.md.
     #[inline(never)]
     fn take_after_lines(
         &mut self,

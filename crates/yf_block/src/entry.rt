@@ -195,8 +195,8 @@ impl<'a> BlockReader<'a> {
         self.take_key_after(scope, column, key, &None)
     }
 
-    // Like `take_key`, for a key that begins with a property. Kept apart for speed: row `take_held_key` of
-    // docs/PERF.md.
+    // Like `take_key`, for a key that begins with a property. A function of its own, which is faster: see
+    // row `take_held_key` of docs/PERF.md.
     #[inline(never)]
     fn take_held_key(
         &mut self,

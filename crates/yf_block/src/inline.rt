@@ -315,7 +315,7 @@ fn begin_mapping<'a>(
 }
 
 // Like `begin_mapping`, with properties on earlier lines: a key read with them is read again.
-// Kept apart for speed: row `begin_held_mapping` of docs/PERF.md.
+// A function of its own, which is faster: see row `begin_held_mapping` of docs/PERF.md.
 #[inline(never)]
 fn begin_held_mapping<'a>(
     scope: BlockContext<'a>,

@@ -1,6 +1,6 @@
 -- Each line of words either asks for one request or is refused, and never both: `AsksFor` and `RefusesWords` are exact.
 -- The only refusal that is possible for any words is that of memory.
-use Rattle.std.proofs.Common.{◌≡◌, ◌≢◌, ◌⊎◌, ◌||◌, ℕ, Bool, true, false, List, [], ◌∷◌, map, codes}
+use Rattle.std.proofs.Common.{◌≡◌, ◌≢◌, ◌⊎◌, ◌||◌, ℕ, Bool, true, false, List, [], ◌∷◌, codes}
 use Rattle.std.proofs.Common.{Vec, Option, Some, None, refl, sym, ap, subst, ◌∙◌, inl, inr, arith}
 use Rattle.std.proofs.Common.{slice_index}
 use Rattle.std.proofs.lemmas.Bool.{false≢true}
@@ -15,13 +15,12 @@ use Rattle.yf_line_ranges.specs.declared.range.LineRange.{LineRange}
 use Rattle.yf_command_line.specs.Options.{yamlfmt}
 use Rattle.yf_command_line.specs.Requests.{AsksFor, AsksText, IsCommand, IsNoCommand, IsNoRequest, IsRequest, Met}
 use Rattle.yf_command_line.specs.Requests.{RefusesWords, files_given, first_input}
-use Rattle.yf_command_line.specs.Requests.{is_flag, AsksTwice, IsSettings, config_given, takes_defaults}
+use Rattle.yf_command_line.specs.Requests.{is_flag, AsksTwice, IsSettings, config_given, stdin_name_given}
+use Rattle.yf_command_line.specs.Requests.{takes_defaults}
 use Rattle.yf_command_line.specs.Requests.IsNoCommand.{other_name, no_check, no_fmt}
 use Rattle.yf_command_line.specs.declared.command.Command.{Command}
 use Rattle.yf_command_line.specs.declared.command.Command.TheVariants as command
 use Rattle.yf_command_line.specs.declared.command.Input.{Input}
-use Rattle.yf_command_line.specs.declared.command.Input.TheVariants.{Standard}
-use Rattle.yf_command_line.specs.declared.command.InputList.{InputList}
 use Rattle.yf_command_line.specs.declared.command.Request.{Request}
 use Rattle.yf_command_line.specs.declared.command.Settings.{Settings}
 use Rattle.yf_command_line.specs.declared.command.Settings.TheVariants as asked
@@ -112,6 +111,9 @@ pub record SameRequest (a b : Request) : Type 0 where
   pub settings : a.settings ≡ b.settings
   pub shows : a.shows_settings ≡ b.shows_settings
   pub explain : a.explain ≡ b.explain
+  pub any_text : a.any_text ≡ b.any_text
+  pub names : a.names ≡ b.names
+  pub stdin_name : a.stdin_name ≡ b.stdin_name
   pub command : SameCommand a.command b.command
 
 met_once : (rules : List Text) (before : List Row) (met : Met) (a b : Request) → IsRequest rules before met a
@@ -125,6 +127,9 @@ met_once rules before met a b p q =
           (subst (λ (rows : List Row). IsSettings rows a.settings) given p.settings) q.settings;
       shows = p.shows ∙ (ap (is_flag (codes "show-settings")) given ∙ sym q.shows);
       explain = p.explain ∙ (ap explained given ∙ sym q.explain);
+      any_text = p.any_text ∙ (ap (λ rows. is_flag (codes "any-text") rows) given ∙ sym q.any_text);
+      names = p.names ∙ (ap (λ rows. is_flag (codes "names") rows) given ∙ sym q.names);
+      stdin_name = p.stdin_name ∙ (ap (λ rows. stdin_name_given rows) given ∙ sym q.stdin_name);
       command = command_once rules q.name q.given a.command b.command
           (subst (λ (m : Text × List Row). IsCommand rules m.0 m.1 a.command) same p.command) q.command;
     }
@@ -205,9 +210,23 @@ module _ (inputs : List Input → Vec Input Global) (inputs_are : (l : List Inpu
               settings = s.0;
               shows_settings = is_flag (codes "show-settings") m.1;
               explain = is_flag (codes "explain") before || is_flag (codes "explain") m.1;
+              any_text = is_flag (codes "any-text") m.1;
+              names = is_flag (codes "names") m.1;
+              stdin_name = stdin_name_given m.1;
               command = a.0;
             },
-            record { name = m.0; given = m.1; named = refl; command = a.1; settings = s.1; shows = refl; explain = refl },
+            record {
+              name = m.0;
+              given = m.1;
+              named = refl;
+              command = a.1;
+              settings = s.1;
+              shows = refl;
+              explain = refl;
+              any_text = refl;
+              names = refl;
+              stdin_name = refl;
+            },
           )
           | inr twice ↦ inr (inr twice)
         ]

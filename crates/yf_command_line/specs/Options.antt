@@ -25,6 +25,18 @@ show_settings_flag =
 abbrev pub explain_flag : Rule
 explain_flag = record (new_rule (codes "explain")) { long = Some (codes "explain"); action = Some SetTrue }
 
+-- `--any-text`
+abbrev pub any_text_flag : Rule
+any_text_flag = record (new_rule (codes "any-text")) { long = Some (codes "any-text"); action = Some SetTrue }
+
+-- `--stdin-name NAME`
+abbrev pub stdin_name_option : Rule
+stdin_name_option = record (new_rule (codes "stdin-name")) { long = Some (codes "stdin-name"); value_names = 1 }
+
+-- `--names`
+abbrev pub names_flag : Rule
+names_flag = record (new_rule (codes "names")) { long = Some (codes "names"); action = Some SetTrue }
+
 -- `--write`
 abbrev pub write_flag : Rule
 write_flag = record (new_rule (codes "write")) { long = Some (codes "write"); action = Some SetTrue }
@@ -74,24 +86,29 @@ with_defaults name = with_rule (with_config name) no_config_flag
 abbrev pub with_settings : Text → App
 with_settings name = with_rule (with_defaults name) show_settings_flag
 
--- `NAME SETTINGS [--explain]`
+-- READING, the words of commands with a FILE: `NAME SETTINGS [--explain] [--any-text] [--stdin-name NAME]`
 abbrev pub configured : Text → App
-configured name = with_rule (with_settings name) explain_flag
+configured name =
+    with_rule (with_rule (with_rule (with_settings name) explain_flag) any_text_flag) stdin_name_option
 
--- `NAME SETTINGS [--explain] [FILE]`
+-- `NAME SETTINGS READING [FILE]`
 abbrev pub reading_command : Text → App
 reading_command name = with_rule (configured name) file_word
 
--- `check SETTINGS [--explain] [--without RULES] [--format FORMAT] [FILE..]`
+-- `NAME SETTINGS READING [--names]`
+abbrev pub naming : Text → App
+naming name = with_rule (configured name) names_flag
+
+-- `check SETTINGS READING [--names] [--without RULES] [--format FORMAT] [FILE..]`
 abbrev pub checking_command : App
 checking_command =
-    with_rule (with_rule (with_rule (configured (codes "check")) without_option) format_option) file_words
+    with_rule (with_rule (with_rule (naming (codes "check")) without_option) format_option) file_words
 
--- `fmt SETTINGS [--explain] [--write] [--check] [--diff]`
+-- `fmt SETTINGS READING [--names] [--write] [--check] [--diff]`
 abbrev pub formatting_command : App
-formatting_command = with_rule (with_rule (with_rule (configured (codes "fmt")) write_flag) check_flag) diff_flag
+formatting_command = with_rule (with_rule (with_rule (naming (codes "fmt")) write_flag) check_flag) diff_flag
 
--- `fmt SETTINGS [--explain] [--write] [--check] [--diff] [--lines LINES] [FILE..]`
+-- `fmt SETTINGS READING [--names] [--write] [--check] [--diff] [--lines LINES] [FILE..]`
 abbrev pub writing_command : App
 writing_command = with_rule (with_rule formatting_command lines_option) file_words
 

@@ -48,6 +48,10 @@ takes_defaults given = is_flag (codes "no-config") given
 abbrev pub config_given : List Row → Option Text
 config_given given = first_of (codes "config") given
 
+-- The NAME of `--stdin-name`, if it is given.
+abbrev pub stdin_name_given : List Row → Option Text
+stdin_name_given given = first_of (codes "stdin-name") given
+
 -- Whether `--write` is given.
 abbrev pub writes : List Row → Bool
 writes given = is_flag (codes "write") given
@@ -204,6 +208,12 @@ pub record IsRequest (rules : List Text) (before : List Row) (met : Met) (reques
   pub shows : request.shows_settings ≡ is_flag (codes "show-settings") given
   -- `--explain`, before the command or after it
   pub explain : request.explain ≡ (is_flag (codes "explain") before || is_flag (codes "explain") given)
+  -- `--any-text`
+  pub any_text : request.any_text ≡ is_flag (codes "any-text") given
+  -- `--names`
+  pub names : request.names ≡ is_flag (codes "names") given
+  -- `--stdin-name NAME`
+  pub stdin_name : request.stdin_name ≡ stdin_name_given given
 
 -- The words are accepted, and ask for this request.
 abbrev pub AsksFor : List Text → List Text → Request → Type 0

@@ -117,6 +117,12 @@ pub struct Request {
     pub shows_settings: bool,
     /// Whether to explain each fault and each finding.
     pub explain: bool,
+    /// Whether to take any text, also one that is no data (`--any-text`).
+    pub any_text: bool,
+    /// Whether lines have the name of their input, even if there is only one (`--names`).
+    pub names: bool,
+    /// The name of standard input (`--stdin-name NAME`).
+    pub stdin_name: Option<OwnedText>,
     /// The command.
     pub command: Command,
 }

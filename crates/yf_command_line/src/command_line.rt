@@ -9,8 +9,8 @@ use crate::command::{Check, Command, Fmt, Request, Settings};
 use crate::formats::output_met;
 use crate::inputs::{files_of, first_input, has_standard_input, inputs_of};
 use crate::options::{
-    CHECK, CONFIG, DIFF, EVENTS, EXPLAIN, FILE, FMT, FORMAT, LINES, NO_CONFIG, SERVER,
-    SHOW_SETTINGS, WITHOUT, WRITE, yamlfmt_command,
+    ANY_TEXT, CHECK, CONFIG, DIFF, EVENTS, EXPLAIN, FILE, FMT, FORMAT, LINES, NAMES, NO_CONFIG,
+    SERVER, SHOW_SETTINGS, STDIN_NAME, WITHOUT, WRITE, yamlfmt_command,
 };
 use crate::part::part_met;
 use crate::refused_words::{
@@ -26,17 +26,18 @@ use std::alloc::Global;
 /// Parses the words after the program's name into a request. `rules` are the names of all rules. `--explain` may also
 /// come before the command. The commands are:
 ///
-/// - `events [SETTINGS] [--explain] [FILE]`
-/// - `check [SETTINGS] [--explain] [--without RULES] [--format FORMAT] [FILE..]`. RULES are names of rules, separated
-///   by commas. The option may be given more than once. FORMAT is `line`, `json`, `sarif`, `github`, `gitlab`, `junit`
-///   or `checkstyle`.
-/// - `fmt [SETTINGS] [--explain] [--write] [--check] [--diff] [--lines LINES] [FILE..]`. `--write` needs a FILE, and no
-///   FILE may be `-`. It excludes `--check` and `--diff`. Several FILEs need `--write`, or `--check` without `--diff`.
-///   `--lines` takes at most one FILE. LINES are numbers of lines and ranges, as in `3-7,12`. The option may be given
-///   more than once.
+/// - `events [SETTINGS] [READING] [FILE]`
+/// - `check [SETTINGS] [READING] [--names] [--without RULES] [--format FORMAT] [FILE..]`. RULES are names of rules,
+///   separated by commas. The option may be given more than once. FORMAT is `line`, `json`, `sarif`, `github`,
+///   `gitlab`, `junit` or `checkstyle`.
+/// - `fmt [SETTINGS] [READING] [--names] [--write] [--check] [--diff] [--lines LINES] [FILE..]`. `--write` needs a
+///   FILE, and no FILE may be `-`. It excludes `--check` and `--diff`. Several FILEs need `--write`, or `--check`
+///   without `--diff`. `--lines` takes at most one FILE. LINES are numbers of lines and ranges, as in `3-7,12`. The
+///   option may be given more than once.
 /// - `server [SETTINGS] [--stdio]`. It always reads standard input, and `--stdio` changes nothing: editors pass it.
 ///
-/// SETTINGS is `--config FILE` or `--no-config`, and `--show-settings`.
+/// SETTINGS is `--config FILE` or `--no-config`, and `--show-settings`. READING is `--explain`, `--any-text` and
+/// `--stdin-name NAME`.
 ///
 /// A FILE `-` is standard input. Without a FILE a command reads standard input.
 ///
@@ -76,10 +77,14 @@ fn request_met(alloc: Global, matches: &ArgMatches<'_>, rules: &[&str]) -> Resul
         Ok(settings) => settings,
         Err(usage) => return Err(usage),
     };
+    let stdin_name = text_given(alloc, given, STDIN_NAME)?;
     Ok(Request {
         settings,
         shows_settings: is_given(given, SHOW_SETTINGS),
         explain: is_explained(matches, given),
+        any_text: is_given(given, ANY_TEXT),
+        names: is_given(given, NAMES),
+        stdin_name,
         command,
     })
 }

@@ -1,7 +1,8 @@
 //! The commands of the program and their options, as the library for command lines takes them.
 ghost use Rattle.std.specs.Prelude.{◌≡◌, IfOk};
 ghost use Rattle.clap.specs.Words.{App, Rule, app_of, with_rule, with_subcommand};
-ghost use Rattle.yf_command_line.specs.Options.{bare_command, check_flag, checking_command, config_option, configured};
+ghost use Rattle.yf_command_line.specs.Options.{any_text_flag, bare_command, check_flag, checking_command};
+ghost use Rattle.yf_command_line.specs.Options.{config_option, configured, names_flag, naming, stdin_name_option};
 ghost use Rattle.yf_command_line.specs.Options.{diff_flag, explain_flag, file_word, file_words, formatting_command};
 ghost use Rattle.yf_command_line.specs.Options.{format_option, lines_option, no_config_flag, show_settings_flag};
 ghost use Rattle.yf_command_line.specs.Options.{with_config, with_defaults, with_settings, write_flag};
@@ -28,6 +29,12 @@ pub(crate) const NO_CONFIG: &str = "no-config";
 pub(crate) const SHOW_SETTINGS: &str = "show-settings";
 
 pub(crate) const EXPLAIN: &str = "explain";
+
+pub(crate) const ANY_TEXT: &str = "any-text";
+
+pub(crate) const STDIN_NAME: &str = "stdin-name";
+
+pub(crate) const NAMES: &str = "names";
 
 pub(crate) const WITHOUT: &str = "without";
 
@@ -60,7 +67,9 @@ fn bare_command<'a>(alloc: Global) -> Result<Command<'a>, AllocError>
 {
     let command = Command::new(alloc, "yamlfmt")
         .version(VERSION)
-        .about("Formats YAML in one house style, checks its style and prints its events")
+        .about(
+            "Formats YAML in one house style, checks its style, prints its events and serves editors",
+        )
         .no_binary_name(true)
         .subcommand_required(true)
         .arg_required_else_help(true);
@@ -100,7 +109,7 @@ fn reading_command<'a>(
 fn check_command<'a>(alloc: Global) -> Result<Command<'a>, AllocError>
     ensures { IfOk result (λ c. IsPart c checking_command) }
 {
-    let command = configured(alloc, CHECK, "Report where a file breaks a style rule");
+    let command = naming(alloc, CHECK, "Report where a file breaks a style rule");
     let leaving_out = with_arg(command, without_option(alloc));
     let printing = with_arg(leaving_out, format_option(alloc));
     with_arg(printing, file_words(alloc))
@@ -109,16 +118,19 @@ fn check_command<'a>(alloc: Global) -> Result<Command<'a>, AllocError>
 fn fmt_command<'a>(alloc: Global) -> Result<Command<'a>, AllocError>
     ensures { IfOk result (λ c. IsPart c writing_command) }
 {
-    let lines = lines_option(alloc, "Format only these lines, for example 3-7,12");
+    let lines = lines_option(
+        alloc,
+        "Format these lines, for example 3-7,12; lines near them may change too",
+    );
     let choosing = with_arg(formatting_command(alloc), lines);
     with_arg(choosing, file_words(alloc))
 }
 
-// Returns `fmt` with `--config`, `--explain`, `--write`, `--check` and `--diff`.
+// Returns `fmt` with the options of `naming`, and `--write`, `--check` and `--diff`.
 fn formatting_command<'a>(alloc: Global) -> Result<Command<'a>, AllocError>
     ensures { IfOk result (λ c. IsPart c formatting_command) }
 {
-    let command = configured(alloc, FMT, "Format YAML in the house style");
+    let command = naming(alloc, FMT, "Format YAML in the house style");
     let writing = with_arg(command, write_flag(alloc));
     let checking = with_arg(writing, check_flag(alloc));
     with_arg(checking, diff_flag(alloc))
@@ -131,11 +143,20 @@ fn server_command<'a>(alloc: Global) -> Result<Command<'a>, AllocError>
     with_arg(command, stdio_flag(alloc))
 }
 
-// A command with `--config`, `--no-config`, `--show-settings` and `--explain`.
+// A command with the options of `configured`, and `--names`.
+fn naming<'a>(alloc: Global, name: &'a str, about: &'a str) -> Result<Command<'a>, AllocError>
+    ensures { IfOk result (λ c. IsPart c (naming name.entry.now)) }
+{
+    with_arg(configured(alloc, name, about), names_flag(alloc))
+}
+
+// A command with `--config`, `--no-config`, `--show-settings`, `--explain`, `--any-text` and `--stdin-name`.
 fn configured<'a>(alloc: Global, name: &'a str, about: &'a str) -> Result<Command<'a>, AllocError>
     ensures { IfOk result (λ c. IsPart c (configured name.entry.now)) }
 {
-    with_arg(with_settings(alloc, name, about), explain_flag(alloc))
+    let explaining = with_arg(with_settings(alloc, name, about), explain_flag(alloc));
+    let taking = with_arg(explaining, any_text_flag(alloc));
+    with_arg(taking, stdin_name_option(alloc))
 }
 
 // A command with `--config`, `--no-config` and `--show-settings`.
@@ -197,7 +218,7 @@ fn no_config_flag<'a>(alloc: Global) -> Arg<'a>
     Arg::new(alloc, NO_CONFIG)
         .long(NO_CONFIG)
         .action(ArgAction::SetTrue)
-        .help("Use the default settings, and look for no settings file")
+        .help("Use the default settings; don't look for a settings file")
 }
 
 fn show_settings_flag<'a>(alloc: Global) -> Arg<'a>
@@ -216,6 +237,33 @@ fn explain_flag<'a>(alloc: Global) -> Arg<'a>
         .long(EXPLAIN)
         .action(ArgAction::SetTrue)
         .help("Explain errors and findings on standard error")
+}
+
+fn any_text_flag<'a>(alloc: Global) -> Arg<'a>
+    ensures { IsOption result any_text_flag }
+{
+    Arg::new(alloc, ANY_TEXT)
+        .long(ANY_TEXT)
+        .action(ArgAction::SetTrue)
+        .help("Don't skip encrypted files, templates and plain text over several lines")
+}
+
+fn stdin_name_option<'a>(alloc: Global) -> Arg<'a>
+    ensures { IsOption result stdin_name_option }
+{
+    Arg::new(alloc, STDIN_NAME)
+        .long(STDIN_NAME)
+        .value_name("NAME")
+        .help("The name of standard input, for messages, excludes and templates")
+}
+
+fn names_flag<'a>(alloc: Global) -> Arg<'a>
+    ensures { IsOption result names_flag }
+{
+    Arg::new(alloc, NAMES)
+        .long(NAMES)
+        .action(ArgAction::SetTrue)
+        .help("Print the name of the input before each line, even if there is only one")
 }
 
 fn without_option<'a>(alloc: Global) -> Arg<'a>
@@ -261,7 +309,7 @@ fn diff_flag<'a>(alloc: Global) -> Arg<'a>
     Arg::new(alloc, DIFF)
         .long(DIFF)
         .action(ArgAction::SetTrue)
-        .help("Print the changes as a unified diff")
+        .help("Print the changes as a unified diff, and exit with 1 if there are any")
 }
 
 fn lines_option<'a>(alloc: Global, help: &'a str) -> Arg<'a>
@@ -286,9 +334,9 @@ fn stdio_flag<'a>(alloc: Global) -> Arg<'a>
 fn file_word<'a>(alloc: Global) -> Arg<'a>
     ensures { IsOption result file_word }
 {
-    Arg::new(alloc, FILE)
-        .value_name("FILE")
-        .help("The file to read; standard input if it is missing or '-'")
+    Arg::new(alloc, FILE).value_name("FILE").help(
+        "The file to read; without FILE, or with '-', standard input",
+    )
 }
 
 fn file_words<'a>(alloc: Global) -> Arg<'a>
@@ -297,5 +345,5 @@ fn file_words<'a>(alloc: Global) -> Arg<'a>
     Arg::new(alloc, FILE)
         .value_name("FILE")
         .action(ArgAction::Append)
-        .help("The files to read; standard input if there is none, or for '-'")
+        .help("The files to read; without FILE, or for '-', standard input")
 }

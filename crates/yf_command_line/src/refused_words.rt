@@ -52,7 +52,8 @@ For more information, try '--help'.
 ";
 
 /// The message for several files without `--write` and without `--check`.
-pub(crate) const SEVERAL_FILES: &str = "error: several FILEs need '--write' or '--check'
+pub(crate) const SEVERAL_FILES: &str =
+    "error: several FILEs are possible only with '--write' or '--check'
 
 Usage: yamlfmt fmt [OPTIONS] [FILE]...
 

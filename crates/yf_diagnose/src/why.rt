@@ -94,7 +94,7 @@ impl Why {
             Why::ColonExpected => "expected a `:`, a `,` or the closing bracket",
             Why::SecondColon => "one `:` too many, or a `,` is missing before this key",
             Why::NoEntryBeforeComma => "expected an entry before this `,`",
-            Why::DashInBrackets => "`- ` begins no entry in brackets: separate entries by `,`",
+            Why::DashInBrackets => "`- ` can't begin an entry in brackets: separate entries by `,`",
             Why::PairOverLines => "in `[ ]` a key and its `:` must be on one line",
             Why::KeyOverLines => "a key and its `:` must be on one line",
             Why::ColonUnspaced => "put a space after this `:`",
@@ -106,7 +106,8 @@ impl Why {
             Why::QuotedKeyOpen => "the closing quote of a key must be on the key's line",
             Why::AfterNode => "the value has ended: expected a `:`, a comment or a new line",
             Why::AfterSingle => "this quote has ended the text: within single quotes write `''`",
-            Why::NoEscape => "this `\\` begins no escape: write `\\\\`, or use single quotes",
+            Why::NoEscape =>
+                "this `\\` does not begin an escape: write `\\\\`, or use single quotes",
             Why::EscapeDigits =>
                 "write 2 hexadecimal digits after `\\x`, 4 after `\\u`, 8 after `\\U`",
             Why::EscapedBreakFirst => "a `\\` at the end of a line can't be all that is on it",
@@ -116,7 +117,7 @@ impl Why {
             Why::LineJoined => "the lines up to here are one text, which can't be a key",
             Why::DeeperThanKey => "this line is indented deeper than the key above it",
             Why::DeeperThanItem =>
-                "this line goes on with the item's text above, which can't be a key",
+                "this line continues the item's text above, which can't be a key",
             Why::KeyWithoutColonAbove => "the `:` after the key above is missing",
             Why::ItemBelowText =>
                 "no list can begin below a value: quote the value if it is one text",
@@ -136,16 +137,16 @@ impl Why {
             Why::DashUnspaced => "put a space after the `-` of an item",
             Why::PropertyTwice => "a node can have one anchor and one tag",
             Why::AliasProperties => "an alias can have neither anchor nor tag",
-            Why::NoName => "a name must follow `&` or `*`: quote a text that begins so",
+            Why::NoName => "a name must follow `&` or `*`: quote a text that begins with it",
             Why::ColonOfAlias => "the `:` belongs to the alias's name: write a space before it",
             Why::TextAsAlias => "`*` begins an alias: quote a text that begins with `*`",
             Why::VerbatimTag => "expected the address of a tag and then `>`",
-            Why::NoSuffix => "the tag has a handle and no name",
+            Why::NoSuffix => "the tag has a handle but no name",
             Why::TagEscape => "a `%` of a tag needs two hexadecimal digits",
             Why::PropertyUnspaced => "put a space after an anchor or a tag",
             Why::CollectionAfterProperty =>
                 "a collection begins on the line after its anchor or tag",
-            Why::NoPlain => "no text without quotes begins so: quote it",
+            Why::NoPlain => "text without quotes can't begin with this character: quote it",
             Why::ScalarAsKey => "`|` or `>` can't begin a key: indent it more, or quote it",
             Why::HeaderSign =>
                 "only a digit, `+`, `-` or a comment can follow a `|` or `>` on its line",
@@ -153,7 +154,7 @@ impl Why {
             Why::Control => "this character must be written as an escape in double quotes",
             Why::Mark => "a byte order mark is allowed only before a document: remove it",
             Why::Template => "this looks like a template: YAML reads `{{` or `{%` as brackets",
-            Why::Conflict => "this looks like a conflict that a merge has left",
+            Why::Conflict => "this looks like a merge conflict",
             Why::OnDocumentLine => "no collection can begin on the line of `---`",
             Why::AfterDocumentEnd => "only a comment can follow on the line of `...`",
             Why::NoDocumentStart => "`---` must follow the directives",

@@ -268,6 +268,6 @@ fn push_byte(page: &mut Page, byte: u8, place: Position) -> Result<(), AllocErro
     push_numbers(page, place)?;
     page.push_signs(": the byte ")?;
     page.push_byte(byte)?;
-    page.push_signs(" is no UTF-8 here")?;
+    page.push_signs(" is not UTF-8 here")?;
     page.push_break()
 }

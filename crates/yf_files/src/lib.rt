@@ -1,7 +1,7 @@
 //! Files that a formatter rewrites.
 //!
-//! At any moment, also after a stop of the machine, a file holds its old text or its formatting, whole. The crate
-//! knows no YAML: it gets the formatter and the file system from its caller.
+//! At any moment, a file holds its whole old text or its whole formatting, even if the machine fails. The crate knows
+//! no YAML: its caller passes the formatter and the file system.
 #![tactic(auto)]
 
 mod file_system;

@@ -1,4 +1,5 @@
 pub mod Files
+pub mod Guards
 pub mod Ranges
 pub mod Reading
 pub mod Refusals

@@ -14,7 +14,7 @@ use yf_report::reports::{Format, report};
 /// The problems of one input.
 #[derive(Drop)]
 pub struct FileProblems {
-    /// The file's name, or `None` for standard input.
+    /// The file's name, or `None` for standard input without a name.
     pub file: Option<OwnedText>,
     pub problems: Vec<OwnedProblem>,
 }

@@ -1,5 +1,5 @@
 //! The problems of a text that a report lists: one for each finding of a check, with the range that is at fault and a
-//! message, or one for the refusal of the text.
+//! message, or one for the refusal of the text. A text that is no data has one more.
 //!
 //! The list has exactly the findings of the check, in order, and each range lies in the text. The crate writes no
 //! format.
@@ -8,6 +8,7 @@
 mod columns;
 mod ends;
 pub mod files;
+pub mod guards;
 pub mod listing;
 mod located;
 pub mod owned;

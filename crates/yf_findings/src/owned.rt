@@ -20,7 +20,7 @@ pub const FRONT: usize = 256;
 #[derive(Drop)]
 pub struct OwnedProblem {
     pub range: Range,
-    /// A rule's id or a refusal's kind.
+    /// A rule's id, a refusal's kind, or why the text is no data: `no-data` or `template`.
     pub rule: &'static str,
     pub severity: Severity,
     /// What is wrong, and for some rules what is expected.
@@ -63,8 +63,8 @@ fn words_of(alloc: Global, message: &Message) -> Result<OwnedText, AllocError>
     Ok(OwnedText::new(words))
 }
 
-// Returns the text of the line with this number, or a front of it.
-fn line_text(alloc: Global, src: &Src, number: usize) -> Result<OwnedText, AllocError>
+/// Returns the text of the line with this number, or a front of it.
+pub(crate) fn line_text(alloc: Global, src: &Src, number: usize) -> Result<OwnedText, AllocError>
     ensures { IfOk result (λ s. LineText src.now number s) }
 {
     if number == 0 {
@@ -76,8 +76,8 @@ fn line_text(alloc: Global, src: &Src, number: usize) -> Result<OwnedText, Alloc
     line_front(alloc, src, number)
 }
 
-// Returns the empty text.
-fn nothing(alloc: Global) -> OwnedText
+/// Returns the empty text.
+pub(crate) fn nothing(alloc: Global) -> OwnedText
     ensures { result ≡ [] }
 {
     OwnedText::new(String::new(alloc))

@@ -31,8 +31,8 @@ pub fn refusal(alloc: Global, bytes: &[u8], fault: &Fault) -> Result<OwnedProble
     })
 }
 
-// Returns an empty range at a position.
-fn empty_at(place: Position) -> Range
+/// Returns an empty range at a position.
+pub(crate) fn empty_at(place: Position) -> Range
     ensures { result ≡ empty_at place }
 {
     Range {

@@ -1,7 +1,7 @@
 -- A run over the inputs as they are now is also a run over the inputs as they were before. Also the runs over one of
 -- several inputs, and over all of them.
-use Rattle.std.proofs.Common.{◌≡◌, ◌≢◌, ◌⊎◌, ◌∙◌, ◌∷◌, ◌++◌, ◌+◌, ◌<◌, ◌≤◌, [], ℕ, List, Bool, false, inl, inr, add-one, ap, sym, subst, take, get_or, length, refl}
-use Rattle.std.specs.Prelude.{max, map, Result}
+use Rattle.std.proofs.Common.{◌≡◌, ◌≢◌, ◌⊎◌, ◌∙◌, ◌∷◌, ◌++◌, ◌+◌, ◌<◌, ◌≤◌, [], ℕ, List, Bool, false, true, inl, inr, add-one, ap, sym, subst, take, get_or, length, refl}
+use Rattle.std.specs.Prelude.{◌&&◌, max, map, Option, MatchBool, Result}
 use Rattle.std.proofs.Math.ListN.{get_or-map}
 use Rattle.std.proofs.Math.Seq.{take-suc}
 use Rattle.std.proofs.lemmas.List.{take_all}
@@ -20,22 +20,27 @@ use Rattle.yf_command_line.specs.declared.command.Output.TheVariants.{Lines, Rep
 use Rattle.yf_files.specs.Tree.{FilesState}
 use Rattle.yf_files.specs.declared.rewriting.RewriteError.{RewriteError}
 use Rattle.yf_forms.specs.declared.style.Style.{Style}
-use Rattle.yf_lines.specs.declared.fault.Fault.{Fault}
 use Rattle.yf_rules.specs.Runs.ByteStream.{ByteStream}
-use Rattle.yf_program.specs.Answer.{DoesAll, DoesCheck, DoesEach, DoesIn, DoesInput, DoesNamed, DoesOpened, DoesRewrite, EndsRewriting, RewritesInput, ScopedInput, ScopedRewrite, ToldMemory, empty_memory, host_in, name_of, task_of}
+use Rattle.yf_program.specs.Answer.{CopiesInput, DoesAll, DoesCheck, DoesEach, DoesIn, DoesInput, DoesNamed, DoesOpened, DoesRewrite}
+use Rattle.yf_program.specs.Answer.{EndsRewriting, Ran, RanLeftOut, RewritesInput, RunsOver, ScopedInput, ScopedRewrite, SkipsIf, SkipsInput}
+use Rattle.yf_host.specs.Memory.{ToldMemory, empty_memory}
+use Rattle.yf_program.specs.Answer.{host_in, name_of, task_of}
 use Rattle.yf_program.specs.Answer.DoesEach.{one_done, one_more}
 use Rattle.yf_program.specs.Reports.{report_task}
 use Rattle.yf_program.specs.Run.{DoesWith}
 use Rattle.yf_program.specs.Run.DoesWith.{other_version, without_memory, are_taken}
-use Rattle.yf_program.specs.Settings.{NothingDone, Scoped, scope_of}
+use Rattle.yf_program.specs.Guarded.{ReaderClaim, is_standard, prints_text}
+use Rattle.yf_program.specs.Settings.{InputWork, NothingDone, PassesBy, Scoped, scope_of}
 use Rattle.yf_program.specs.Settings.Scoped.{left_out, no_memory, included}
 use Rattle.yf_program.specs.declared.scope.Scope.{Scope}
 use Rattle.yf_program.specs.declared.search.InForce.{InForce}
 use Rattle.yf_settings.specs.declared.file_settings.FileSettings.{FileSettings}
 use Rattle.yf_program.proofs.ReportLemmas.{report_before}
-use Rattle.yf_program.specs.Rewriting.{FormatsBytes}
-use Rattle.yf_program.specs.World.{Host, InputClaim, LinkClaim, OutputStreams, StillKnown, TextClaim, WorkClaim, World}
-use Rattle.yf_program.specs.declared.sources.Sources.{Sources}
+use Rattle.yf_host.specs.Rewriting.{FormatsBytes, new_text_of}
+use Rattle.yf_host.specs.declared.guarded_text.NoNewText.{NoNewText}
+use Rattle.yf_host.specs.World.{Host, InputClaim, LinkClaim, OutputStreams, StillKnown, TextClaim, WorkClaim, World}
+use Rattle.yf_host.specs.declared.sources.Sources.{Sources}
+use Rattle.yf_program.specs.declared.task.Flags.{Flags}
 use Rattle.yf_program.specs.declared.task.Task.{Task}
 use Rattle.yf_program.specs.declared.task.Work.TheVariants as work
 
@@ -49,35 +54,57 @@ known_on ab bc = record {
 }
 
 -- what was done with the inputs as they are now was done with the inputs as they were
-module _ (before after : InputClaim) (known : StillKnown before after) (input : Input) (task : Task) where
-  opened_before : (status : ℕ) (old new : OutputStreams) → DoesOpened after input task status old new → DoesOpened before input task status old new
-  opened_before status old new (inl refused) =
-      inl (refused.0, (λ told. known.fails input (refused.1 (known.tells told))), refused.2, refused.3)
-  opened_before status old new (inr d) =
-      inr (d.0, d.1, (λ told. d.2.0 (known.tells told) ∙ known.holds input, d.2.1, λ told failed. known.fails input (d.2.2 (known.tells told) failed)), d.3)
+module _ (before after : InputClaim) (known : StillKnown before after) (input : Input) where
+  runs_before : (Ran : ReaderClaim) (status : ℕ) (old new : OutputStreams) → RunsOver after input Ran status old new → RunsOver before input Ran status old new
+  runs_before Ran status old new d =
+      (d.0, d.1, (λ told. d.2.0 (known.tells told) ∙ known.holds input, d.2.1, λ told failed. known.fails input (d.2.2 (known.tells told) failed)), d.3)
 
-module _ {F : Type 0} (earlier later : Host F) (known : StillKnown earlier.inputs later.inputs) (task : Task) where
-  pub input_before : (input : Input) (status : ℕ) (before after : World F) → DoesInput later task input status before after → DoesInput earlier task input status before after
+  opened_before : (scope : Scope) (task : Task) (status : ℕ) (old new : OutputStreams) → DoesOpened after scope input task status old new → DoesOpened before scope input task status old new
+  opened_before scope task status old new (inl refused) =
+      inl (refused.0, (λ told. known.fails input (refused.1 (known.tells told))), refused.2, refused.3)
+  opened_before scope task status old new (inr d) = inr (runs_before (Ran scope input task) status old new d)
+
+module _ {F : Type 0} (earlier later : Host F) (known : StillKnown earlier.inputs later.inputs) (scope : Scope) (task : Task) where
+  pub input_before : (input : Input) (status : ℕ) (before after : World F) → DoesInput later scope task input status before after → DoesInput earlier scope task input status before after
   input_before input status before after d =
-      (d.0, (λ noted. d.1 (known.notes noted)), opened_before earlier.inputs later.inputs known input task status before.streams after.streams d.2)
+      (d.0, (λ noted. d.1 (known.notes noted)), opened_before earlier.inputs later.inputs known input scope task status before.streams after.streams d.2)
 
 module _ {F : Type 0} (earlier later : Host F) (known : StillKnown earlier.inputs later.inputs) where
   nothing_before : (before after : World F) → NothingDone later before after → NothingDone earlier before after
   nothing_before before after n = (n.0, (λ noted. n.1 (known.notes noted)), n.2)
 
--- If Q follows from P, then Q follows for an input that may be left out.
-module _ {F : Type 0} (earlier later : Host F) (known : StillKnown earlier.inputs later.inputs) (P Q : Input → WorkClaim F) (follows : (input : Input) (status : ℕ) (before after : World F) → P input status before after → Q input status before after) where
-  pub scoped_before : (scope : Scope) (explain : Bool) (input : Input) (status : ℕ) (before after : World F)
-      → Scoped later scope explain P input status before after → Scoped earlier scope explain Q input status before after
-  scoped_before scope explain input status before after (left_out out n s t) = left_out out (nothing_before earlier later known before after n) s t
-  scoped_before scope explain input status before after (no_memory n s t) = no_memory (nothing_before earlier later known before after n) s t
-  scoped_before scope explain input status before after (included not d) = included not (follows input status before after d)
+  passes_before : (explain : Bool) (input : Input) (status : ℕ) (before after : World F) → PassesBy later explain input status before after
+      → PassesBy earlier explain input status before after
+  passes_before explain input status before after p = (nothing_before before after p.0, p.1, p.2)
+
+  copies_before : (task : Task) (input : Input) (status : ℕ) (before after : World F) → CopiesInput later task input status before after
+      → CopiesInput earlier task input status before after
+  copies_before task input status before after d =
+      (d.0, (λ noted. d.1 (known.notes noted)), runs_before earlier.inputs later.inputs known input (RanLeftOut task) status before.streams after.streams d.2)
+
+  skips_if_before : (copies : Bool) (task : Task) (input : Input) (status : ℕ) (before after : World F) → SkipsIf copies later task input status before after
+      → SkipsIf copies earlier task input status before after
+  skips_if_before true task input status before after d = copies_before task input status before after d
+  skips_if_before false task input status before after d = passes_before task.explain input status before after d
+
+-- Of two works P and Q with an input: what Q does follows from what P does, also for an input that may be left out.
+module _ {F : Type 0} (earlier later : Host F) (known : StillKnown earlier.inputs later.inputs) (P Q : InputWork F)
+    (follows : (input : Input) (status : ℕ) (before after : World F) → P.Does input status before after → Q.Does input status before after)
+    (skips : (input : Input) (status : ℕ) (before after : World F) → P.Skips input status before after → Q.Skips input status before after) where
+  pub scoped_before : (scope : Scope) (input : Input) (status : ℕ) (before after : World F)
+      → Scoped later scope P input status before after → Scoped earlier scope Q input status before after
+  scoped_before scope input status before after (left_out out d) = left_out out (skips input status before after d)
+  scoped_before scope input status before after (no_memory n s t) = no_memory (nothing_before earlier later known before after n) s t
+  scoped_before scope input status before after (included not d) = included not (follows input status before after d)
 
 module _ {F : Type 0} (earlier later : Host F) (known : StillKnown earlier.inputs later.inputs) (scope : Scope) (task : Task) where
   pub scoped_input_before : (input : Input) (status : ℕ) (before after : World F) → ScopedInput later scope task input status before after
       → ScopedInput earlier scope task input status before after
   scoped_input_before input status before after d =
-      scoped_before earlier later known (DoesInput later task) (DoesInput earlier task) (input_before earlier later known task) scope task.explain input status before after d
+      scoped_before earlier later known (record { Does = DoesInput later scope task; Skips = SkipsInput later task }) (record { Does = DoesInput earlier scope task; Skips = SkipsInput earlier task })
+      (input_before earlier later known scope task)
+      (λ input status before after. skips_if_before earlier later known (is_standard input && prints_text task.work) task input status before after)
+      scope input status before after d
 
 -- If Q follows from P, then Q follows for one of several inputs, and for all of them.
 module _ {F : Type 0} (P Q : Input → WorkClaim F) (follows : (input : Input) (status : ℕ) (before after : World F) → P input status before after → Q input status before after) where
@@ -85,17 +112,23 @@ module _ {F : Type 0} (P Q : Input → WorkClaim F) (follows : (input : Input) (
   named_by name input status before after d =
       (d.0, d.1, follows input d.0 (record before { streams = empty_memory }) (record after { streams = d.1 }) d.2, d.3)
 
-  each_by : {before after : World F} {inputs : List Input} {status : ℕ} → DoesEach P before inputs status after → DoesEach Q before inputs status after
-  each_by {before = before} (one_done {input = input} {status = status} {after = after} d) = one_done (named_by (name_of input) input status before after d)
-  each_by (one_more {between = between} input one {after = after} done d) = one_more input one (each_by done) (named_by (name_of input) input one between after d)
+  each_by : {standard : Option (List ℕ)} {before after : World F} {inputs : List Input} {status : ℕ} → DoesEach standard P before inputs status after → DoesEach standard Q before inputs status after
+  each_by {standard = standard} {before = before} (one_done {input = input} {status = status} {after = after} d) = one_done (named_by (name_of standard input) input status before after d)
+  each_by {standard = standard} (one_more {between = between} input one {after = after} done d) = one_more input one (each_by done) (named_by (name_of standard input) input one between after d)
 
-  pub all_by : (inputs : List Input) (status : ℕ) (before after : World F) → DoesAll P inputs status before after → DoesAll Q inputs status before after
-  all_by [] status before after d = absurd d
-  all_by (input ∷ []) status before after d = follows input status before after d
-  all_by (input ∷ next ∷ inputs) status before after d = each_by d
+  only_by : (names : Bool) (standard : Option (List ℕ)) (input : Input) (status : ℕ) (before after : World F)
+      → MatchBool names (DoesEach standard P before (input ∷ []) status after) (P input status before after)
+      → MatchBool names (DoesEach standard Q before (input ∷ []) status after) (Q input status before after)
+  only_by true standard input status before after d = each_by d
+  only_by false standard input status before after d = follows input status before after d
+
+  pub all_by : (scope : Scope) (inputs : List Input) (status : ℕ) (before after : World F) → DoesAll scope P inputs status before after → DoesAll scope Q inputs status before after
+  all_by scope [] status before after d = absurd d
+  all_by scope (input ∷ []) status before after d = only_by scope.names scope.stdin_name input status before after d
+  all_by scope (input ∷ next ∷ inputs) status before after d = each_by d
 
 module _ {F : Type 0} (earlier later : Host F) (known : StillKnown earlier.inputs later.inputs)
-    (rewrites : (first last : F) (name : List ℕ) (Formats : TextClaim) (result : Result Unit (RewriteError Fault)) → later.Rewrites first last name Formats result → earlier.Rewrites first last name Formats result) where
+    (rewrites : (first last : F) (name : List ℕ) (Formats : TextClaim) (result : Result Unit (RewriteError NoNewText)) → later.Rewrites first last name Formats result → earlier.Rewrites first last name Formats result) where
   rewrite_before : (explain : Bool) (Formats : TextClaim) (input : Input) (status : ℕ) (before after : World F) → RewritesInput later explain Formats input status before after
       → RewritesInput earlier explain Formats input status before after
   rewrite_before explain Formats Standard status before after d = absurd d
@@ -105,12 +138,13 @@ module _ {F : Type 0} (earlier later : Host F) (known : StillKnown earlier.input
   scoped_rewrite_before : (scope : Scope) (explain : Bool) (Formats : TextClaim) (input : Input) (status : ℕ) (before after : World F) → ScopedRewrite later scope explain Formats input status before after
       → ScopedRewrite earlier scope explain Formats input status before after
   scoped_rewrite_before scope explain Formats input status before after d =
-      scoped_before earlier later known (RewritesInput later explain Formats) (RewritesInput earlier explain Formats) (rewrite_before explain Formats) scope explain input status before after d
+      scoped_before earlier later known (record { Does = RewritesInput later explain Formats; Skips = PassesBy later explain }) (record { Does = RewritesInput earlier explain Formats; Skips = PassesBy earlier explain })
+      (rewrite_before explain Formats) (passes_before earlier later known explain) scope input status before after d
 
-  all_before : (scope : Scope) (task : Task) (inputs : List Input) (status : ℕ) (before after : World F) → DoesAll (ScopedInput later scope task) inputs status before after
-      → DoesAll (ScopedInput earlier scope task) inputs status before after
+  all_before : (scope : Scope) (task : Task) (inputs : List Input) (status : ℕ) (before after : World F) → DoesAll scope (ScopedInput later scope task) inputs status before after
+      → DoesAll scope (ScopedInput earlier scope task) inputs status before after
   all_before scope task inputs status before after d =
-      all_by (ScopedInput later scope task) (ScopedInput earlier scope task) (scoped_input_before earlier later known scope task) inputs status before after d
+      all_by (ScopedInput later scope task) (ScopedInput earlier scope task) (scoped_input_before earlier later known scope task) scope inputs status before after d
 
   check_before : (check : Check) (scope : Scope) (explain : Bool) (style : Style) (output : Output) (status : ℕ) (before after : World F)
       → DoesCheck later check scope explain style output status before after → DoesCheck earlier check scope explain style output status before after
@@ -127,19 +161,19 @@ module _ {F : Type 0} (earlier later : Host F) (known : StillKnown earlier.input
   does_in_before (command.Fmt (fmt.Check inputs)) scope explain style status before after d = all_before scope (task_of work.Compare explain style) (all_inputs inputs) status before after d
   does_in_before (command.Fmt (fmt.Diff input)) scope explain style status before after d = scoped_input_before earlier later known scope (task_of work.Diff explain style) input status before after d
   does_in_before (command.Fmt (fmt.Write files)) scope explain style status before after d =
-      let Formats = FormatsBytes style in
-      all_by (ScopedRewrite later scope explain Formats) (ScopedRewrite earlier scope explain Formats) (scoped_rewrite_before scope explain Formats) (map (λ name. File name) (all_files files)) status before after d
+      let Formats = new_text_of scope.any_text (FormatsBytes style) in
+      all_by (ScopedRewrite later scope explain Formats) (ScopedRewrite earlier scope explain Formats) (scoped_rewrite_before scope explain Formats) scope (map (λ name. File name) (all_files files)) status before after d
   does_in_before (command.Fmt (fmt.Part lines (part.Print input))) scope explain style status before after d = scoped_input_before earlier later known scope (task_of (work.Part (record { lines = lines; show = show.Text })) explain style) input status before after d
   does_in_before (command.Fmt (fmt.Part lines (part.Check input))) scope explain style status before after d = scoped_input_before earlier later known scope (task_of (work.Part (record { lines = lines; show = show.Place })) explain style) input status before after d
   does_in_before (command.Fmt (fmt.Part lines (part.Diff input))) scope explain style status before after d = scoped_input_before earlier later known scope (task_of (work.Part (record { lines = lines; show = show.Diff })) explain style) input status before after d
-  does_in_before (command.Fmt (fmt.Part lines (part.Write file))) scope explain style status before after d = scoped_rewrite_before scope explain (IsPart style lines.items) (File file) status before after d
+  does_in_before (command.Fmt (fmt.Part lines (part.Write file))) scope explain style status before after d = scoped_rewrite_before scope explain (new_text_of scope.any_text (IsPart style lines.items)) (File file) status before after d
 
-  pub does_with_before : (in_force : InForce) (settings : FileSettings) (explain : Bool) (what : Command) (status : ℕ) (before after : World F)
-      → DoesWith later in_force settings explain what status before after → DoesWith earlier in_force settings explain what status before after
-  does_with_before in_force settings explain what status before after (other_version n r) = other_version (nothing_before earlier later known before after n) r
-  does_with_before in_force settings explain what status before after (without_memory n r) = without_memory (nothing_before earlier later known before after n) r
-  does_with_before in_force settings explain what status before after (are_taken d) =
-      are_taken (does_in_before what (scope_of in_force settings) explain settings.style status before after d)
+  pub does_with_before : (in_force : InForce) (settings : FileSettings) (flags : Flags) (what : Command) (status : ℕ) (before after : World F)
+      → DoesWith later in_force settings flags what status before after → DoesWith earlier in_force settings flags what status before after
+  does_with_before in_force settings flags what status before after (other_version n r) = other_version (nothing_before earlier later known before after n) r
+  does_with_before in_force settings flags what status before after (without_memory n r) = without_memory (nothing_before earlier later known before after n) r
+  does_with_before in_force settings flags what status before after (are_taken d) =
+      are_taken (does_in_before what (scope_of in_force settings flags) flags.explain settings.style status before after d)
 
 -- the work was done as if for the only file, and then the contents of memory were written
 module _ {F : Type 0} (Does : WorkClaim F) (before after : World F) where
@@ -154,13 +188,25 @@ module _ {F : Type 0} (Does : WorkClaim F) (before after : World F) where
   )
 
 -- the work was done with the only input, or with each of several
-module _ {F : Type 0} (Does : Input → WorkClaim F) (before after : World F) (status : ℕ) (first : Input) where
-  pub one_of : (rest : List Input) → rest ≡ [] → Does first status before after → DoesAll Does (first ∷ rest) status before after
-  one_of rest none d = subst (λ (r : List Input). DoesAll Does (first ∷ r) status before after) (sym none) d
+module _ {F : Type 0} (scope : Scope) (Does : Input → WorkClaim F) (before after : World F) (status : ℕ) (first : Input) where
+  only_of : (names : Bool) → names ≡ false → Does first status before after
+      → MatchBool names (DoesEach scope.stdin_name Does before (first ∷ []) status after) (Does first status before after)
+  only_of names none d = rw none d
 
-  pub each_of : (rest : List Input) → rest ≢ [] → DoesEach Does before (first ∷ rest) status after → DoesAll Does (first ∷ rest) status before after
+  pub one_of : (rest : List Input) → scope.names ≡ false → rest ≡ [] → Does first status before after → DoesAll scope Does (first ∷ rest) status before after
+  one_of rest bare none d = subst (λ (r : List Input). DoesAll scope Does (first ∷ r) status before after) (sym none) (only_of scope.names bare d)
+
+  pub each_of : (rest : List Input) → rest ≢ [] → DoesEach scope.stdin_name Does before (first ∷ rest) status after → DoesAll scope Does (first ∷ rest) status before after
   each_of [] some d = absurd (some refl)
   each_of (next ∷ rest) some d = d
+
+  named_only : (names : Bool) → names ≡ true → DoesEach scope.stdin_name Does before (first ∷ []) status after
+      → MatchBool names (DoesEach scope.stdin_name Does before (first ∷ []) status after) (Does first status before after)
+  named_only names named d = rw named d
+
+  pub named_of : (rest : List Input) → scope.names ≡ true → DoesEach scope.stdin_name Does before (first ∷ rest) status after → DoesAll scope Does (first ∷ rest) status before after
+  named_of [] named d = named_only scope.names named d
+  named_of (next ∷ rest) named d = d
 
 -- no names give no files, and some names give some files
 pub no_files : (names : List (List ℕ)) → names ≡ [] → map (λ (name : List ℕ). File name) names ≡ []
@@ -171,20 +217,20 @@ some_files [] some same = some refl
 some_files (name ∷ names) some same = cc
 
 -- one more of the inputs after the first
-module _ {F : Type 0} (Does : Input → WorkClaim F) (before : World F) where
+module _ {F : Type 0} (standard : Option (List ℕ)) (Does : Input → WorkClaim F) (before : World F) where
   pub next_done : (between after : World F) (first one : Input) (more : List Input) (k : ℕ) (d : Input) (greatest status result : ℕ)
       → k < length more → one ≡ get_or more k d → result ≡ max greatest status
-      → DoesEach Does before (first ∷ take k more) greatest between → DoesNamed (name_of one) (Does one) status between after
-      → DoesEach Does before (first ∷ take (k + 1) more) result after
+      → DoesEach standard Does before (first ∷ take k more) greatest between → DoesNamed (name_of standard one) (Does one) status between after
+      → DoesEach standard Does before (first ∷ take (k + 1) more) result after
   next_done between after first one more k d greatest status result within same greater done does =
       let longer : take (k + 1) more ≡ take k more ++ get_or more k d ∷ [] = rw add-one (take-suc more k d within) in
       let inputs : (first ∷ take k more) ++ one ∷ [] ≡ first ∷ take (k + 1) more = ap (λ x. first ∷ (take k more ++ x ∷ [])) same ∙ ap (λ x. first ∷ x) (sym longer) in
-      let more_done = subst (λ n. DoesEach Does before n (max greatest status) after) inputs (one_more one status done does) in
-      subst (λ n. DoesEach Does before (first ∷ take (k + 1) more) n after) (sym greater) more_done
+      let more_done = subst (λ n. DoesEach standard Does before n (max greatest status) after) inputs (one_more one status done does) in
+      subst (λ n. DoesEach standard Does before (first ∷ take (k + 1) more) n after) (sym greater) more_done
 
   pub all_done : (after : World F) (first : Input) (more : List Input) (k status : ℕ) → length more ≤ k
-      → DoesEach Does before (first ∷ take k more) status after → DoesEach Does before (first ∷ more) status after
-  all_done after first more k status all done = subst (λ n. DoesEach Does before (first ∷ n) status after) (take_all k more all) done
+      → DoesEach standard Does before (first ∷ take k more) status after → DoesEach standard Does before (first ∷ more) status after
+  all_done after first more k status all done = subst (λ n. DoesEach standard Does before (first ∷ n) status after) (take_all k more all) done
 
 -- one more of the files after the first
 pub next_file : (names : List (List ℕ)) (k : ℕ) (d name : List ℕ) → name ≡ get_or names k d
@@ -210,6 +256,6 @@ module _ {I F : Type 0} (claim : I → InputClaim) (tells : Type 0) (state : F �
       subst (λ (i : I). DoesNamed name (ScopedRewrite (host_in claim tells state leads (record { inputs = i; files = then.files })) scope explain Formats (File name)) status before after) same d
 
 -- a rewriting with this result
-pub ends_by : (explain : Bool) (P : Result Unit (RewriteError Fault) → Type 0) (result : Result Unit (RewriteError Fault)) (status : ℕ) (before after : ByteStream) → P result
+pub ends_by : (explain : Bool) (P : Result Unit (RewriteError NoNewText) → Type 0) (result : Result Unit (RewriteError NoNewText)) (status : ℕ) (before after : ByteStream) → P result
     → EndsRewriting explain (λ outcome. outcome ≡ result) status before after → EndsRewriting explain P status before after
 ends_by explain P result status before after p d = (d.0, d.1, subst P (sym d.2) p, d.3, d.4)

@@ -8,11 +8,7 @@ pub mod AnswerLemmas
 pub mod VersionLemmas
 -- `report_inputs`
 pub mod ReportLemmas
--- `rewrite`
-pub mod FilesLemmas
 -- `report_input`, `tell_file`, `tell_findings`
 pub mod FurtherLemmas
--- `add_rule`, `found_by_rules`
-pub mod ProblemLemmas
 -- `show_in_force`
 pub mod SettingsShownLemmas

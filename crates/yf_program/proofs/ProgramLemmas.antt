@@ -8,7 +8,7 @@ use Rattle.yf_command_line.specs.declared.command.Input.TheVariants.{File}
 use Rattle.yf_program.specs.Answer.{Opens, RanFmtDiff}
 use Rattle.yf_program.specs.SettingsFile.{FileRefused, FileSets, SettingsOfFile, Unset}
 use Rattle.yf_rules.specs.Quoted.{quoted}
-use Rattle.yf_program.specs.World.{InputClaim, streams_of}
+use Rattle.yf_host.specs.World.{InputClaim, streams_of}
 use Rattle.yf_program.specs.declared.task.Task.{Task}
 use Rattle.yf_rules.specs.declared.run.TheConstants.{INPUT_LIMIT}
 use Rattle.yf_rules.specs.Runs.Compare.{IsClean}

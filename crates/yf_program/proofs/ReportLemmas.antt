@@ -1,41 +1,53 @@
 -- Problems of inputs as they are now are problems of inputs as they were before. Also one more input, and all of them.
-use Rattle.std.proofs.Common.{◌≡◌, ◌≢◌, ◌↔◌, ◌∙◌, Bool, true, false, IsTrue, ◌∷◌, ◌++◌, ◌+◌, ◌<◌, ◌≤◌, [], ℕ, List, Option, ap, sym, subst, take, drop, get_or, length, refl, suc, add-one, inl, inr, arith}
-use Rattle.std.specs.Prelude.{max}
+use Rattle.std.proofs.Common.{◌≡◌, ◌≢◌, ◌↔◌, ◌⊎◌, ◌∙◌, Bool, true, false, IsTrue, ◌∷◌, ◌++◌, ◌+◌, ◌<◌, ◌≤◌, [], ℕ, List, Option, ap, sym, subst, take, drop, get_or, length, refl, suc, add-one, inl, inr, arith}
+use Rattle.std.specs.Prelude.{MatchBool, Some, max}
 use Rattle.std.proofs.Math.Seq.{drop-cons}
 use Rattle.std.proofs.lemmas.Bool.{false≢true}
 use Rattle.std.proofs.lemmas.List.{take_all, take_more, take-append-drop}
 use Rattle.yf_command_line.specs.declared.command.Input.{Input}
 use Rattle.yf_explain.specs.Explained.{Explains}
+use Rattle.yf_findings.specs.Guards.{WithGuard}
 use Rattle.yf_findings.specs.Reading.{ReadProblems}
 use Rattle.yf_findings.specs.Refusals.{RefusalProblem}
 use Rattle.yf_findings.specs.declared.files.FileProblems.{FileProblems}
 use Rattle.yf_findings.specs.declared.owned.OwnedProblem.{OwnedProblem}
+use Rattle.yf_guard.specs.declared.guarded.Guarded.TheVariants.{Vault}
+use Rattle.yf_guarded.specs.Judged.{GivesJudged}
+use Rattle.yf_guarded.specs.declared.read.Verdict.{Verdict}
+use Rattle.yf_guarded.specs.declared.read.Verdict.TheVariants as verdict
 use Rattle.yf_lines.specs.declared.fault.Fault.{Fault}
 use Rattle.yf_lines.specs.declared.fault.Fault.TheVariants as fault
-use Rattle.yf_rules.specs.Runs.ByteStream.{ByteStream, NoFailure, NothingWritten}
+use Rattle.yf_rules.specs.Runs.ByteStream.{ByteStream, NoFailure, NothingWritten, WrittenOrFailed}
 use Rattle.yf_rules.specs.Runs.Run as Runs
-use Rattle.yf_program.specs.Ends.{AnyLines, EndsTold, InputsOpened, IsFile, Opens, name_of}
-use Rattle.yf_program.specs.Report.{check_status}
-use Rattle.yf_program.specs.Reports.{AddsFile, DoesReport, GaveUp, GivesAll, GivesEach, GivesInput, GivesNamed, GivesOpened, GivesOver, GivesScoped, IsOnly, ReportState, StopsAt, ToldErrors, empty_report, empty_stream, file_name, has_problem}
+use Rattle.yf_rules.specs.declared.finding.Finding.{Finding}
+use Rattle.yf_host.specs.Ends.{AnyLines, EndsTold, InputsOpened, IsFile, Opens, name_of}
+use Rattle.yf_program.specs.Guarded.{held, is_judged}
+use Rattle.yf_host.specs.LeftAlone.{left_line, left_status}
+use Rattle.yf_host.specs.Report.{check_status}
+use Rattle.yf_program.specs.Reports.{AddsFile, DoesReport, GaveUp, GivesAll, GivesAsJudged, GivesEach, GivesInput, GivesJudgedText, GivesNamed, GivesOver, GivesRead, GivesScoped, GivesUnopened}
+use Rattle.yf_program.specs.Reports.{IsOnly, OpensReader, ReadClaim, ReportState, StopsAt, empty_report, file_name, has_problem}
+use Rattle.yf_host.specs.Memory.{ToldErrors, empty_stream}
 use Rattle.yf_program.specs.Reports.GivesScoped.{left_out, included}
 use Rattle.yf_program.specs.Reports.GivesEach.{none_given, one_more}
-use Rattle.yf_program.specs.World.{Host, InputClaim, StillKnown, World}
+use Rattle.yf_host.specs.World.{Host, InputClaim, StillKnown, World}
 use Rattle.yf_program.specs.declared.report_inputs.ReportTask.{ReportTask}
 use Rattle.yf_program.specs.declared.scope.Scope.{Scope}
 
 -- what was given by the inputs as they are now was given by the inputs as they were
 module _ (before after : InputClaim) (known : StillKnown before after) (scope : Scope) (task : ReportTask) where
-  opened_before : (input : Input) (problems : List OwnedProblem) (status : ℕ) (old new : ByteStream)
-      → GivesOpened after task input problems status old new → GivesOpened before task input problems status old new
-  opened_before input problems status old new (inl d) =
+  either_before : (input : Input) (problems : List OwnedProblem) (status : ℕ) (old new : ByteStream) (P : ReadClaim)
+      → GivesUnopened after task input problems status old new ⊎ OpensReader after input P
+      → GivesUnopened before task input problems status old new ⊎ OpensReader before input P
+  either_before input problems status old new P (inl d) =
       inl (d.0, (λ told. known.fails input (d.1 (known.tells told))), d.2, d.3)
-  opened_before input problems status old new (inr d) =
+  either_before input problems status old new P (inr d) =
       inr (d.0, d.1, ((λ told. d.2.0 (known.tells told) ∙ known.holds input), d.2.1, λ told failed. known.fails input (d.2.2 (known.tells told) failed)), d.3)
 
   given_before : (input : Input) (status : ℕ) (old new : ReportState)
-      → GivesInput after task input status old new → GivesInput before task input status old new
+      → GivesInput after scope task input status old new → GivesInput before scope task input status old new
   given_before input status old new d =
-      ((λ noted. d.0 (known.notes noted)), (d.1.0, d.1.1, opened_before input d.1.0.problems.items status old.errors new.errors d.1.2, d.1.3))
+      let P = GivesRead scope task input d.1.0.problems.items status old.errors new.errors in
+      ((λ noted. d.0 (known.notes noted)), (d.1.0, d.1.1, either_before input d.1.0.problems.items status old.errors new.errors P d.1.2, d.1.3))
 
   scoped_before : (input : Input) (status : ℕ) (old new : ReportState)
       → GivesScoped after scope task input status old new → GivesScoped before scope task input status old new
@@ -53,10 +65,16 @@ module _ (before after : InputClaim) (known : StillKnown before after) (scope : 
   each_given_before (one_more {between = between} input one {after = new} each d) =
       one_more input one (each_given_before each) (named_given_before input one between new d)
 
+  only_before : (names : Bool) (input : Input) (status : ℕ) (old new : ReportState)
+      → MatchBool names (GivesEach after scope task old (input ∷ []) status new) (GivesScoped after scope task input status old new)
+      → MatchBool names (GivesEach before scope task old (input ∷ []) status new) (GivesScoped before scope task input status old new)
+  only_before true input status old new d = each_given_before d
+  only_before false input status old new d = scoped_before input status old new d
+
   all_given_before : (inputs : List Input) (status : ℕ) (old new : ReportState)
       → GivesAll after scope task inputs status old new → GivesAll before scope task inputs status old new
   all_given_before [] status old new d = absurd d
-  all_given_before (input ∷ []) status old new d = scoped_before input status old new d
+  all_given_before (input ∷ []) status old new d = only_before scope.names input status old new d
   all_given_before (input ∷ next ∷ inputs) status old new d = each_given_before d
 
   stops_before : (input : Input) (old new : ReportState) → StopsAt after input old new → StopsAt before input old new
@@ -127,9 +145,17 @@ not_left_out out P test unset p = false≢true (sym unset ∙ test.1 p)
 
 -- the only input, or each of several
 module _ (claim : InputClaim) (scope : Scope) (task : ReportTask) (before after : ReportState) (first : Input) where
-  pub one_given : (rest : List Input) (status : ℕ) → rest ≡ [] → GivesScoped claim scope task first status before after
+  pub one_given : (rest : List Input) (status : ℕ) → scope.names ≡ false → rest ≡ []
+      → GivesScoped claim scope task first status before after → GivesAll claim scope task (first ∷ rest) status before after
+  one_given rest status unnamed none d =
+      let given = subst (λ (b : Bool). MatchBool b (GivesEach claim scope task before (first ∷ []) status after) (GivesScoped claim scope task first status before after)) (sym unnamed) d in
+      subst (λ (r : List Input). GivesAll claim scope task (first ∷ r) status before after) (sym none) given
+
+  pub named_each : (rest : List Input) (status : ℕ) → scope.names ≡ true → GivesEach claim scope task before (first ∷ rest) status after
       → GivesAll claim scope task (first ∷ rest) status before after
-  one_given rest status none d = subst (λ (r : List Input). GivesAll claim scope task (first ∷ r) status before after) (sym none) d
+  named_each [] status named d =
+      subst (λ (b : Bool). MatchBool b (GivesEach claim scope task before (first ∷ []) status after) (GivesScoped claim scope task first status before after)) (sym named) d
+  named_each (next ∷ rest) status named d = d
 
   pub several_given : (rest : List Input) (status : ℕ) → rest ≢ [] → GivesEach claim scope task before (first ∷ rest) status after
       → GivesAll claim scope task (first ∷ rest) status before after
@@ -153,16 +179,57 @@ module _ (task : ReportTask) (name : Option (List ℕ)) (status : ℕ) (reader l
       → AddsFile name (λ added. GivesOver task added status reader left before after) old new
   refused_over f bytes refused keeps ends d = (d.0, d.1, inr (f, bytes, refused, keeps, d.2, ends), d.3)
 
+  pub refused_judged : (f : Fault) (bytes : List ℕ) → Runs.RefusedText reader left f → Runs.Keeps reader.contents bytes f
+      → EndsTold task.explain (Explains bytes f) f status before after → AddsFile name (IsOnly (RefusalProblem bytes f)) old new
+      → AddsFile name (λ added. GivesJudgedText task added status reader left before after) old new
+  refused_judged f bytes refused keeps ends d = (d.0, d.1, inr (f, bytes, refused, keeps, d.2, ends), d.3)
+
+  pub judged_over : (t : List ℕ) (v : Verdict) → GivesJudged true reader.contents t v → NoFailure reader left
+      → AddsFile name (λ added. GivesAsJudged task v t added status before after) old new
+      → AddsFile name (λ added. GivesJudgedText task added status reader left before after) old new
+  judged_over t v judged works d = (d.0, d.1, inl (t, v, judged, works, d.2), d.3)
+
+-- the problems of a text by the verdict on it
+module _ (task : ReportTask) (name : Option (List ℕ)) (status : ℕ) (before after : ByteStream) (old new : List FileProblems) (t : List ℕ) where
+  pub passed_given : (rest : List ℕ) → AddsFile name (λ added. GivesOver task added status (held t) (held rest) before after) old new
+      → AddsFile name (λ added. GivesAsJudged task verdict.Passed t added status before after) old new
+  passed_given rest d = (d.0, d.1, (rest, d.2), d.3)
+
+  pub encrypted_given : (problems : List OwnedProblem) → problems ≡ [] → status ≡ left_status Vault → WrittenOrFailed before after (left_line Vault)
+      → AddsFile name (λ added. added ≡ problems) old new
+      → AddsFile name (λ added. GivesAsJudged task verdict.Encrypted t added status before after) old new
+  encrypted_given problems none ends told d = (d.0, d.1, (d.2 ∙ none, ends, told), d.3)
+
+  pub no_data_given : (f : Finding) (without : List (List ℕ)) (found : List OwnedProblem) → without ≡ task.without.items
+      → ReadProblems without task.style (Some t) found → NothingWritten before after → status ≡ 1
+      → AddsFile name (WithGuard t f found) old new
+      → AddsFile name (λ added. GivesAsJudged task (verdict.NoData f) t added status before after) old new
+  no_data_given f without found same read nothing one d =
+      let checked = subst (λ (w : List (List ℕ)). ReadProblems w task.style (Some t) found) same read in
+      (d.0, d.1, inl (found, checked, d.2, one, nothing), d.3)
+
+  pub no_data_refused : (f : Finding) (rest : List ℕ) (g : Fault) (bytes : List ℕ) → Runs.RefusedText (held t) (held rest) g
+      → Runs.Keeps (Some t) bytes g → EndsTold task.explain (Explains bytes g) g status before after
+      → AddsFile name (IsOnly (RefusalProblem bytes g)) old new
+      → AddsFile name (λ added. GivesAsJudged task (verdict.NoData f) t added status before after) old new
+  no_data_refused f rest g bytes refused keeps ends d = (d.0, d.1, inr (rest, (g, bytes, refused, keeps, d.2, ends)), d.3)
+
 -- the problems of an input
-module _ (claim : InputClaim) (task : ReportTask) (input : Input) (status : ℕ) (before after : ReportState) where
-  pub opened_given : (reader left : ByteStream) → InputsOpened claim before.opened after.opened (input ∷ []) → Opens claim input reader left
-      → AddsFile (file_name input) (λ added. GivesOver task added status reader left before.errors after.errors) before.files after.files
-      → GivesInput claim task input status before after
-  opened_given reader left opened opens d = (opened, (d.0, d.1, inr (reader, left, opens, d.2), d.3))
+module _ (claim : InputClaim) (scope : Scope) (task : ReportTask) (input : Input) (status : ℕ) (before after : ReportState) where
+  pub opened_given : (reader left : ByteStream) (judges : Bool) (name : Option (List ℕ)) → judges ≡ is_judged scope input
+      → name ≡ file_name scope.stdin_name input → InputsOpened claim before.opened after.opened (input ∷ []) → Opens claim input reader left
+      → AddsFile name (λ added. MatchBool judges (GivesJudgedText task added status reader left before.errors after.errors)
+      (GivesOver task added status reader left before.errors after.errors)) before.files after.files
+      → GivesInput claim scope task input status before after
+  opened_given reader left judges name judged named opened opens d =
+      let read = subst (λ (b : Bool). MatchBool b (GivesJudgedText task d.0.problems.items status reader left before.errors after.errors)
+      (GivesOver task d.0.problems.items status reader left before.errors after.errors)) judged d.2 in
+      (opened, (d.0, d.1 ∙ named, inr (reader, left, opens, read), d.3))
 
   pub unopened_given : (f : Fault) → f ≡ fault.ReadFailed → InputsOpened claim before.opened after.opened (input ∷ []) → IsFile input
       → (claim.tells → claim.fails input) → EndsTold task.explain AnyLines f status before.errors after.errors
-      → AddsFile (file_name input) (IsOnly (RefusalProblem [] f)) before.files after.files → GivesInput claim task input status before after
+      → AddsFile (file_name scope.stdin_name input) (IsOnly (RefusalProblem [] f)) before.files after.files
+      → GivesInput claim scope task input status before after
   unopened_given f failed opened file fails ends d =
       let refusal = subst (λ (g : Fault). IsOnly (RefusalProblem [] g) d.0.problems.items) failed d.2 in
       let told = subst (λ (g : Fault). EndsTold task.explain AnyLines g status before.errors after.errors) failed ends in
@@ -173,11 +240,11 @@ module _ (claim : InputClaim) (task : ReportTask) (input : Input) (status : ℕ)
   stops_opened opened nothing = ((λ noted. inr (opened noted)), nothing)
 
   -- the input is one of several
-  pub named_given : (scope : Scope) (run : ℕ) (start memory : ByteStream) (said : List ℕ) → start ≡ empty_stream → said ≡ name_of input
+  pub named_given : (run : ℕ) (start memory : ByteStream) (said : List ℕ) → start ≡ empty_stream → said ≡ name_of scope.stdin_name input
       → ToldErrors said run status memory before.errors after.errors
       → GivesScoped claim scope task input run (record before { errors = start }) (record after { errors = memory })
       → GivesNamed claim scope task input status before after
-  named_given scope run start memory said none same told d =
+  named_given run start memory said none same told d =
       let given = subst (λ (s : ByteStream). GivesScoped claim scope task input run (record before { errors = s }) (record after { errors = memory })) none d in
       let named = subst (λ (n : List ℕ). ToldErrors n run status memory before.errors after.errors) same told in
       (run, memory, given, named)

@@ -1,7 +1,7 @@
 -- Settings that were read and are shown.
 use Rattle.std.proofs.Common.{ℕ, List, Option, Some, None}
 use Rattle.yf_program.specs.SettingsFile.{SettingsOfFile}
-use Rattle.yf_program.specs.World.{InputClaim}
+use Rattle.yf_host.specs.World.{InputClaim}
 use Rattle.yf_settings.proofs.PageLemmas.{defaults_keep, text_keeps}
 use Rattle.yf_settings.specs.FileSettings.{AreKept}
 use Rattle.yf_settings.specs.declared.file_settings.FileSettings.{FileSettings}

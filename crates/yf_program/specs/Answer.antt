@@ -2,7 +2,8 @@
 -- `ProgramRuns` of `Run` is the whole. Each definition here says what one step does.
 -- (before, after: the world, the streams or one stream before and after a step;
 -- reader, left: a reader before and after it was read)
-use Rattle.std.specs.Prelude.{◌≡◌, ◌≢◌, ◌≤◌, ◌⊎◌, ◌++◌, ◌∷◌, ℕ, max, List, [], length, map, Bool, true, false, Option, Some, None, IfSome, Result, Ok, Err, codes}
+use Rattle.std.specs.Prelude.{◌≡◌, ◌≢◌, ◌≤◌, ◌⊎◌, ◌&&◌, ◌++◌, ◌∷◌, ℕ, max, List, [], length, map, Bool, true, false}
+use Rattle.std.specs.Prelude.{Option, Some, None, IfSome, MatchBool, Result, Ok, Err}
 use Rattle.std.specs.Str.{IsUtf8}
 use Rattle.std.specs.Io.KnownBytes.{Keeps}
 use Rattle.yf_command_line.specs.Requests.{AsksFor, RefusesWords, all_files, all_inputs}
@@ -21,10 +22,7 @@ use Rattle.yf_command_line.specs.declared.command.Request.{Request}
 use Rattle.yf_command_line.specs.declared.usage.Usage.{Usage}
 use Rattle.yf_command_line.specs.declared.usage.Usage.TheVariants as usage
 use Rattle.yf_files.specs.Tree.{FilesState}
-use Rattle.yf_files.specs.declared.replacing.ReplaceError.{ReplaceError}
-use Rattle.yf_files.specs.declared.replacing.ReplaceError.TheVariants.{Untouched, Left, Unsure}
 use Rattle.yf_files.specs.declared.rewriting.RewriteError.{RewriteError}
-use Rattle.yf_files.specs.declared.rewriting.RewriteError.TheVariants as error
 use Rattle.yf_forms.specs.declared.style.Style.{Style}
 use Rattle.yf_lines.specs.declared.fault.Fault.{Fault}
 use Rattle.yf_lines.specs.declared.fault.Fault.TheVariants as fault
@@ -38,21 +36,30 @@ use Rattle.yf_rules.specs.Runs.Compare.{CompareRun, IsClean, RefusedCompare}
 use Rattle.yf_rules.specs.Runs.Diffed.{DiffRun, RefusedDiff}
 use Rattle.yf_rules.specs.Runs.Input.{ReadRefusal}
 use Rattle.yf_rules.specs.Runs.Run as Runs
-use Rattle.yf_rules.specs.Runs.Run.{Gave, NotationWritten, RefusedEvents, RefusedCheck, RefusedFmt, RefusedRun, FormattingWritten, FindingsWritten}
-pub use Rattle.yf_program.specs.Ends.{AnyLines, EndsBy, EndsOver, EndsTold, EndsWell, InputsOpened, IsFile, IsLine, Opens, TellsMore, name_of}
-use Rattle.yf_program.specs.Named.{named_lines}
+use Rattle.yf_rules.specs.Runs.Run.{Gave, NotationWritten, RefusedEvents, RefusedCheck, RefusedFmt, RefusedRun, RefusedText, FormattingWritten, FindingsWritten}
+pub use Rattle.yf_host.specs.Ends.{AnyLines, AreTold, EndsBy, EndsOver, EndsTold, EndsWell, InputsOpened, IsFile, Opens}
+pub use Rattle.yf_host.specs.Ends.{TellsMore, name_of}
 use Rattle.yf_rules.specs.Quoted.{quoted}
 use Rattle.yf_program.specs.Reports.{DoesReport, report_task}
-use Rattle.yf_program.specs.Rewriting.{FileRewrite, FormatsBytes}
+use Rattle.yf_guard.specs.declared.guarded.Guarded.TheVariants.{Vault}
+use Rattle.yf_guarded.specs.Checked.{CheckedBroke, CheckedRun}
+use Rattle.yf_guarded.specs.Judged.{GivesText}
+use Rattle.yf_program.specs.Guarded.{DoneAsJudged, RanJudged, ReaderClaim, is_judged, is_standard}
+use Rattle.yf_host.specs.LeftAlone.{left_line, left_status}
+use Rattle.yf_program.specs.Guarded.{names_without, prints_text, reads_first}
+use Rattle.yf_host.specs.Rewriting.{FileRewrite, FormatsBytes, new_text_of, rewrite_line}
+use Rattle.yf_host.specs.Rewriting.{rewrite_status}
+use Rattle.yf_host.specs.declared.guarded_text.NoNewText.{NoNewText}
 use Rattle.yf_program.specs.Server.{Served}
-use Rattle.yf_program.specs.Report.{check_status, fault_line, fault_status, format_status}
-use Rattle.yf_program.specs.Settings.{Scoped}
+use Rattle.yf_host.specs.Report.{check_status, format_status}
+use Rattle.yf_program.specs.Settings.{PassesBy, Scoped, left_out_line}
 use Rattle.yf_program.specs.declared.scope.Scope.{Scope}
-use Rattle.yf_program.specs.World.{Host, InputClaim, LinkClaim, OutputStreams, TextClaim, WorkClaim, World}
-use Rattle.yf_program.specs.declared.sources.Sources.{Sources}
+use Rattle.yf_host.specs.World.{Host, InputClaim, LinkClaim, OutputStreams, TextClaim, WorkClaim, World}
+use Rattle.yf_host.specs.declared.sources.Sources.{Sources}
 use Rattle.yf_program.specs.declared.task.Task.{Task}
 use Rattle.yf_program.specs.declared.task.Work.{Work}
 use Rattle.yf_program.specs.declared.task.Work.TheVariants as work
+use Rattle.yf_host.specs.Memory.{ToldMemory, empty_memory}
 
 -- ---- The words ask for nothing
 
@@ -128,41 +135,94 @@ RanPart part name task status reader left before after =
     after.output f
     × EndsOver task.explain reader.contents f status before.errors after.errors)
 
--- The work was done with a reader of the input.
-abbrev pub RanWork : Work → Input → RunClaim
-RanWork work.Events input = RanEvents
-RanWork (work.Check without) input = RanCheck without.items
-RanWork work.Print input = RanFmt
-RanWork work.Compare input = RanFmtCheck
-RanWork work.Diff input = RanFmtDiff (name_of input)
-RanWork (work.Part part) input = RanPart part (name_of input)
-RanWork work.Serve input = λ task. Served task.style
+-- The work was done with a reader of the input of this name.
+abbrev pub RanWork : Work → List ℕ → RunClaim
+RanWork work.Events name = RanEvents
+RanWork (work.Check without) name = RanCheck without.items
+RanWork work.Print name = RanFmt
+RanWork work.Compare name = RanFmtCheck
+RanWork work.Diff name = RanFmtDiff name
+RanWork (work.Part part) name = RanPart part name
+RanWork work.Serve name = λ task. Served task.style
 
-abbrev pub Ran : Input → RunClaim
-Ran input task = RanWork task.work input task
+-- How a check ends: the text is encrypted, or the line of each finding was written.
+abbrev pub EndsCheck : Bool → Option Bool → ℕ → ByteStream → ByteStream → Type 0
+EndsCheck explain None status before after = (status ≡ left_status Vault) × WrittenOrFailed before after (left_line Vault)
+EndsCheck explain (Some any) status before after = (status ≡ check_status any) × TellsMore explain AnyLines before after
 
--- A reader of the input was opened, and the work was done with it.
-abbrev pub DoesOver : InputClaim → Input → Task → ℕ → OutputStreams → OutputStreams → Type 0
-DoesOver claim input task status before after =
+-- `check` wrote what the rules find, and why the text is no data; or was refused.
+abbrev pub RanCheckJudged : List (List ℕ) → RunClaim
+RanCheckJudged without task status reader left before after =
+    ((any : Option Bool)
+    × CheckedRun (FoundWithout without task.style) task.style reader before.output after.output any
+    × NoFailure reader left × EndsCheck task.explain any status before.errors after.errors)
+    ⊎ ((f : Fault)
+    × RefusedRun (CheckedBroke (FoundWithout without task.style) task.style reader.contents before.output after.output)
+    reader left before.output after.output f
+    × EndsOver task.explain reader.contents f status before.errors after.errors)
+
+-- The text was judged first. A check writes why the text is no data, and goes on. Any other work is not done then.
+abbrev pub RanPast : Option (List (List ℕ)) → Scope → Input → RunClaim
+RanPast (Some without) scope input task = RanCheckJudged without task
+RanPast None scope input task = RanJudged (record {
+  reads = reads_first task.work input;
+  Does = DoneAsJudged (prints_text task.work) (RanWork task.work (name_of scope.stdin_name input) task);
+  Ends = EndsOver task.explain;
+})
+
+abbrev pub RanIf : Bool → Scope → Input → RunClaim
+RanIf true scope input task = RanPast (names_without task.work) scope input task
+RanIf false scope input task = RanWork task.work (name_of scope.stdin_name input) task
+
+-- The work was done with a reader of the input. The text was judged first if the input has a name.
+abbrev pub Ran : Scope → Input → RunClaim
+Ran scope input task = RanIf (is_judged scope input) scope input task
+
+-- The text of an input that the settings leave out was printed as it is, or refused.
+abbrev pub RanLeftOut : RunClaim
+RanLeftOut task status reader left before after =
+    ((t : List ℕ) × GivesText reader.contents t × NoFailure reader left
+    × AreTold 0 status t (left_out_line task.explain) before after)
+    ⊎ ((f : Fault) × RefusedText reader left f × NothingWritten before.output after.output
+    × EndsOver task.explain reader.contents f status before.errors after.errors)
+
+-- A reader of the input was opened, and the run was done with it.
+abbrev pub RunsOver : InputClaim → Input → ReaderClaim → ℕ → OutputStreams → OutputStreams → Type 0
+RunsOver claim input Ran status before after =
     (reader : ByteStream) × (left : ByteStream) × Opens claim input reader left
-    × Ran input task status reader left before after
+    × Ran status reader left before after
 
 -- The input is a file that could not be opened, since it fails; or the work was done with a reader of the input.
-abbrev pub DoesOpened : InputClaim → Input → Task → ℕ → OutputStreams → OutputStreams → Type 0
-DoesOpened claim input task status before after =
+abbrev pub DoesOpened : InputClaim → Scope → Input → Task → ℕ → OutputStreams → OutputStreams → Type 0
+DoesOpened claim scope input task status before after =
     (IsFile input × (claim.tells → claim.fails input) × NothingWritten before.output after.output
     × EndsTold task.explain AnyLines fault.ReadFailed status before.errors after.errors)
-    ⊎ DoesOver claim input task status before after
+    ⊎ RunsOver claim input (Ran scope input task) status before after
 
 -- The input was opened, and no other, and the work was done with it.
-abbrev pub DoesInput : {F : Type 0} → Host F → Task → Input → WorkClaim F
-DoesInput host task input status before after =
+abbrev pub DoesInput : {F : Type 0} → Host F → Scope → Task → Input → WorkClaim F
+DoesInput host scope task input status before after =
     (after.files ≡ before.files) × InputsOpened host.inputs before.opened after.opened (input ∷ [])
-    × DoesOpened host.inputs input task status before.streams after.streams
+    × DoesOpened host.inputs scope input task status before.streams after.streams
+
+-- The input was opened, and no other, and its text was printed as it is.
+abbrev pub CopiesInput : {F : Type 0} → Host F → Task → Input → WorkClaim F
+CopiesInput host task input status before after =
+    (after.files ≡ before.files) × InputsOpened host.inputs before.opened after.opened (input ∷ [])
+    × RunsOver host.inputs input (RanLeftOut task) status before.streams after.streams
+
+-- What is done with an input that the settings leave out. An editor that passes its text expects it back.
+-- (copies: whether the text is printed as it is)
+abbrev pub SkipsIf : {F : Type 0} → Bool → Host F → Task → Input → WorkClaim F
+SkipsIf true host task input = CopiesInput host task input
+SkipsIf false host task input = PassesBy host task.explain input
+
+abbrev pub SkipsInput : {F : Type 0} → Host F → Task → Input → WorkClaim F
+SkipsInput host task input = SkipsIf (is_standard input && prints_text task.work) host task input
 
 -- The work was done with the input, unless the settings leave the input out.
 abbrev pub ScopedInput : {F : Type 0} → Host F → Scope → Task → Input → WorkClaim F
-ScopedInput host scope task = Scoped host scope task.explain (DoesInput host task)
+ScopedInput host scope task = Scoped host scope (record { Does = DoesInput host scope task; Skips = SkipsInput host task })
 
 -- ---- A file is rewritten
 
@@ -171,80 +231,30 @@ ScopedInput host scope task = Scoped host scope task.explain (DoesInput host tas
 abbrev pub host_in : {I F : Type 0} → (I → InputClaim) → Type 0 → (F → FilesState) → LinkClaim F → Sources I F → Host F
 host_in claim tells state leads sources = record {
   inputs = claim sources.inputs;
-  Rewrites = λ first last name Formats. FileRewrite tells (state first) (state last) (leads first name) Formats;
+  Rewrites = λ first last name Text. FileRewrite tells (state first) (state last) (leads first name) Text;
 }
 
--- The fault of a file that is not rewritten.
-abbrev pub fault_of : RewriteError Fault → Fault
-fault_of error.Memory = fault.Memory
-fault_of error.Unreadable = fault.ReadFailed
-fault_of (error.Refused why) = why
-fault_of (error.Unwritten _) = fault.WriteFailed
-
--- The line of a file that is not written, or not for sure: it says what is left.
-abbrev pub unwritten_line : ReplaceError → List ℕ
-unwritten_line Untouched = fault_line fault.WriteFailed
-unwritten_line Left = codes "write failed: the .yamlfmt-new file is left\n"
-unwritten_line Unsure = codes "write failed: the new text may not survive a crash\n"
-
--- The line of a file that is not rewritten.
-abbrev pub rewrite_line : RewriteError Fault → List ℕ
-rewrite_line (error.Unwritten left) = unwritten_line left
-rewrite_line why = fault_line (fault_of why)
-
--- The line of a file that is not rewritten was written to the stream of faults, and the status is that of its fault.
-abbrev pub TellsRewriting : Result Unit (RewriteError Fault) → ℕ → ByteStream → ByteStream → Type 0
+-- The line of a file that is not rewritten was written to the stream of faults, and the status is that of the line.
+abbrev pub TellsRewriting : Result Unit (RewriteError NoNewText) → ℕ → ByteStream → ByteStream → Type 0
 TellsRewriting (Ok done) status before after = EndsWell status before after
-TellsRewriting (Err why) status before after =
-    (status ≡ fault_status (fault_of why)) × WrittenOrFailed before after (rewrite_line why)
+TellsRewriting (Err none) status before after =
+    (status ≡ rewrite_status none) × WrittenOrFailed before after (rewrite_line none)
 
 -- A rewriting had a result, and how it ended was written to the stream of faults, with `--explain` and more lines.
-abbrev pub EndsRewriting : Bool → (Result Unit (RewriteError Fault) → Type 0) → ℕ → ByteStream → ByteStream → Type 0
+abbrev pub EndsRewriting : Bool → (Result Unit (RewriteError NoNewText) → Type 0) → ℕ → ByteStream → ByteStream → Type 0
 EndsRewriting explain Rewrites status before after =
-    (result : Result Unit (RewriteError Fault)) × (told : ByteStream) × Rewrites result
+    (result : Result Unit (RewriteError NoNewText)) × (told : ByteStream) × Rewrites result
     × TellsRewriting result status before told × TellsMore explain AnyLines told after
 
 -- A file was rewritten: no input was opened, and nothing was written to the output.
--- (Formats: what the new text is, by the bytes that the file holds)
+-- (Text: what the new text is, by the bytes that the file holds, and why they have none)
 abbrev pub DoesRewrite : {F : Type 0} → Host F → Bool → TextClaim → List ℕ → WorkClaim F
-DoesRewrite host explain Formats name status before after =
+DoesRewrite host explain Text name status before after =
     (host.inputs.notes → after.opened ≡ before.opened) × NothingWritten before.streams.output after.streams.output
-    × EndsRewriting explain (host.Rewrites before.files after.files name Formats) status
+    × EndsRewriting explain (host.Rewrites before.files after.files name Text) status
     before.streams.errors after.streams.errors
 
 -- ---- The same is done with several files
-
--- Memory held all that was written for a file: its output, and its line for the stream of faults. Lines that explain
--- that line may be missing. (memory: the two streams in memory; faults: what is in the second one)
-abbrev pub IsWhole : OutputStreams → List ℕ → Type 0
-IsWhole memory faults = (memory.output.failed ≡ false) × ((memory.errors.failed ≡ false) ⊎ IsLine faults)
-
--- Both texts were written to the two streams, and the status is that of the run; or the writer failed.
--- (run: the status of what was done; output, faults: the two texts)
-abbrev pub AreTold : ℕ → ℕ → List ℕ → List ℕ → OutputStreams → OutputStreams → Type 0
-AreTold run status output faults before after =
-    ((status ≡ run) × Writes before.output after.output output × WrittenOrFailed before.errors after.errors faults)
-    ⊎ (BreaksOff before.output after.output output × EndsBy fault.WriteFailed status before.errors after.errors)
-
--- Both texts were whole and were written; or there was no memory for them, and only that was written.
-abbrev pub ToldNamed : Type 0 → ℕ → ℕ → List ℕ → List ℕ → OutputStreams → OutputStreams → Type 0
-ToldNamed Whole run status output faults before after =
-    (Whole × AreTold run status output faults before after)
-    ⊎ (NothingWritten before.output after.output × EndsBy fault.Memory status before.errors after.errors)
-
--- The texts in memory were written so, with a name before each line.
-abbrev pub ToldMemory : List ℕ → ℕ → ℕ → OutputStreams → OutputStreams → OutputStreams → Type 0
-ToldMemory name run status memory before after =
-    (output : List ℕ) × (faults : List ℕ) × (memory.output.contents ≡ Some output)
-    × (memory.errors.contents ≡ Some faults)
-    × ToldNamed (IsWhole memory faults) run status (named_lines name output) (named_lines name faults) before after
-
--- Two streams in memory to which nothing was written.
-abbrev pub empty_memory : OutputStreams
-empty_memory = record {
-  output = record { contents = Some []; failed = false };
-  errors = record { contents = Some []; failed = false };
-}
 
 -- It was done as if for the only file, and written to memory. The texts there were written with the file's name before
 -- each line.
@@ -254,39 +264,47 @@ DoesNamed name Does status before after =
     × Does run (record before { streams = empty_memory }) (record after { streams = memory })
     × ToldMemory name run status memory before.streams after.streams
 
--- It was done with each of some files, in order, and the status is the greatest of theirs.
-pub data DoesEach {F : Type 0} (Does : Input → WorkClaim F) (before : World F)
+-- It was done with each of some inputs, in order, and the status is the greatest of theirs.
+-- (standard: the name of standard input, if the command line gives one)
+pub data DoesEach {F : Type 0} (standard : Option (List ℕ)) (Does : Input → WorkClaim F) (before : World F)
     : List Input → ℕ → World F → Type 0 where
   one_done : {input : Input} {status : ℕ} {after : World F}
-      → DoesNamed (name_of input) (Does input) status before after → DoesEach Does before (input ∷ []) status after
+      → DoesNamed (name_of standard input) (Does input) status before after
+      → DoesEach standard Does before (input ∷ []) status after
   one_more : {inputs : List Input} {status : ℕ} {between : World F} (input : Input) (one : ℕ) {after : World F}
-      → DoesEach Does before inputs status between → DoesNamed (name_of input) (Does input) one between after
-      → DoesEach Does before (inputs ++ input ∷ []) (max status one) after
+      → DoesEach standard Does before inputs status between
+      → DoesNamed (name_of standard input) (Does input) one between after
+      → DoesEach standard Does before (inputs ++ input ∷ []) (max status one) after
 
--- It was done with the only input, or with each of several.
-abbrev pub DoesAll : {F : Type 0} → (Input → WorkClaim F) → List Input → WorkClaim F
-DoesAll Does [] status before after = ⊥
-DoesAll Does (input ∷ []) status before after = Does input status before after
-DoesAll Does (input ∷ next ∷ inputs) status before after =
-    DoesEach Does before (input ∷ next ∷ inputs) status after
+-- It was done with the only input, or with each of several. With `--names`, also the lines of the only input have its
+-- name.
+abbrev pub DoesAll : {F : Type 0} → Scope → (Input → WorkClaim F) → List Input → WorkClaim F
+DoesAll scope Does [] status before after = ⊥
+DoesAll scope Does (input ∷ []) status before after =
+    MatchBool scope.names (DoesEach scope.stdin_name Does before (input ∷ []) status after)
+    (Does input status before after)
+DoesAll scope Does (input ∷ next ∷ inputs) status before after =
+    DoesEach scope.stdin_name Does before (input ∷ next ∷ inputs) status after
 
 -- ---- A command
 
 -- A file is rewritten by its name.
 abbrev pub RewritesInput : {F : Type 0} → Host F → Bool → TextClaim → Input → WorkClaim F
-RewritesInput host explain Formats Standard status before after = ⊥
-RewritesInput host explain Formats (File name) status before after =
-    DoesRewrite host explain Formats name status before after
+RewritesInput host explain Text Standard status before after = ⊥
+RewritesInput host explain Text (File name) status before after =
+    DoesRewrite host explain Text name status before after
 
 -- The file is rewritten, unless the settings leave it out.
 abbrev pub ScopedRewrite : {F : Type 0} → Host F → Scope → Bool → TextClaim → Input → WorkClaim F
-ScopedRewrite host scope explain Formats = Scoped host scope explain (RewritesInput host explain Formats)
+ScopedRewrite host scope explain Text =
+    Scoped host scope (record { Does = RewritesInput host explain Text; Skips = PassesBy host explain })
 
 -- `check` was done with the inputs that are not left out: a line was written for each finding, or one report of all
 -- inputs.
 abbrev pub DoesCheck : {F : Type 0} → Host F → Check → Scope → Bool → Style → Output → WorkClaim F
 DoesCheck host check scope explain style Lines =
-    DoesAll (ScopedInput host scope (task_of (work.Check check.without) explain style)) (all_inputs check.inputs)
+    DoesAll scope (ScopedInput host scope (task_of (work.Check check.without) explain style))
+    (all_inputs check.inputs)
 DoesCheck host check scope explain style (Report format) =
     DoesReport host scope (report_task check explain style format) (all_inputs check.inputs)
 
@@ -299,11 +317,12 @@ DoesIn host (command.Check check) scope explain style = DoesCheck host check sco
 DoesIn host (command.Fmt (fmt.Print input)) scope explain style =
     ScopedInput host scope (task_of work.Print explain style) input
 DoesIn host (command.Fmt (fmt.Check inputs)) scope explain style =
-    DoesAll (ScopedInput host scope (task_of work.Compare explain style)) (all_inputs inputs)
+    DoesAll scope (ScopedInput host scope (task_of work.Compare explain style)) (all_inputs inputs)
 DoesIn host (command.Fmt (fmt.Diff input)) scope explain style =
     ScopedInput host scope (task_of work.Diff explain style) input
 DoesIn host (command.Fmt (fmt.Write files)) scope explain style =
-    DoesAll (ScopedRewrite host scope explain (FormatsBytes style)) (map (λ name. File name) (all_files files))
+    DoesAll scope (ScopedRewrite host scope explain (new_text_of scope.any_text (FormatsBytes style)))
+    (map (λ name. File name) (all_files files))
 DoesIn host (command.Fmt (fmt.Part lines (part.Print input))) scope explain style =
     ScopedInput host scope (task_of (work.Part (record { lines = lines; show = show.Text })) explain style) input
 DoesIn host (command.Fmt (fmt.Part lines (part.Check input))) scope explain style =
@@ -311,7 +330,7 @@ DoesIn host (command.Fmt (fmt.Part lines (part.Check input))) scope explain styl
 DoesIn host (command.Fmt (fmt.Part lines (part.Diff input))) scope explain style =
     ScopedInput host scope (task_of (work.Part (record { lines = lines; show = show.Diff })) explain style) input
 DoesIn host (command.Fmt (fmt.Part lines (part.Write file))) scope explain style =
-    ScopedRewrite host scope explain (IsPart style lines.items) (File file)
+    ScopedRewrite host scope explain (new_text_of scope.any_text (IsPart style lines.items)) (File file)
 
 -- The writer writes out what it holds back. If it fails only then, that is reported; otherwise the status stays.
 -- (What a writer holds back is no part of its `ByteStream`, so nothing says that it holds nothing back afterwards.)

@@ -1,16 +1,9 @@
--- what the program does, from its arguments to its exit status, and the state that it changes
-pub mod World
-pub mod Ends
+-- what the program does, from its arguments to its exit status
 pub mod Reports
-pub mod Rewriting
 pub mod Settings
+pub mod Guarded
 pub mod Answer
 pub mod SettingsFile
 pub mod Run
--- the lines that are written
-pub mod Report
-pub mod Problems
+-- what the editor server does
 pub mod Server
-pub mod Named
--- inputs in memory
-pub mod MemoryInputs

@@ -1,30 +1,36 @@
 -- What `check` does with `--format` for programs: all problems of all inputs are in one report, which is written last.
 -- (before, after: the states, the streams or one stream before and after a step;
 -- reader, left: a reader before and after it was read; problems: those of one input)
-use Rattle.std.specs.Prelude.{◌≡◌, ◌⊎◌, ◌++◌, ◌∷◌, ℕ, max, List, [], Bool, true, false, Option, Some, None, Vec}
-use Rattle.std.specs.declared.alloc.Global.{Global}
+use Rattle.std.specs.Prelude.{◌≡◌, ◌⊎◌, ◌++◌, ◌∷◌, ℕ, max, List, [], Bool, true, false, Option, Some, None}
+use Rattle.std.specs.Prelude.{MatchBool}
 use Rattle.yf_command_line.specs.declared.command.Check.{Check}
 use Rattle.yf_command_line.specs.declared.command.Input.{Input}
 use Rattle.yf_command_line.specs.declared.command.Input.TheVariants.{Standard, File}
 use Rattle.yf_explain.specs.Explained.{Explains}
 use Rattle.yf_findings.specs.Files.{ReportOf}
+use Rattle.yf_findings.specs.Guards.{WithGuard}
 use Rattle.yf_findings.specs.Reading.{ReadProblems}
 use Rattle.yf_findings.specs.Refusals.{RefusalProblem}
 use Rattle.yf_findings.specs.declared.files.FileProblems.{FileProblems}
 use Rattle.yf_findings.specs.declared.owned.OwnedProblem.{OwnedProblem}
 use Rattle.yf_forms.specs.declared.style.Style.{Style}
+use Rattle.yf_guard.specs.declared.guarded.Guarded.TheVariants.{Vault}
+use Rattle.yf_guarded.specs.Judged.{GivesJudged}
+use Rattle.yf_guarded.specs.declared.read.Verdict.{Verdict}
+use Rattle.yf_guarded.specs.declared.read.Verdict.TheVariants as verdict
 use Rattle.yf_lines.specs.declared.fault.Fault.{Fault}
 use Rattle.yf_lines.specs.declared.fault.Fault.TheVariants as fault
-use Rattle.yf_lines.specs.Watched.{watched_failed, watched_inner}
-use Rattle.yf_lines.specs.declared.watched.Watched.{Watched}
 use Rattle.yf_report.specs.declared.reports.Format.{Format}
 use Rattle.yf_rules.specs.Runs.ByteStream.{ByteStream, NoFailure, NothingWritten, Writes, BreaksOff, WrittenOrFailed}
 use Rattle.yf_rules.specs.Runs.Run as Runs
-use Rattle.yf_program.specs.Ends.{AnyLines, EndsBy, EndsTold, InputsOpened, IsFile, IsLine, Opens, name_of}
-use Rattle.yf_program.specs.Named.{named_lines}
-use Rattle.yf_program.specs.Report.{check_status}
+use Rattle.yf_rules.specs.declared.finding.Finding.{Finding}
+use Rattle.yf_host.specs.Ends.{AnyLines, EndsBy, EndsTold, InputsOpened, IsFile, Opens, name_of}
+use Rattle.yf_host.specs.Memory.{ToldErrors, empty_stream}
+use Rattle.yf_program.specs.Guarded.{held, is_judged}
+use Rattle.yf_host.specs.LeftAlone.{left_line, left_status}
+use Rattle.yf_host.specs.Report.{check_status}
 use Rattle.yf_program.specs.Settings.{IsLeftOut, TellsLeftOut}
-use Rattle.yf_program.specs.World.{Host, InputClaim, OutputStreams, WorkClaim, World, streams_of}
+use Rattle.yf_host.specs.World.{Host, InputClaim, OutputStreams, WorkClaim, World, streams_of}
 use Rattle.yf_program.specs.declared.report_inputs.ReportTask.{ReportTask}
 use Rattle.yf_program.specs.declared.scope.Scope.{Scope}
 
@@ -44,23 +50,64 @@ abbrev pub has_problem : List OwnedProblem → Bool
 has_problem [] = false
 has_problem (p ∷ ps) = true
 
--- The text that a reader has was checked, and these are its problems. Or it was refused, or could not be read: that is
--- its only problem, and the line of the fault was written to the stream of faults.
+-- The text that a reader has was refused, or could not be read: that is its only problem, and the line of the fault was
+-- written to the stream of faults.
+abbrev pub GivesFault : ReportTask → List OwnedProblem → ℕ → ByteStream → ByteStream → ByteStream → ByteStream → Type 0
+GivesFault task problems status reader left before after =
+    (f : Fault) × (bytes : List ℕ) × Runs.RefusedText reader left f × Runs.Keeps reader.contents bytes f
+    × IsOnly (RefusalProblem bytes f) problems × EndsTold task.explain (Explains bytes f) f status before after
+
+-- The text that a reader has was checked, and these are its problems; or it was refused.
 abbrev pub GivesOver : ReportTask → List OwnedProblem → ℕ → ByteStream → ByteStream → ByteStream → ByteStream → Type 0
 GivesOver task problems status reader left before after =
     (ReadProblems task.without.items task.style reader.contents problems × NoFailure reader left
     × (status ≡ check_status (has_problem problems)) × NothingWritten before after)
-    ⊎ ((f : Fault) × (bytes : List ℕ) × Runs.RefusedText reader left f × Runs.Keeps reader.contents bytes f
-    × IsOnly (RefusalProblem bytes f) problems × EndsTold task.explain (Explains bytes f) f status before after)
+    ⊎ GivesFault task problems status reader left before after
 
--- The input is a file that could not be opened, since it fails: that is its only problem. Or a reader of the input was
--- opened, and its text was checked.
-abbrev pub GivesOpened : InputClaim → ReportTask → Input → List OwnedProblem → ℕ → ByteStream → ByteStream → Type 0
-GivesOpened claim task input problems status before after =
-    (IsFile input × (claim.tells → claim.fails input) × IsOnly (RefusalProblem [] fault.ReadFailed) problems
-    × EndsTold task.explain AnyLines fault.ReadFailed status before after)
-    ⊎ ((reader : ByteStream) × (left : ByteStream) × Opens claim input reader left
-    × GivesOver task problems status reader left before after)
+-- The text t is no data, as the finding f says. Its problems are those that the rules find, and among them that of the
+-- finding; or it was refused.
+abbrev pub GivesNoData : ReportTask → Finding → List ℕ → List OwnedProblem → ℕ → ByteStream → ByteStream → Type 0
+GivesNoData task f t problems status before after =
+    ((found : List OwnedProblem) × ReadProblems task.without.items task.style (Some t) found
+    × WithGuard t f found problems × (status ≡ 1) × NothingWritten before after)
+    ⊎ ((rest : List ℕ) × GivesFault task problems status (held t) (held rest) before after)
+
+-- What the check of a text gives, by the verdict on the text. An encrypted text has no problem, and a line says that it
+-- is skipped.
+abbrev pub GivesAsJudged : ReportTask → Verdict → List ℕ → List OwnedProblem → ℕ → ByteStream → ByteStream → Type 0
+GivesAsJudged task verdict.Passed t problems status before after =
+    (rest : List ℕ) × GivesOver task problems status (held t) (held rest) before after
+GivesAsJudged task verdict.Encrypted t problems status before after =
+    (problems ≡ []) × (status ≡ left_status Vault) × WrittenOrFailed before after (left_line Vault)
+GivesAsJudged task (verdict.NoData f) t problems status before after = GivesNoData task f t problems status before after
+
+-- The text that a reader has was judged, and checked as the verdict says; or it was refused.
+abbrev pub GivesJudgedText : ReportTask → List OwnedProblem → ℕ → ByteStream → ByteStream → ByteStream → ByteStream
+    → Type 0
+GivesJudgedText task problems status reader left before after =
+    ((t : List ℕ) × (v : Verdict) × GivesJudged true reader.contents t v × NoFailure reader left
+    × GivesAsJudged task v t problems status before after)
+    ⊎ GivesFault task problems status reader left before after
+
+-- The input is a file that could not be opened, since it fails: that is its only problem.
+abbrev pub GivesUnopened : InputClaim → ReportTask → Input → List OwnedProblem → ℕ → ByteStream → ByteStream → Type 0
+GivesUnopened claim task input problems status before after =
+    IsFile input × (claim.tells → claim.fails input) × IsOnly (RefusalProblem [] fault.ReadFailed) problems
+    × EndsTold task.explain AnyLines fault.ReadFailed status before after
+
+-- What holds of a reader before and after it was read.
+abbrev pub ReadClaim : Type 1
+ReadClaim = ByteStream → ByteStream → Type 0
+
+-- A reader of the input was opened, and P holds of it.
+abbrev pub OpensReader : InputClaim → Input → ReadClaim → Type 0
+OpensReader claim input P = (reader : ByteStream) × (left : ByteStream) × Opens claim input reader left × P reader left
+
+-- The text that a reader of the input has was checked. If `is_judged` holds of the input, the text was judged first.
+abbrev pub GivesRead : Scope → ReportTask → Input → List OwnedProblem → ℕ → ByteStream → ByteStream → ReadClaim
+GivesRead scope task input problems status before after = λ reader left.
+    MatchBool (is_judged scope input) (GivesJudgedText task problems status reader left before after)
+    (GivesOver task problems status reader left before after)
 
 -- What changes while inputs are checked for a report: the inputs that were opened, in order; the files of the report,
 -- with their problems; and the stream of faults.
@@ -77,10 +124,10 @@ state_in opened inputs files errors = record { opened = opened inputs; files = f
 abbrev pub ReportClaim : Type 1
 ReportClaim = ℕ → ReportState → ReportState → Type 0
 
--- The name of the file that an input is. Standard input has none.
-abbrev pub file_name : Input → Option (List ℕ)
-file_name Standard = None
-file_name (File name) = Some name
+-- The name of an input in a report. Standard input has none, unless the command line gives one.
+abbrev pub file_name : Option (List ℕ) → Input → Option (List ℕ)
+file_name standard Standard = standard
+file_name standard (File name) = Some name
 
 -- The problems of the file of this name were added, and P holds of them.
 abbrev pub AddsFile : Option (List ℕ) → (List OwnedProblem → Type 0) → List FileProblems → List FileProblems → Type 0
@@ -88,10 +135,12 @@ AddsFile name P old new =
     (file : FileProblems) × (file.file ≡ name) × P file.problems.items × (new ≡ old ++ file ∷ [])
 
 -- The input was opened, and no other, and its problems were added.
-abbrev pub GivesInput : InputClaim → ReportTask → Input → ReportClaim
-GivesInput claim task input status before after =
+abbrev pub GivesInput : InputClaim → Scope → ReportTask → Input → ReportClaim
+GivesInput claim scope task input status before after =
     InputsOpened claim before.opened after.opened (input ∷ [])
-    × AddsFile (file_name input) (λ problems. GivesOpened claim task input problems status before.errors after.errors)
+    × AddsFile (file_name scope.stdin_name input)
+    (λ problems. GivesUnopened claim task input problems status before.errors after.errors
+    ⊎ OpensReader claim input (GivesRead scope task input problems status before.errors after.errors))
     before.files after.files
 
 -- The problems of the input were added, unless the settings leave the input out. Then it was not opened, and it is not
@@ -101,32 +150,10 @@ pub data GivesScoped (claim : InputClaim) (scope : Scope) (task : ReportTask) (i
   left_out : IsLeftOut scope input → (claim.notes → after.opened ≡ before.opened) → after.files ≡ before.files
       → status ≡ 0 → TellsLeftOut task.explain before.errors after.errors
       → GivesScoped claim scope task input status before after
-  included : ¬ (IsLeftOut scope input) → GivesInput claim task input status before after
+  included : ¬ (IsLeftOut scope input) → GivesInput claim scope task input status before after
       → GivesScoped claim scope task input status before after
 
 -- ---- The problems of all inputs
-
--- A text was written for the stream of faults, or there was no memory for it, and only that was written.
--- (run: the status of what was done)
-abbrev pub ToldFaults : ℕ → ℕ → List ℕ → ByteStream → ByteStream → Type 0
-ToldFaults run status faults before after =
-    ((status ≡ run) × WrittenOrFailed before after faults) ⊎ EndsBy fault.Memory status before after
-
--- What memory holds for the stream of faults was written with a name before each line. Lines that explain the line of a
--- fault may be missing. Or there was no memory for that, and only that was written.
-abbrev pub ToldErrors : List ℕ → ℕ → ℕ → ByteStream → ByteStream → ByteStream → Type 0
-ToldErrors name run status memory before after =
-    ((faults : List ℕ) × (memory.contents ≡ Some faults) × ((memory.failed ≡ false) ⊎ IsLine faults)
-    × ToldFaults run status (named_lines name faults) before after)
-    ⊎ EndsBy fault.Memory status before after
-
--- A stream in memory.
-abbrev pub memory_stream : Watched (Vec ℕ Global) → ByteStream
-memory_stream memory = record { contents = Some (watched_inner memory).items; failed = watched_failed memory }
-
--- A stream in memory to which nothing was written.
-abbrev pub empty_stream : ByteStream
-empty_stream = record { contents = Some []; failed = false }
 
 -- One of several inputs was checked as if it were the only one. What was written for it has its name before each line.
 abbrev pub GivesNamed : InputClaim → Scope → ReportTask → Input → ReportClaim
@@ -134,7 +161,7 @@ GivesNamed claim scope task input status before after =
     (run : ℕ) × (memory : ByteStream)
     × GivesScoped claim scope task input run (record before { errors = empty_stream })
     (record after { errors = memory })
-    × ToldErrors (name_of input) run status memory before.errors after.errors
+    × ToldErrors (name_of scope.stdin_name input) run status memory before.errors after.errors
 
 -- Some inputs were checked, in order. The status is the greatest of theirs.
 pub data GivesEach (claim : InputClaim) (scope : Scope) (task : ReportTask) (before : ReportState)
@@ -144,10 +171,12 @@ pub data GivesEach (claim : InputClaim) (scope : Scope) (task : ReportTask) (bef
       → GivesEach claim scope task before inputs status between → GivesNamed claim scope task input one between after
       → GivesEach claim scope task before (inputs ++ input ∷ []) (max status one) after
 
--- The only input was checked, or each of several.
+-- The only input was checked, or each of several. With `--names`, also the lines of the only input have its name.
 abbrev pub GivesAll : InputClaim → Scope → ReportTask → List Input → ReportClaim
 GivesAll claim scope task [] status before after = ⊥
-GivesAll claim scope task (input ∷ []) status before after = GivesScoped claim scope task input status before after
+GivesAll claim scope task (input ∷ []) status before after =
+    MatchBool scope.names (GivesEach claim scope task before (input ∷ []) status after)
+    (GivesScoped claim scope task input status before after)
 GivesAll claim scope task (input ∷ next ∷ inputs) status before after =
     GivesEach claim scope task before (input ∷ next ∷ inputs) status after
 

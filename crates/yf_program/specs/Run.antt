@@ -11,13 +11,14 @@ use Rattle.yf_command_line.specs.declared.usage.Usage.TheVariants as usage
 use Rattle.yf_lines.specs.declared.fault.Fault.{Fault}
 use Rattle.yf_lines.specs.declared.fault.Fault.TheVariants as fault
 use Rattle.yf_program.specs.Answer.{AnyLines, DoesIn, EndsBy, InputsOpened, TellsMore, UsageWritten, WrittenOut}
-use Rattle.yf_program.specs.Report.{fault_status}
-use Rattle.yf_program.specs.Settings.{IsInForce, IsUnfound, NothingDone, RefusesVersion, named_fault, no_folder_line, scope_of, settings_line}
+use Rattle.yf_host.specs.Report.{fault_status, named_fault}
+use Rattle.yf_program.specs.Settings.{IsInForce, IsUnfound, NothingDone, RefusesVersion, no_folder_line, scope_of, settings_line}
 use Rattle.yf_program.specs.SettingsFile.{SettingsOfFile, Unset, settings_of}
-use Rattle.yf_program.specs.World.{Host, OutputStreams, WorkClaim, World}
+use Rattle.yf_host.specs.World.{Host, OutputStreams, WorkClaim, World}
 use Rattle.yf_program.specs.declared.search.InForce.{InForce}
 use Rattle.yf_program.specs.declared.search.Unfound.{Unfound}
 use Rattle.yf_program.specs.declared.search.Unfound.TheVariants as unfound
+use Rattle.yf_program.specs.declared.task.Flags.{Flags}
 use Rattle.yf_rules.specs.AllRules.{rule_names}
 use Rattle.yf_rules.specs.Runs.ByteStream.{ByteStream, NothingWritten, WrittenOrFailed}
 use Rattle.yf_settings.specs.Page.{ShowsSettings}
@@ -37,27 +38,36 @@ TellsUnfound explain unfound.NoFolder status before after = (status ≡ 3) × Wr
 TellsUnfound explain unfound.Memory status before after = EndsBy fault.Memory status before after
 
 -- The settings are for another version; or memory was refused; or the command was done with the settings.
-pub data DoesWith {F : Type 0} (host : Host F) (in_force : InForce) (settings : FileSettings) (explain : Bool)
+pub data DoesWith {F : Type 0} (host : Host F) (in_force : InForce) (settings : FileSettings) (flags : Flags)
     (what : Command) (status : ℕ) (before after : World F) : Type 0 where
   other_version : NothingDone host before after
       → RefusesVersion settings.required status before.streams.errors after.streams.errors
-      → DoesWith host in_force settings explain what status before after
+      → DoesWith host in_force settings flags what status before after
   without_memory : NothingDone host before after → EndsBy fault.Memory status before.streams.errors after.streams.errors
-      → DoesWith host in_force settings explain what status before after
-  are_taken : DoesIn host what (scope_of in_force settings) explain settings.style status before after
-      → DoesWith host in_force settings explain what status before after
+      → DoesWith host in_force settings flags what status before after
+  are_taken : DoesIn host what (scope_of in_force settings flags) flags.explain settings.style status before after
+      → DoesWith host in_force settings flags what status before after
 
 -- The settings file in force is refused, and no other input was opened; or the command was done with its settings.
-abbrev pub SettingsTaken : {F : Type 0} → Host F → InForce → Bool → Command → WorkClaim F
-SettingsTaken host in_force explain what status before after =
+abbrev pub SettingsTaken : {F : Type 0} → Host F → InForce → Flags → Command → WorkClaim F
+SettingsTaken host in_force flags what status before after =
     ((f : Fault) × Unset host.inputs in_force.config f × (after.files ≡ before.files)
     × InputsOpened host.inputs before.opened after.opened (settings_of in_force.config)
     × NothingWritten before.streams.output after.streams.output
-    × EndsByLine explain (settings_line in_force.is_nearest (unwrap_or in_force.config []) f) f status
+    × EndsByLine flags.explain (settings_line in_force.is_nearest (unwrap_or in_force.config []) f) f status
     before.streams.errors after.streams.errors)
     ⊎ ((settings : FileSettings) × (opened : List Input) × SettingsOfFile host.inputs in_force.config settings
     × InputsOpened host.inputs before.opened opened (settings_of in_force.config)
-    × DoesWith host in_force settings explain what status (record before { opened = opened }) after)
+    × DoesWith host in_force settings flags what status (record before { opened = opened }) after)
+
+-- What the command line says about the whole run.
+abbrev pub flags_of : Request → Flags
+flags_of request = record {
+  explain = request.explain;
+  any_text = request.any_text;
+  names = request.names;
+  stdin_name = request.stdin_name;
+}
 
 -- The first line of a page of settings: a comment with the name of the settings file.
 abbrev pub file_heading : List ℕ → List ℕ
@@ -90,7 +100,7 @@ RequestDone host request status before after =
     × TellsUnfound request.explain why status before.streams.errors after.streams.errors)
     ⊎ ((in_force : InForce) × IsInForce host.inputs request.settings in_force
     × MatchBool request.shows_settings (SettingsShown host in_force request.explain status before after)
-    (SettingsTaken host in_force request.explain request.command status before after))
+    (SettingsTaken host in_force (flags_of request) request.command status before after))
 
 -- What the words ask for was done; or they ask for help or are wrong, and nothing was opened.
 abbrev pub Follows : {F : Type 0} → Host F → List (List ℕ) → WorkClaim F

@@ -17,11 +17,11 @@ use Rattle.yf_server_loop.specs.Sessions.{Moment, SessionRuns}
 use Rattle.yf_server_loop.specs.declared.ended.Ended.{Ended}
 use Rattle.yf_server_loop.specs.declared.ended.Ended.TheVariants as ended
 use Rattle.yf_stream.specs.StreamReader.{StreamFault}
-use Rattle.yf_program.specs.Problems.{FindsProblems}
-use Rattle.yf_program.specs.Report.{fault_line, fault_status}
-use Rattle.yf_program.specs.World.{OutputStreams}
+use Rattle.yf_problems.specs.Problems.{FindsProblems}
+use Rattle.yf_host.specs.Report.{fault_line, fault_status}
+use Rattle.yf_host.specs.World.{OutputStreams}
 
--- The text is left alone: it is an Ansible Vault file, or too long.
+-- The server makes no edits for the text: it is an Ansible Vault file, or too long.
 abbrev pub IsLeft : List ℕ → Type 0
 IsLeft text = IsVault text ⊎ (INPUT_LIMIT < length text)
 

@@ -1,7 +1,7 @@
 -- Which settings file is in force, and which files it leaves out.
-use Rattle.std.specs.Prelude.{◌≡◌, ◌⊎◌, ◌∷◌, ◌++◌, ℕ, Bool, true, false, List, [], Option, Some, None, length, unwrap_or, codes}
+use Rattle.std.specs.Prelude.{◌≡◌, ◌⊎◌, ◌||◌, ◌∷◌, ℕ, Bool, true, false, List, [], length, codes}
+use Rattle.std.specs.Prelude.{Option, Some, None, unwrap_or, MatchOption}
 use Rattle.std.specs.List.{concat}
-use Rattle.yf_command_line.specs.Shown.{shown}
 use Rattle.yf_command_line.specs.declared.build.TheConstants.{VERSION}
 use Rattle.yf_command_line.specs.declared.command.Input.{Input}
 use Rattle.yf_command_line.specs.declared.command.Input.TheVariants.{Standard, File}
@@ -14,12 +14,13 @@ use Rattle.yf_excludes.specs.Located.{ExcludesFile}
 use Rattle.yf_excludes.specs.Names.{Leads}
 use Rattle.yf_lines.specs.declared.fault.Fault.{Fault}
 use Rattle.yf_lines.specs.declared.fault.Fault.TheVariants as fault
-use Rattle.yf_program.specs.Report.{fault_line, fault_status}
-use Rattle.yf_program.specs.World.{Host, InputClaim, WorkClaim, World}
+use Rattle.yf_host.specs.Report.{fault_line, fault_status, named_fault}
+use Rattle.yf_host.specs.World.{Host, InputClaim, WorkClaim, World}
 use Rattle.yf_program.specs.declared.scope.Scope.{Scope}
 use Rattle.yf_program.specs.declared.search.InForce.{InForce}
 use Rattle.yf_program.specs.declared.search.Unfound.{Unfound}
 use Rattle.yf_program.specs.declared.search.Unfound.TheVariants as unfound
+use Rattle.yf_program.specs.declared.task.Flags.{Flags}
 use Rattle.yf_rules.specs.Runs.ByteStream.{ByteStream, NothingWritten, WrittenOrFailed}
 use Rattle.yf_settings.specs.Texts.{allows}
 use Rattle.yf_settings.specs.declared.file_settings.FileSettings.{FileSettings}
@@ -69,10 +70,6 @@ IsUnfound claim asks (unfound.Unreadable name) = EndsUnread claim asks name
 IsUnfound claim asks unfound.NoFolder = HasNoStart claim asks
 IsUnfound claim asks unfound.Memory = Unit {0}
 
--- The line of a fault after the name of a file.
-abbrev pub named_fault : List ℕ → Fault → List ℕ
-named_fault name f = shown name ++ (codes ": " ++ fault_line f)
-
 -- The line of a settings file that is refused. It has the name of the file if the search found the file.
 abbrev pub settings_line : Bool → List ℕ → Fault → List ℕ
 settings_line true name f = named_fault name f
@@ -80,7 +77,7 @@ settings_line false name f = fault_line f
 
 -- The line for a current folder without a path.
 abbrev pub no_folder_line : List ℕ
-no_folder_line = codes "no settings file can be looked for: the path of the current folder is unknown\n"
+no_folder_line = codes "can't look for a settings file: the path of the current folder is unknown\n"
 
 -- ---- For which versions of the program it is
 
@@ -98,18 +95,30 @@ RefusesVersion (required.Versions r) status before after =
 
 -- ---- Which files it leaves out
 
--- What decides which files the settings leave out.
-abbrev pub scope_of : InForce → FileSettings → Scope
-scope_of f settings = record {
+-- What decides which inputs the settings leave out, which texts are skipped, and which names the lines have.
+abbrev pub scope_of : InForce → FileSettings → Flags → Scope
+scope_of f settings flags = record {
   patterns = settings.exclude;
   current = f.current;
   settings = unwrap_or f.config [];
+  any_text = flags.any_text || settings.any_text;
+  names = flags.names;
+  stdin_name = flags.stdin_name;
 }
 
--- The patterns of the settings file exclude the file. Standard input is never left out.
+-- The patterns of the settings file exclude the file of this name.
+abbrev pub Excludes : Scope → List ℕ → Type 0
+Excludes scope name = ExcludesFile scope.patterns.items scope.current.items scope.settings name
+
+-- The patterns of the settings file exclude the input. Standard input without a name is never left out.
 abbrev pub IsLeftOut : Scope → Input → Type 0
-IsLeftOut scope Standard = ⊥
-IsLeftOut scope (File name) = ExcludesFile scope.patterns.items scope.current.items scope.settings name
+IsLeftOut scope Standard = MatchOption scope.stdin_name ⊥ (Excludes scope)
+IsLeftOut scope (File name) = Excludes scope name
+
+-- The line that says that an input is left out, with `--explain`.
+abbrev pub left_out_line : Bool → List ℕ
+left_out_line true = codes "left out: the settings exclude it\n"
+left_out_line false = []
 
 -- With `--explain`, a line says that an input is left out.
 abbrev pub TellsLeftOut : Bool → ByteStream → ByteStream → Type 0
@@ -122,14 +131,22 @@ NothingDone host before after =
     (after.files ≡ before.files) × (host.inputs.notes → after.opened ≡ before.opened)
     × NothingWritten before.streams.output after.streams.output
 
--- It was done with the input, unless the settings leave the input out. If memory is refused, nothing was done.
-pub data Scoped {F : Type 0} (host : Host F) (scope : Scope) (explain : Bool) (Does : Input → WorkClaim F) (input : Input)
-    (status : ℕ) (before after : World F) : Type 0 where
-  left_out : IsLeftOut scope input → NothingDone host before after → status ≡ 0
-      → TellsLeftOut explain before.streams.errors after.streams.errors
-      → Scoped host scope explain Does input status before after
+-- Nothing was done with an input that the settings leave out.
+abbrev pub PassesBy : {F : Type 0} → Host F → Bool → Input → WorkClaim F
+PassesBy host explain input status before after =
+    NothingDone host before after × (status ≡ 0) × TellsLeftOut explain before.streams.errors after.streams.errors
+
+-- What is done with an input, and with an input that the settings leave out.
+pub record InputWork (F : Type 0) : Type 1 where
+  pub Does : Input → WorkClaim F
+  pub Skips : Input → WorkClaim F
+
+-- It was done with the input, or the settings leave the input out. If memory is refused, nothing was done.
+pub data Scoped {F : Type 0} (host : Host F) (scope : Scope) (what : InputWork F) (input : Input) (status : ℕ)
+    (before after : World F) : Type 0 where
+  left_out : IsLeftOut scope input → what.Skips input status before after → Scoped host scope what input status before after
   no_memory : NothingDone host before after → status ≡ fault_status fault.Memory
       → WrittenOrFailed before.streams.errors after.streams.errors (fault_line fault.Memory)
-      → Scoped host scope explain Does input status before after
-  included : ¬ (IsLeftOut scope input) → Does input status before after
-      → Scoped host scope explain Does input status before after
+      → Scoped host scope what input status before after
+  included : ¬ (IsLeftOut scope input) → what.Does input status before after
+      → Scoped host scope what input status before after

@@ -2,25 +2,26 @@
 ghost use Rattle.std.specs.Prelude.{map, string_bytes};
 ghost use Rattle.yf_program.specs.Answer.{DoesIn, host_in};
 ghost use Rattle.yf_program.specs.Run.{ProgramRuns};
-ghost use Rattle.yf_program.specs.World.{world_in};
+ghost use Rattle.yf_host.specs.World.{world_in};
 
 use crate::each::{do_inputs, do_scoped};
-use crate::files::{Links, NewText};
-use crate::inputs::Inputs;
 use crate::parts::do_part;
 use crate::program::{answer_usage, written_out};
 use crate::report_inputs::ReportTask;
 use crate::reports::report_inputs;
 use crate::rewrites::rewrite_files;
 use crate::scope::Scope;
-use crate::sources::Sources;
-use crate::streams::Streams;
 use crate::task::{Task, Work};
 use crate::with_settings::do_request;
 use std::alloc::Global;
 use yf_command_line::command::{Check, Command, Fmt, Input, Output};
 use yf_command_line::command_line::parse_line;
 use yf_forms::style::Style;
+use yf_host::files::{Links, NewText};
+use yf_host::guarded_text::GuardedText;
+use yf_host::inputs::Inputs;
+use yf_host::sources::Sources;
+use yf_host::streams::Streams;
 use yf_lines::watched::Sink;
 use yf_rules::asked::RULE_NAMES;
 
@@ -133,8 +134,8 @@ fn do_fmt<I: Inputs, S: Links, W: Sink, E: Sink>(
     sources: &mut Sources<I, S>,
     streams: &mut Streams<W, E>,
 ) -> u8
-    ensures { DoesIn (host_in I.claim S.tells S.state S.leads sources.old) (Command.Fmt fmt) scope.now explain style result
-        (world_in I.opened sources.old streams.old) (world_in I.opened sources.new streams.new) }
+    ensures { DoesIn (host_in I.claim S.tells S.state S.leads sources.old) (Command.Fmt fmt) scope.now explain style
+        result (world_in I.opened sources.old streams.old) (world_in I.opened sources.new streams.new) }
 {
     match fmt {
         Fmt::Print(input) => {
@@ -162,7 +163,10 @@ fn do_fmt<I: Inputs, S: Links, W: Sink, E: Sink>(
             do_scoped(alloc, &task, scope, &input, sources, streams)
         }
         Fmt::Write(files) => {
-            let new_text = NewText::Formatted(&style);
+            let new_text = GuardedText {
+                any_text: scope.any_text,
+                new_text: NewText::Formatted(&style),
+            };
             rewrite_files(alloc, explain, &new_text, scope, &files, sources, streams)
         }
         Fmt::Part { lines, what } => {

@@ -4,15 +4,15 @@ ghost use Rattle.yf_explain.specs.Explained.{Explains};
 ghost use Rattle.yf_rules.specs.Runs.ByteStream.{stream_of};
 ghost use Rattle.yf_program.specs.Answer.{AnyLines, EndsTold, TellsMore};
 
-use crate::finding_words::findings_page;
-use crate::inputs::{Again, Inputs};
-use crate::report::report;
 use std::alloc::{AllocError, Global};
 use yf_explain::{Page, explain, page_of_words};
 use yf_forms::style::Style;
+use yf_host::inputs::{Again, Inputs};
+use yf_host::report::report;
 use yf_lines::fault::Fault;
 use yf_lines::output::write_text;
 use yf_lines::watched::Sink;
+use yf_problems::finding_words::findings_page;
 use yf_rules::finding::Finding;
 use yf_settings::settings_words::explain_settings;
 

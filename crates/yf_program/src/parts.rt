@@ -1,21 +1,22 @@
 //! `fmt --lines`: formatting only some lines of a text.
 ghost use Rattle.yf_rules.specs.Runs.ByteStream.{stream_of};
 ghost use Rattle.yf_program.specs.Answer.{DoesIn, RanPart, host_in};
-ghost use Rattle.yf_program.specs.World.{world_in};
+ghost use Rattle.yf_host.specs.World.{world_in};
 
 use crate::each::do_scoped;
-use crate::files::{Links, NewText};
 use crate::further::report_input;
-use crate::inputs::Inputs;
-use crate::program::{FINDINGS, GOOD};
 use crate::rewrites::rewrite_scoped;
 use crate::scope::Scope;
-use crate::sources::Sources;
-use crate::streams::Streams;
 use crate::task::{Task, Work};
 use std::alloc::Global;
 use yf_command_line::command::{Command, Fmt, Part};
 use yf_forms::style::Style;
+use yf_host::files::{Links, NewText};
+use yf_host::guarded_text::GuardedText;
+use yf_host::inputs::Inputs;
+use yf_host::report::{FINDINGS, GOOD};
+use yf_host::sources::Sources;
+use yf_host::streams::Streams;
 use yf_line_ranges::range::LineRange;
 use yf_lines::watched::{Sink, Source};
 use yf_parts::run::{PartTask, run_part};
@@ -72,7 +73,10 @@ pub fn do_part<I: Inputs, S: Links, W: Sink, E: Sink>(
             do_scoped(alloc, &task, scope, &input, sources, streams)
         }
         Part::Write(file) => {
-            let new_text = NewText::Part(&style, lines.as_slice());
+            let new_text = GuardedText {
+                any_text: scope.any_text,
+                new_text: NewText::Part(&style, lines.as_slice()),
+            };
             let name = file.as_str();
             rewrite_scoped(alloc, explain, &new_text, scope, name, sources, streams)
         }

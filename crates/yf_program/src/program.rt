@@ -5,21 +5,19 @@ ghost use Rattle.yf_rules.specs.Runs.Compare.{IsClean};
 ghost use Rattle.yf_rules.specs.Runs.Diffed.{DiffRun, RefusedDiff};
 ghost use Rattle.yf_rules.specs.Runs.Run.{Gave, Keeps};
 ghost use Rattle.yf_program.specs.SettingsFile.{FileRefused, FileSets};
-ghost use Rattle.yf_program.specs.Answer.{Ran, RanCheck, RanEvents, RanFmt, RanFmtCheck, RanFmtDiff, UsageWritten, WrittenOut, name_of};
+ghost use Rattle.yf_program.specs.Answer.{RanCheck, RanEvents, RanFmt, RanFmtCheck, RanFmtDiff, RanWork, UsageWritten, WrittenOut};
 ghost use Rattle.yf_rules.specs.Quoted.{quoted};
 
-use crate::each::name_of;
 use crate::further::{report_input, tell_findings};
 use crate::parts::run_lines;
-use crate::report::report;
 use crate::server::run_server;
-use crate::streams::Streams;
 use crate::task::{Task, Work};
 use std::alloc::Global;
 use yf_chars::utf8::check_utf8;
-use yf_command_line::command::Input;
 use yf_command_line::usage::Usage;
 use yf_forms::style::Style;
+use yf_host::report::{FINDINGS, GOOD, report};
+use yf_host::streams::Streams;
 use yf_lines::fault::Fault;
 use yf_lines::output::write_text;
 use yf_lines::text::OwnedText;
@@ -32,25 +30,19 @@ use yf_rules::run::{INPUT_LIMIT, run_check_all, run_events, run_fmt};
 use yf_settings::file_settings::{FileSettings, settings_from_toml};
 use yf_settings::settings::no_key;
 
-/// The status of a run that ended well.
-pub const GOOD: u8 = 0;
-
-/// The status of a check that found something, and of a text that is not in the house style.
-pub const FINDINGS: u8 = 1;
-
 /// The status if the words on the command line are refused.
 const USAGE: u8 = 3;
 
-/// Does a task with a reader of an input. Returns the status of the run, or that of the fault that was reported on the
-/// stream of faults.
+/// Does a task with a reader of the input of this name. Returns the status of the run, or that of the fault that was
+/// reported on the stream of faults.
 pub fn run<R: Source, W: Sink, E: Sink>(
     alloc: Global,
     task: &Task,
-    input: &Input,
+    name: &str,
     reader: &mut R,
     streams: &mut Streams<W, E>,
 ) -> u8
-    ensures { Ran input.now task.now result (stream_of R.remaining R.has_failed reader.old)
+    ensures { RanWork task.now.work name.now task.now result (stream_of R.remaining R.has_failed reader.old)
         (stream_of R.remaining R.has_failed reader.new) streams.old streams.new }
 {
     match &task.work {
@@ -58,8 +50,8 @@ pub fn run<R: Source, W: Sink, E: Sink>(
         Work::Check(without) => run_checker(alloc, task, without, reader, streams),
         Work::Print => run_writer(alloc, task, reader, streams),
         Work::Compare => run_comparer(alloc, task, reader, streams),
-        Work::Diff => run_differ(alloc, task, name_of(input), reader, streams),
-        Work::Part(part) => run_lines(alloc, task, part, name_of(input), reader, streams),
+        Work::Diff => run_differ(alloc, task, name, reader, streams),
+        Work::Part(part) => run_lines(alloc, task, part, name, reader, streams),
         Work::Serve => run_server(alloc, &task.style, reader, streams),
     }
 }

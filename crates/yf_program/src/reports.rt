@@ -3,22 +3,22 @@ ghost use Rattle.yf_command_line.specs.Requests.{all_inputs};
 ghost use Rattle.yf_program.specs.Answer.{host_in};
 ghost use Rattle.yf_program.specs.Reports.{DoesReport, GaveUp, GivesAll, GivesEach, GivesNamed, ReportWritten};
 ghost use Rattle.yf_program.specs.Reports.{StopsAt, state_in};
-ghost use Rattle.yf_program.specs.World.{StillKnown, world_in};
+ghost use Rattle.yf_host.specs.World.{StillKnown, world_in};
 ghost use Rattle.yf_rules.specs.Runs.ByteStream.{stream_of};
 ghost use Rattle.std.specs.Prelude.{IfOk, OnErr};
 
 use crate::each::name_of;
-use crate::files::Links;
-use crate::inputs::Inputs;
-use crate::memory::tell_errors;
-use crate::report::report;
 use crate::report_inputs::{ReportTask, give_scoped};
 use crate::scope::Scope;
-use crate::sources::Sources;
-use crate::streams::{Streams, stream_in_memory};
 use std::alloc::{AllocError, Global};
 use yf_command_line::command::{Input, InputList};
 use yf_findings::files::{FileProblems, report_of};
+use yf_host::files::Links;
+use yf_host::inputs::Inputs;
+use yf_host::memory::tell_errors;
+use yf_host::report::report;
+use yf_host::sources::Sources;
+use yf_host::streams::{Streams, stream_in_memory};
 use yf_lines::fault::Fault;
 use yf_lines::output::write_text;
 use yf_lines::watched::Sink;
@@ -89,6 +89,10 @@ fn give_all<I: Inputs, E: Sink>(
         (state_in I.opened inputs.old files.old.items (stream_of E.contents E.has_failed error_stream.old))
         (state_in I.opened inputs.new files.new.items (stream_of E.contents E.has_failed error_stream.new))) }
 {
+    let is_named = scope.names;
+    if is_named {
+        return give_each(alloc, task, scope, list, inputs, files, error_stream);
+    }
     if list.rest.is_empty() {
         return give_scoped(alloc, task, scope, &list.first, inputs, files, error_stream);
     }
@@ -142,5 +146,5 @@ fn give_named<I: Inputs, E: Sink>(
 {
     let mut memory = stream_in_memory(alloc);
     let status = give_scoped(alloc, task, scope, input, inputs, files, &mut memory)?;
-    Ok(tell_errors(alloc, name_of(input), status, &memory, error_stream))
+    Ok(tell_errors(alloc, name_of(scope, input), status, &memory, error_stream))
 }

@@ -4,21 +4,21 @@ ghost use Rattle.yf_command_line.specs.Requests.{all_files};
 ghost use Rattle.yf_command_line.specs.declared.command.Input.TheVariants.{File};
 ghost use Rattle.yf_rules.specs.Runs.ByteStream.{stream_of};
 ghost use Rattle.yf_program.specs.Answer.{AnyLines, DoesAll, DoesEach, DoesNamed, DoesRewrite, EndsRewriting, ScopedRewrite, TellsMore, host_in};
-ghost use Rattle.yf_program.specs.Rewriting.{FileRewrite, IsNewText};
-ghost use Rattle.yf_program.specs.World.{world_in};
+ghost use Rattle.yf_host.specs.Rewriting.{FileRewrite, claim_of};
+ghost use Rattle.yf_host.specs.World.{world_in};
 
-use crate::files::{Links, NewText, report_rewrite, rewrite};
 use crate::further::tell_file;
-use crate::inputs::Inputs;
-use crate::memory::tell_memory;
-use crate::program::GOOD;
-use crate::report::report;
 use crate::scope::{Scope, is_file_left_out, tell_left_out};
-use crate::sources::Sources;
-use crate::streams::{Streams, in_memory};
 use std::alloc::Global;
 use yf_command_line::command::FileList;
 use yf_files::RewriteError;
+use yf_host::files::{Links, report_rewrite, rewrite};
+use yf_host::guarded_text::{GuardedText, NoNewText};
+use yf_host::inputs::Inputs;
+use yf_host::memory::tell_memory;
+use yf_host::report::{GOOD, report};
+use yf_host::sources::Sources;
+use yf_host::streams::{Streams, in_memory};
 use yf_lines::fault::Fault;
 use yf_lines::watched::Sink;
 
@@ -26,17 +26,21 @@ use yf_lines::watched::Sink;
 pub fn rewrite_files<I: Inputs, S: Links, W: Sink, E: Sink>(
     alloc: Global,
     explain: bool,
-    new_text: &NewText<'_>,
+    new_text: &GuardedText<'_>,
     scope: &Scope,
     files: &FileList,
     sources: &mut Sources<I, S>,
     streams: &mut Streams<W, E>,
 ) -> u8
-    ensures { DoesAll (ScopedRewrite (host_in I.claim S.tells S.state S.leads sources.old) scope.now explain
-        (IsNewText new_text.now))
+    ensures { DoesAll scope.now (ScopedRewrite (host_in I.claim S.tells S.state S.leads sources.old) scope.now explain
+        (claim_of new_text.now))
         (map (λ name. File name) (all_files files.now)) result (world_in I.opened sources.old streams.old)
         (world_in I.opened sources.new streams.new) }
 {
+    let is_named = scope.names;
+    if is_named {
+        return rewrite_each(alloc, explain, new_text, scope, files, sources, streams);
+    }
     if files.rest.is_empty() {
         let name = files.first.as_str();
         return rewrite_scoped(alloc, explain, new_text, scope, name, sources, streams);
@@ -49,14 +53,14 @@ pub fn rewrite_files<I: Inputs, S: Links, W: Sink, E: Sink>(
 fn rewrite_each<I: Inputs, S: Links, W: Sink, E: Sink>(
     alloc: Global,
     explain: bool,
-    new_text: &NewText<'_>,
+    new_text: &GuardedText<'_>,
     scope: &Scope,
     files: &FileList,
     sources: &mut Sources<I, S>,
     streams: &mut Streams<W, E>,
 ) -> u8
-    ensures { DoesEach (ScopedRewrite (host_in I.claim S.tells S.state S.leads sources.old) scope.now explain
-        (IsNewText new_text.now))
+    ensures { DoesEach scope.now.stdin_name (ScopedRewrite (host_in I.claim S.tells S.state S.leads sources.old)
+        scope.now explain (claim_of new_text.now))
         (world_in I.opened sources.old streams.old) (map (λ name. File name) (all_files files.now)) result
         (world_in I.opened sources.new streams.new) }
 {
@@ -82,14 +86,14 @@ fn rewrite_each<I: Inputs, S: Links, W: Sink, E: Sink>(
 fn rewrite_named<I: Inputs, S: Links, W: Sink, E: Sink>(
     alloc: Global,
     explain: bool,
-    new_text: &NewText<'_>,
+    new_text: &GuardedText<'_>,
     scope: &Scope,
     name: &str,
     sources: &mut Sources<I, S>,
     streams: &mut Streams<W, E>,
 ) -> u8
     ensures does { DoesNamed name.now (ScopedRewrite (host_in I.claim S.tells S.state S.leads sources.old) scope.now
-        explain (IsNewText new_text.now) (File name.now)) result (world_in I.opened sources.old streams.old)
+        explain (claim_of new_text.now) (File name.now)) result (world_in I.opened sources.old streams.old)
         (world_in I.opened sources.new streams.new) }
     ensures inputs { sources.new.inputs ≡ sources.old.inputs }
 {
@@ -102,14 +106,14 @@ fn rewrite_named<I: Inputs, S: Links, W: Sink, E: Sink>(
 pub fn rewrite_scoped<I: Inputs, S: Links, W: Sink, E: Sink>(
     alloc: Global,
     explain: bool,
-    new_text: &NewText<'_>,
+    new_text: &GuardedText<'_>,
     scope: &Scope,
     name: &str,
     sources: &mut Sources<I, S>,
     streams: &mut Streams<W, E>,
 ) -> u8
     ensures does { ScopedRewrite (host_in I.claim S.tells S.state S.leads sources.old) scope.now explain
-        (IsNewText new_text.now) (File name.now) result (world_in I.opened sources.old streams.old)
+        (claim_of new_text.now) (File name.now) result (world_in I.opened sources.old streams.old)
         (world_in I.opened sources.new streams.new) }
     ensures inputs { sources.new.inputs ≡ sources.old.inputs }
 {
@@ -127,13 +131,13 @@ pub fn rewrite_scoped<I: Inputs, S: Links, W: Sink, E: Sink>(
 fn rewrite_file<I: Inputs, S: Links, W: Sink, E: Sink>(
     alloc: Global,
     explain: bool,
-    new_text: &NewText<'_>,
+    new_text: &GuardedText<'_>,
     name: &str,
     sources: &mut Sources<I, S>,
     streams: &mut Streams<W, E>,
 ) -> u8
     ensures does { DoesRewrite (host_in I.claim S.tells S.state S.leads sources.old) explain
-        (IsNewText new_text.now) name.now result (world_in I.opened sources.old streams.old)
+        (claim_of new_text.now) name.now result (world_in I.opened sources.old streams.old)
         (world_in I.opened sources.new streams.new) }
     ensures inputs { sources.new.inputs ≡ sources.old.inputs }
 {
@@ -154,7 +158,7 @@ fn report_rewriting<I: Inputs, E: Sink>(
     explain: bool,
     inputs: &I,
     name: &str,
-    rewritten: &Result<(), RewriteError<Fault>>,
+    rewritten: &Result<(), RewriteError<NoNewText>>,
     error_stream: &mut E,
 ) -> u8
     ensures { EndsRewriting explain (λ outcome. outcome ≡ rewritten.now) result
@@ -176,7 +180,7 @@ fn tell_rewrite<I: Inputs, E: Sink>(
     explain: bool,
     inputs: &I,
     name: &str,
-    why: &RewriteError<Fault>,
+    why: &RewriteError<NoNewText>,
     error_stream: &mut E,
 )
     ensures { TellsMore explain AnyLines (stream_of E.contents E.has_failed error_stream.old)
@@ -191,9 +195,11 @@ fn tell_rewrite<I: Inputs, E: Sink>(
             &Fault::ReadFailed,
             error_stream,
         ),
-        RewriteError::Refused(fault) => {
+        RewriteError::Refused(NoNewText::Refused(fault)) => {
             tell_file(alloc, explain, inputs, name, fault, error_stream)
         }
-        RewriteError::Memory | RewriteError::Unwritten(_) => {}
+        RewriteError::Memory
+        | RewriteError::Refused(NoNewText::LeftAlone(_))
+        | RewriteError::Unwritten(_) => {}
     }
 }

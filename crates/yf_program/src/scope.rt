@@ -1,8 +1,8 @@
-//! Which inputs the settings leave out.
-ghost use Rattle.std.specs.Prelude.{◌↔◌, IfOk, IsTrue};
-ghost use Rattle.yf_command_line.specs.declared.command.Input.TheVariants.{File};
+//! What a run knows of its inputs: which the settings leave out, which texts are skipped, and their names.
+ghost use Rattle.std.specs.Prelude.{◌≡◌, ◌↔◌, IfOk, IsTrue};
+ghost use Rattle.yf_command_line.specs.declared.command.Input.TheVariants.{Standard};
 ghost use Rattle.yf_rules.specs.Runs.ByteStream.{stream_of};
-ghost use Rattle.yf_program.specs.Settings.{IsLeftOut, TellsLeftOut};
+ghost use Rattle.yf_program.specs.Settings.{Excludes, IsLeftOut, TellsLeftOut, left_out_line};
 
 use std::alloc::{AllocError, Global};
 use yf_command_line::command::Input;
@@ -12,7 +12,7 @@ use yf_lines::output::write_text;
 use yf_lines::text::OwnedText;
 use yf_lines::watched::Sink;
 
-/// What decides which inputs are left out.
+/// What decides which inputs are left out, which texts are skipped, and which names the lines have.
 #[derive(Drop)]
 pub struct Scope {
     /// The patterns of the settings file. Without a settings file there are none.
@@ -21,21 +21,39 @@ pub struct Scope {
     pub current: Vec<u8>,
     /// The name of the settings file.
     pub settings: OwnedText,
+    /// Whether texts that are no data are taken like any other.
+    pub any_text: bool,
+    /// Whether lines have the name of their input, even if there is only one.
+    pub names: bool,
+    /// The name of standard input.
+    pub stdin_name: Option<OwnedText>,
 }
+
+const LEFT_OUT: &str = "left out: the settings exclude it\n";
 
 /// Returns whether an input is left out.
 pub fn is_left_out(alloc: Global, scope: &Scope, input: &Input) -> Result<bool, AllocError>
     ensures { IfOk result (λ out. IsTrue out ↔ IsLeftOut scope.now input.now) }
 {
     match input {
-        Input::Standard => Ok(false),
+        Input::Standard => is_standard_left_out(alloc, scope),
         Input::File(name) => is_file_left_out(alloc, scope, name.as_str()),
     }
 }
 
-/// Returns whether a file is left out.
+// Returns whether standard input is left out. It is not if it has no name.
+fn is_standard_left_out(alloc: Global, scope: &Scope) -> Result<bool, AllocError>
+    ensures { IfOk result (λ out. IsTrue out ↔ IsLeftOut scope.now Standard) }
+{
+    match &scope.stdin_name {
+        Some(name) => is_file_left_out(alloc, scope, name.as_str()),
+        None => Ok(false),
+    }
+}
+
+/// Returns whether the file of this name is left out.
 pub fn is_file_left_out(alloc: Global, scope: &Scope, name: &str) -> Result<bool, AllocError>
-    ensures { IfOk result (λ out. IsTrue out ↔ IsLeftOut scope.now (File name.now)) }
+    ensures { IfOk result (λ out. IsTrue out ↔ Excludes scope.now name.now) }
 {
     excludes_file(
         alloc,
@@ -52,6 +70,16 @@ pub fn tell_left_out<E: Sink>(explain: bool, error_stream: &mut E)
         (stream_of E.contents E.has_failed error_stream.new) }
 {
     if explain {
-        let _ = write_text(error_stream, b"left out: the settings exclude it\n");
+        let _ = write_text(error_stream, LEFT_OUT.as_bytes());
     }
+}
+
+/// Returns the line of an input that is left out, or the empty text if the run doesn't explain what it does.
+pub fn left_out_line(explain: bool) -> &'static str
+    ensures { result.now ≡ left_out_line explain }
+{
+    if explain {
+        return LEFT_OUT;
+    }
+    ""
 }

@@ -7,13 +7,13 @@ ghost use Rattle.yf_command_line.specs.declared.command.Settings.TheVariants.{Ne
 ghost use Rattle.yf_rules.specs.Runs.ByteStream.{stream_of};
 
 use crate::further::tell_file;
-use crate::inputs::Inputs;
-use crate::report::{report, report_named};
 use std::alloc::{AllocError, Global};
 use yf_command_line::command::Settings;
 use yf_discovery::folders::{Folders, There};
 use yf_discovery::nearest::{Discovery, nearest_settings};
 use yf_excludes::path::names_led;
+use yf_host::inputs::Inputs;
+use yf_host::report::{report, report_named};
 use yf_lines::fault::Fault;
 use yf_lines::output::write_text;
 use yf_lines::text::OwnedText;
@@ -178,7 +178,7 @@ pub fn report_unfound<I: Inputs, E: Sink>(
         Unfound::NoFolder => {
             let _ = write_text(
                 error_stream,
-                b"no settings file can be looked for: the path of the current folder is unknown\n",
+                b"can't look for a settings file: the path of the current folder is unknown\n",
             );
             UNFOUND
         }

@@ -5,18 +5,18 @@ ghost use Rattle.yf_rules.specs.Runs.ByteStream.{stream_of};
 ghost use Rattle.yf_server.specs.Analysis.{problem_read};
 ghost use Rattle.yf_program.specs.Server.{FindsInText, FormatsLines, FormatsText, IsLeft, Served, TellsEnd, exit_status, frame_line, is_memory, line_number};
 
-use crate::problems::problems_in;
-use crate::report::report;
-use crate::streams::Streams;
 use std::alloc::{AllocError, Global};
 use yf_forms::style::Style;
 use yf_guard::guarded::is_vault;
+use yf_host::report::report;
+use yf_host::streams::Streams;
 use yf_json_rpc::frame::FrameError;
 use yf_line_ranges::range::LineRange;
 use yf_lines::fault::Fault;
 use yf_lines::output::write_text;
 use yf_lines::watched::{Sink, Source};
 use yf_parts::run::with_lines_formatted;
+use yf_problems::problems::problems_in;
 use yf_rules::format::format;
 use yf_rules::run::INPUT_LIMIT;
 use yf_server::analysis::{Analysis, Problem};
@@ -63,14 +63,14 @@ fn line_number(text: &str, offset: usize) -> usize
     line_feeds(&bytes[..before]) + 1
 }
 
-// Returns whether a text is left alone: an Ansible Vault file, or a text that is too long.
+// Returns whether the server makes no edits for a text: an Ansible Vault file, or a text that is too long.
 fn is_left(text: &str) -> bool
     ensures { MatchBool result (IsLeft text.now) (IsLeft text.now → ⊥) }
 {
     is_vault(text) || text.len() > INPUT_LIMIT
 }
 
-// Returns the formatting of a text; `None` if it is left alone or refused.
+// Returns the formatting of a text; `None` if the server makes no edits for it, or refuses it.
 fn formatted(alloc: Global, text: &str, style: &Style) -> Result<Option<String>, AllocError>
     ensures { IfOk result (λ new. FormatsText style.now text.now (option_map string_bytes new)) }
 {

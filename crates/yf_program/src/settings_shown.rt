@@ -5,11 +5,11 @@ ghost use Rattle.yf_program.specs.Run.{PageShown, file_heading, heading};
 ghost use Rattle.yf_rules.specs.Runs.ByteStream.{WriteEnds, stream_of};
 ghost use Rattle.yf_settings.specs.FileSettings.{AreKept};
 
-use crate::report::report;
-use crate::streams::Streams;
 use std::alloc::Global;
 use yf_command_line::shown::write_shown;
 use yf_command_line::usage::Usage;
+use yf_host::report::report;
+use yf_host::streams::Streams;
 use yf_lines::fault::Fault;
 use yf_lines::output::write_text;
 use yf_lines::text::OwnedText;

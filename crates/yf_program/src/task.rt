@@ -33,3 +33,16 @@ pub struct Task {
     /// Whether each fault and each finding is explained.
     pub explain: bool,
 }
+
+/// What the command line says about the whole run.
+#[derive(Drop)]
+pub struct Flags {
+    /// Whether each fault and each finding is explained.
+    pub explain: bool,
+    /// Whether texts that are no data are taken like any other.
+    pub any_text: bool,
+    /// Whether lines have the name of their input, even if there is only one.
+    pub names: bool,
+    /// The name of standard input.
+    pub stdin_name: Option<OwnedText>,
+}

@@ -1,28 +1,29 @@
 //! A request with the settings that are in force.
-ghost use Rattle.std.specs.Prelude.{◌≡◌, [], unwrap_or, MatchResult};
+ghost use Rattle.std.specs.Prelude.{◌≡◌, ◌||◌, [], unwrap_or, MatchResult};
 ghost use Rattle.yf_rules.specs.Runs.ByteStream.{NothingWritten, WrittenOrFailed, stream_of};
 ghost use Rattle.yf_program.specs.Answer.{DoesIn, InputsOpened, host_in};
-ghost use Rattle.yf_program.specs.Report.{fault_status};
+ghost use Rattle.yf_host.specs.Report.{fault_status};
 ghost use Rattle.yf_program.specs.Run.{DoesWith, EndsByLine, RequestDone, SettingsShown, SettingsTaken, TellsUnfound};
 ghost use Rattle.yf_program.specs.Settings.{scope_of, settings_line};
 ghost use Rattle.yf_program.specs.SettingsFile.{SettingsOfFile, Unset, settings_of};
-ghost use Rattle.yf_program.specs.World.{StillKnown, world_in};
+ghost use Rattle.yf_host.specs.World.{StillKnown, world_in};
 
 use crate::answer::do_command;
-use crate::files::Links;
 use crate::further::tell_settings;
-use crate::inputs::Inputs;
 use crate::program::read_settings;
-use crate::report::{report, report_named};
 use crate::scope::Scope;
 use crate::search::{InForce, Unfound, report_unfound, settings_in_force};
 use crate::settings_shown::show_settings;
-use crate::sources::Sources;
-use crate::streams::Streams;
+use crate::task::Flags;
 use crate::version::report_version;
 use std::alloc::Global;
 use yf_command_line::build::VERSION;
 use yf_command_line::command::{Command, Request};
+use yf_host::files::Links;
+use yf_host::inputs::Inputs;
+use yf_host::report::{report, report_named};
+use yf_host::sources::Sources;
+use yf_host::streams::Streams;
 use yf_lines::fault::Fault;
 use yf_lines::text::OwnedText;
 use yf_lines::watched::Sink;
@@ -43,14 +44,23 @@ pub fn do_request<I: Inputs, S: Links, W: Sink, E: Sink>(
         settings,
         shows_settings,
         explain,
+        any_text,
+        names,
+        stdin_name,
         command,
     } = request;
+    let flags = Flags {
+        explain,
+        any_text,
+        names,
+        stdin_name,
+    };
     match settings_in_force(alloc, settings, &sources.inputs) {
         Ok(in_force) => {
             if shows_settings {
                 return show_in_force(alloc, &in_force, explain, sources, streams);
             }
-            do_in_force(alloc, in_force, explain, command, sources, streams)
+            do_in_force(alloc, in_force, flags, command, sources, streams)
         }
         Err(unfound) => stop_unfound(alloc, explain, &sources.inputs, &unfound, streams),
     }
@@ -100,22 +110,20 @@ fn show_in_force<I: Inputs, S: Links, W: Sink, E: Sink>(
 fn do_in_force<I: Inputs, S: Links, W: Sink, E: Sink>(
     alloc: Global,
     in_force: InForce,
-    explain: bool,
+    flags: Flags,
     command: Command,
     sources: &mut Sources<I, S>,
     streams: &mut Streams<W, E>,
 ) -> u8
-    ensures { SettingsTaken (host_in I.claim S.tells S.state S.leads sources.old) in_force explain command result
+    ensures { SettingsTaken (host_in I.claim S.tells S.state S.leads sources.old) in_force flags command result
         (world_in I.opened sources.old streams.old) (world_in I.opened sources.new streams.new) }
 {
     let mut bytes = Vec::new(alloc);
     match settings_set(alloc, &in_force.config, &mut sources.inputs, &mut bytes) {
-        Ok(settings) => do_with(
-            alloc, in_force, settings, explain, command, sources, streams,
-        ),
+        Ok(settings) => do_with(alloc, in_force, settings, flags, command, sources, streams),
         Err(fault) => report_unset(
             alloc,
-            explain,
+            flags.explain,
             &in_force,
             &sources.inputs,
             bytes.as_slice(),
@@ -196,18 +204,16 @@ fn do_with<I: Inputs, S: Links, W: Sink, E: Sink>(
     alloc: Global,
     in_force: InForce,
     settings: FileSettings,
-    explain: bool,
+    flags: Flags,
     command: Command,
     sources: &mut Sources<I, S>,
     streams: &mut Streams<W, E>,
 ) -> u8
-    ensures { DoesWith (host_in I.claim S.tells S.state S.leads sources.old) in_force settings explain command result
+    ensures { DoesWith (host_in I.claim S.tells S.state S.leads sources.old) in_force settings flags command result
         (world_in I.opened sources.old streams.old) (world_in I.opened sources.new streams.new) }
 {
     match allows(alloc, &settings.required, VERSION) {
-        Ok(true) => do_taken(
-            alloc, in_force, settings, explain, command, sources, streams,
-        ),
+        Ok(true) => do_taken(alloc, in_force, settings, flags, command, sources, streams),
         Ok(false) => report_version(&settings.required, &mut streams.errors),
         Err(_) => report(&Fault::Memory, &mut streams.errors),
     }
@@ -218,27 +224,44 @@ fn do_taken<I: Inputs, S: Links, W: Sink, E: Sink>(
     alloc: Global,
     in_force: InForce,
     settings: FileSettings,
-    explain: bool,
+    flags: Flags,
     command: Command,
     sources: &mut Sources<I, S>,
     streams: &mut Streams<W, E>,
 ) -> u8
-    ensures { DoesIn (host_in I.claim S.tells S.state S.leads sources.old) command (scope_of in_force settings) explain
+    ensures { DoesIn (host_in I.claim S.tells S.state S.leads sources.old) command
+        (scope_of in_force settings flags) flags.explain
         settings.style result (world_in I.opened sources.old streams.old)
         (world_in I.opened sources.new streams.new) }
 {
-    let FileSettings { style, exclude, .. } = settings;
+    let FileSettings {
+        style,
+        exclude,
+        any_text,
+        ..
+    } = settings;
     let InForce {
         config,
         current,
         ..
     } = in_force;
+    let explain = flags.explain;
     let scope = Scope {
         patterns: exclude,
         current,
         settings: owned_or_empty(alloc, config),
+        any_text: either(flags.any_text, any_text),
+        names: flags.names,
+        stdin_name: flags.stdin_name,
     };
     do_command(alloc, command, &scope, explain, style, sources, streams)
+}
+
+// Returns whether one of two holds.
+fn either(first: bool, second: bool) -> bool
+    ensures { result ≡ first || second }
+{
+    first || second
 }
 
 // Returns the name of a settings file, or the empty name if there is none.

@@ -64,7 +64,7 @@ pub data HiddenDetail (t : List ℕ) (d : Detail) : Type 0 where
   one : {c : ℕ} → CharAt t d.span.start c d.span.end → d.message ≡ Says.HiddenCharacter c → HiddenDetail t d
   none : code t d.span.start ≡ no_char → d.span.end ≡ d.span.start → d.message ≡ Says.HiddenCharacter 0 → HiddenDetail t d
 
--- the detail of a rule with its own span; for the other rules so far the character at the finding's offset
+-- the detail of a rule with its own span; for the other rules, the character at the finding's offset
 abbrev pub DetailOf : StyleRule → List ℕ → Style → Detail → Type 0
 DetailOf TrailingBlanks t style = EndsBy (WhiteSpan t) Says.TrailingBlanks
 DetailOf Indentation t style = EndsBy (CharacterSpan t) Says.Indentation

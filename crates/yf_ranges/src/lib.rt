@@ -4,8 +4,8 @@
 //! their spans: the white space (trailing-blanks), the marker (document-start), the break (line-breaks), the blank line
 //! (blank-lines), the rest of the line (line-length), and the character (byte-order-mark, comment-space, key-mark,
 //! hidden-character). The span of final-break is empty, and so is that of document-start if the marker is missing.
-//! `quoting::details` gives the scalar. For indentation, flow-layout and repeated-keys `details_by` gives the character
-//! at the position so far, and no values.
+//! `quoting::details` gives the scalar. For indentation, flow-layout and repeated-keys, `details_by` gives the
+//! character at the finding's position, and no values.
 #![tactic(auto)]
 
 pub mod by_rule;

@@ -12,7 +12,8 @@ use crate::step::{Server, is_notification, method_of};
 use serde_json::Value;
 use yf_json_rpc::message::message_of;
 
-/// Returns the URI of the document that a message is about, if it is a notification on a document that counts.
+/// Returns the URI of the document that a notification is about. Returns `None` for other messages, and for a
+/// notification that the server ignores in this phase.
 fn notified_uri(phase: Phase, value: &Value) -> Option<&str>
     ensures { option_map (λ uri. uri.now) result ≡ notified_uri phase (view value.now) }
 {
@@ -23,9 +24,9 @@ fn notified_uri(phase: Phase, value: &Value) -> Option<&str>
     about_uri(method_of(message), value)
 }
 
-/// Drops the text of the document that a message is about, and returns true; returns false if the message is no
-/// notification on a document. For a notification for which `step` was refused memory: the client's text is another one
-/// than the server's from then on.
+/// Drops the text of the document that a notification is about, and returns true. Returns false if the message is no
+/// such a notification. The server calls this function if memory runs out in `step`: from then on the client's text
+/// differs from the server's.
 pub fn lose_notified(server: &mut Server, value: &Value) -> bool
     ensures { Loses server.old server.new (notified_uri server.old.phase (view value.now)) result }
 {
@@ -49,7 +50,8 @@ fn lose_each(documents: &mut Vec<OpenDocument>)
     }
 }
 
-/// Drops the text of each document. For content that is not JSON: it may be a change of any document.
+/// Drops the text of each document. The server calls this function for content that is not JSON, since it may be a
+/// change of any document.
 pub fn lose_all(server: &mut Server)
     ensures { LosesAll server.old server.new }
 {

@@ -21,7 +21,7 @@ use Rattle.yf_lines.specs.declared.invisible.Invisible.TheVariants.{Plain}
 use Rattle.yf_lines.specs.declared.quotes.Quotes.TheVariants.{Double}
 use Rattle.yf_settings.specs.FileSettings.{AreDefaults, HasSettings, KeepsSettings, SettingsOfTable}
 use Rattle.yf_settings.specs.Page.{Completes, SetsAll, ShowsSettings, house_values, value_in}
-use Rattle.yf_settings.specs.Settings.{IsHouse, IsRight, StyleOfTable, comments_of, document_start_of, indent_of, invisible_of, is_right, max_line_of, quotes_of, seq_indent_of, setting}
+use Rattle.yf_settings.specs.Settings.{IsHouse, IsRight, StyleOfTable, any_text_of, comments_of, document_start_of, indent_of, invisible_of, is_right, max_line_of, quotes_of, seq_indent_of, setting}
 use Rattle.yf_settings.specs.Texts.{Excludes, Requires, no_key}
 use Rattle.yf_settings.specs.declared.file_settings.FileSettings.{FileSettings}
 
@@ -228,6 +228,8 @@ module _ (before after : Members) (completes : Completes house_values before aft
           (sym (other_stays (codes "required_version") house_values before after completes refl)) has.required;
       exclude = subst (λ (o : Option Data). Excludes o settings.exclude.items)
           (sym (other_stays (codes "exclude") house_values before after completes refl)) has.exclude;
+      any_text = has.any_text ∙ ap (λ (o : Option Data). unwrap_or (option_and_then any_text_of o) false)
+          (sym (other_stays (codes "any_text") house_values before after completes refl));
     };
     all = sets_all;
     text = text;
@@ -276,6 +278,7 @@ defaults_of_none settings d = record {
   style = house_of_none settings.style d.style;
   required = subst (λ r. Requires None r) (sym d.required) refl;
   exclude = no_key refl d.exclude;
+  any_text = d.any_text;
 }
 
 -- The defaults are the settings of the empty table, which they keep.

@@ -1,5 +1,5 @@
 -- The settings in the text of a settings file, and when the text is refused.
-use Rattle.std.specs.Prelude.{◌≡◌, ◌≢◌, ℕ, Bool, true, List, [], codes, MatchBool, MatchOption, IsSomeAnd}
+use Rattle.std.specs.Prelude.{◌≡◌, ◌≢◌, ℕ, Bool, false, true, List, [], codes, MatchBool, MatchOption, IsSomeAnd}
 use Rattle.toml.specs.Data.{Members, no_members, get_member}
 use Rattle.toml.specs.Parse.{parse_document}
 use Rattle.toml.specs.Errors.{IsBlank}
@@ -7,7 +7,7 @@ use Rattle.toml.specs.View.{table_view}
 use Rattle.yf_excludes.specs.declared.pattern.Pattern.{Pattern}
 use Rattle.yf_lines.specs.declared.fault.Fault.{Fault}
 use Rattle.yf_lines.specs.declared.fault.Fault.TheVariants.{Config, Memory}
-use Rattle.yf_settings.specs.Settings.{IsHouse, IsLeastWrong, IsRight, StyleOfTable}
+use Rattle.yf_settings.specs.Settings.{IsHouse, IsLeastWrong, IsRight, StyleOfTable, any_text_of, setting}
 use Rattle.yf_settings.specs.Texts.{Excludes, IsNoList, IsNoRequirement, Requires}
 use Rattle.yf_settings.specs.declared.file_settings.FileSettings.{FileSettings}
 use Rattle.yf_settings.specs.declared.texts.Required.{Required}
@@ -19,6 +19,7 @@ pub record SettingsOfTable (table : Members) (settings : FileSettings) : Type 0 
   pub style : StyleOfTable table settings.style
   pub required : Requires (get_member (codes "required_version") table) settings.required
   pub exclude : Excludes (get_member (codes "exclude") table) settings.exclude.items
+  pub any_text : settings.any_text ≡ setting any_text_of (codes "any_text") false table
 
 -- The table has these settings, which keep the table.
 pub record KeepsSettings (table : Members) (settings : FileSettings) : Type 0 where
@@ -56,6 +57,7 @@ pub record AreDefaults (settings : FileSettings) : Type 0 where
   pub style : IsHouse settings.style
   pub required : settings.required ≡ Any
   pub exclude : settings.exclude.items ≡ []
+  pub any_text : settings.any_text ≡ false
   pub table : table_view settings.table ≡ no_members
 
 -- The text is TOML, and its table has these settings, which keep the table.

@@ -41,6 +41,9 @@ quotes_of _ = None
 abbrev pub seq_indent_of : Data → Option Bool
 seq_indent_of = as_bool
 
+abbrev pub any_text_of : Data → Option Bool
+any_text_of = as_bool
+
 -- The word `always` or `keep`.
 abbrev pub document_start_of : Data → Option DocumentStart
 document_start_of (string word) =
@@ -76,6 +79,7 @@ is_right version patterns key value =
     else if bytes_eq key (codes "document_start") then is_some (document_start_of value)
     else if bytes_eq key (codes "comments") then is_some (comments_of value)
     else if bytes_eq key (codes "invisible") then is_some (invisible_of value)
+    else if bytes_eq key (codes "any_text") then is_some (any_text_of value)
     else if bytes_eq key (codes "required_version") then version
     else if bytes_eq key (codes "exclude") then patterns
     else false

@@ -6,7 +6,7 @@ ghost use Rattle.yf_settings.specs.FileSettings.{AreDefaults, HasSettings, Keeps
 ghost use Rattle.yf_settings.specs.Settings.{IsWrong};
 ghost use Rattle.yf_settings.specs.Texts.{Excludes, Requires};
 
-use crate::settings::{least_wrong_key, no_key, style_of, wrong_key};
+use crate::settings::{any_text_at, least_wrong_key, no_key, style_of, wrong_key};
 use crate::texts::{Required, patterns_at, required_at};
 use std::alloc::Global;
 use toml::Table;
@@ -23,6 +23,8 @@ pub struct FileSettings {
     pub exclude: Vec<Pattern>,
     /// The versions of the program that the file requires.
     pub required: Required,
+    /// Whether texts that are no data are taken like any other.
+    pub any_text: bool,
     /// The table of the file's text. Without a settings file it is empty.
     pub table: Table,
 }
@@ -36,6 +38,7 @@ impl FileSettings {
             style: Style::house(),
             exclude: Vec::new(alloc),
             required: Required::Any,
+            any_text: false,
             table: Table::new(alloc),
         }
     }
@@ -44,8 +47,8 @@ impl FileSettings {
 /// Returns the settings of a text. The text is a TOML document with the keys `indent` (an integer from 2 to 8),
 /// `max_line` (an integer from 40 to 1000), `quotes` (`"double"` or `"single"`), `seq_indent` (a boolean),
 /// `document_start` (`"always"` or `"keep"`), `comments` (`"next"` or `"block"`), `invisible` (`"plain"` or
-/// `"escaped"`), `required_version` (a requirement for a version, for example `">=0.3, <0.4"`) and `exclude` (an array
-/// of patterns). A setting without a key has the value that it has without a settings file.
+/// `"escaped"`), `any_text` (a boolean), `required_version` (a requirement for a version, for example `">=0.2, <0.3"`)
+/// and `exclude` (an array of patterns). A setting without a key has the value that it has without a settings file.
 ///
 /// # Errors
 ///
@@ -107,6 +110,7 @@ fn settings_with(
             style: style_of(&table),
             exclude,
             required,
+            any_text: any_text_at(&table),
             table,
         }),
     }

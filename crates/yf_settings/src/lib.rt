@@ -1,7 +1,8 @@
 //! The settings file: the settings in its text, and the explanation of a text that is refused.
 //!
-//! A text sets exactly the settings that it names, or is refused with its first wrong key. A page of settings is TOML
-//! that has the settings. The crate opens no file.
+//! A text sets exactly the settings that it names. If a text is refused, the fault has the least of its wrong keys by
+//! their bytes, or no key if the text is not TOML. A page of settings is a TOML text with these settings. The crate
+//! opens no file.
 #![tactic(auto)]
 
 pub mod file_settings;

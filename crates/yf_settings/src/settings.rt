@@ -1,10 +1,10 @@
 //! The style that the TOML text of a settings file sets, and the wrong keys of the text.
-ghost use Rattle.std.specs.Prelude.{◌≡◌, ◌⊎◌, ℕ, ◌≤◌, [], Some, codes, true, MatchOption, MatchResult};
+ghost use Rattle.std.specs.Prelude.{◌≡◌, ◌⊎◌, ℕ, ◌≤◌, [], Some, codes, false, true, MatchOption, MatchResult};
 ghost use Rattle.std.specs.Prelude.{List, option_map};
 ghost use Rattle.toml.specs.Data.{get_member};
 ghost use Rattle.toml.specs.View.{view, table_view};
 ghost use Rattle.yf_settings.specs.Settings.{number_between, indent_of, max_line_of, quotes_of, seq_indent_of};
-ghost use Rattle.yf_settings.specs.Settings.{document_start_of, comments_of, invisible_of, is_right, IsRight};
+ghost use Rattle.yf_settings.specs.Settings.{document_start_of, comments_of, invisible_of, any_text_of, is_right, IsRight};
 ghost use Rattle.yf_settings.specs.Settings.{IsLeastWrong, setting, SetsStyle, RefusesSettings, StyleOfTable};
 ghost use Rattle.yf_forms.specs.declared.style.CommentColumns.TheVariants.{Next};
 ghost use Rattle.yf_forms.specs.declared.style.DocumentStart.TheVariants.{Always};
@@ -34,11 +34,13 @@ pub(crate) const COMMENTS: &str = "comments";
 
 pub(crate) const INVISIBLE: &str = "invisible";
 
+const ANY_TEXT: &str = "any_text";
+
 /// Returns the style that a settings text sets. The text is a TOML document with the keys `indent` (an integer from 2
 /// to 8), `max_line` (an integer from 40 to 1000), `quotes` (`"double"` or `"single"`), `seq_indent` (a boolean),
 /// `document_start` (`"always"` or `"keep"`), `comments` (`"next"` or `"block"`) and `invisible` (`"plain"` or
-/// `"escaped"`). A key that the text doesn't set has the value of the house style. `required_version` and `exclude` are
-/// not keys here (see `settings_from_toml`).
+/// `"escaped"`). A key that the text doesn't set has the value of the house style. `any_text` (a boolean) is no part of
+/// a style, and `required_version` and `exclude` are not keys here (see `settings_from_toml`).
 ///
 /// # Errors
 ///
@@ -125,6 +127,9 @@ fn is_right(version: bool, patterns: bool, key: &str, value: &Value) -> bool
     }
     if key == INVISIBLE {
         return invisible_of(value).is_some();
+    }
+    if key == ANY_TEXT {
+        return value.as_bool().is_some();
     }
     if key == REQUIRED_VERSION {
         return version;
@@ -297,6 +302,16 @@ fn invisible_at(table: &Table, house: Invisible) -> Invisible
     match value_at(table, INVISIBLE) {
         Some(value) => invisible_of(value).unwrap_or(house),
         None => house,
+    }
+}
+
+// Returns whether the table takes any text, if its keys are right.
+pub(crate) fn any_text_at(table: &Table) -> bool
+    ensures { result ≡ setting any_text_of (codes "any_text") false (table_view table.now) }
+{
+    match value_at(table, ANY_TEXT) {
+        Some(value) => value.as_bool().unwrap_or(false),
+        None => false,
     }
 }
 

@@ -6,7 +6,8 @@ use yf_explain::{Page, explain, page_at};
 use yf_lines::fault::Fault;
 
 /// The keys, and the allowed values of each.
-const ALLOWED: [(&str, &str); 9] = [
+const ALLOWED: [(&str, &str); 10] = [
+    ("any_text", "`any_text` is true or false"),
     ("comments", "`comments` is \"next\" or \"block\""),
     (
         "document_start",
@@ -22,7 +23,7 @@ const ALLOWED: [(&str, &str); 9] = [
     ("quotes", "`quotes` is \"double\" or \"single\""),
     (
         "required_version",
-        "`required_version` is a text such as \">=0.3, <0.4\"",
+        "`required_version` is a text such as \">=0.2, <0.3\"",
     ),
     ("seq_indent", "`seq_indent` is true or false"),
 ];

@@ -5,10 +5,10 @@ use crate::tests::answers::words_of;
 use crate::tests::report_rows::REPORT_ROWS;
 use std::alloc::{AllocError, Global};
 use yf_files::{FileSystem, MemoryFiles};
+use yf_host::memory_inputs::{MemoryInputs, Stored};
+use yf_host::sources::Sources;
+use yf_host::streams::in_memory;
 use yf_program::answer::answer;
-use yf_program::memory_inputs::{MemoryInputs, Stored};
-use yf_program::sources::Sources;
-use yf_program::streams::in_memory;
 
 /// The files and their contents.
 static FILES: [Stored; 13] = [

@@ -2,14 +2,15 @@
 
 use std::alloc::{AllocError, Global};
 use std::io;
-use yf_command_line::command::Input;
 use yf_events::reading::Reading;
 use yf_forms::style::Style;
+use yf_host::files::NewText;
+use yf_host::guarded_text::GuardedText;
+use yf_host::report::report;
+use yf_host::streams::{Streams, in_memory};
 use yf_lines::fault::Fault;
 use yf_lines::watched::{Sink, Source, Watched};
 use yf_program::program::run;
-use yf_program::report::report;
-use yf_program::streams::{Streams, in_memory};
 use yf_program::task::{Task, Work};
 use yf_rules::format::format;
 use yf_settings::settings::style_from_toml;
@@ -67,6 +68,14 @@ pub fn task(alloc: Global, asked: Asked, style: &Style) -> Task {
     }
 }
 
+/// Returns the formatting in a style as the new text of a file.
+pub fn whole_text(style: &Style) -> GuardedText<'_> {
+    GuardedText {
+        any_text: false,
+        new_text: NewText::Formatted(style),
+    }
+}
+
 /// Runs a command on an input and returns the results.
 pub fn answer_to(alloc: Global, asked: Asked, style: &Style, input: &[u8]) -> Answer {
     answer_to_task(alloc, &task(alloc, asked, style), input)
@@ -75,13 +84,7 @@ pub fn answer_to(alloc: Global, asked: Asked, style: &Style, input: &[u8]) -> An
 /// Does a task with an input and returns the results.
 pub fn answer_to_task(alloc: Global, task: &Task, input: &[u8]) -> Answer {
     let mut streams = in_memory(alloc);
-    let status = run(
-        alloc,
-        task,
-        &Input::Standard,
-        &mut Watched::new(input),
-        &mut streams,
-    );
+    let status = run(alloc, task, "-", &mut Watched::new(input), &mut streams);
     let Streams { output, errors } = streams;
     Answer {
         status,
@@ -118,7 +121,7 @@ pub fn answer_over<R: Source, W: Sink>(
     let status = run(
         alloc,
         &task(alloc, asked, &Style::house()),
-        &Input::Standard,
+        "-",
         reader,
         &mut streams,
     );

@@ -6,7 +6,7 @@ use std::io;
 use std::io::{Read, Seek, SeekFrom, Write};
 use std::os::unix::fs::MetadataExt;
 use std::path::PathBuf;
-use yf_program::replacing::Held;
+use yf_host::replacing::Held;
 
 /// The step that fails. Some steps fail for all files, others only for a new file.
 #[derive(Clone, Copy, PartialEq, Eq)]

@@ -1,6 +1,6 @@
 //! Files that are rewritten, in a folder made for the test.
 
-use crate::tests::answers::is_true;
+use crate::tests::answers::{is_true, whole_text};
 use crate::tests::failing_files::{FailingFiles, Step};
 use std::fs::Permissions;
 use std::os::unix::fs::{MetadataExt, PermissionsExt, symlink};
@@ -8,9 +8,10 @@ use std::rt::Files;
 use std::{fs, io};
 use yf_files::{ReplaceError, RewriteError};
 use yf_forms::style::Style;
+use yf_host::files::rewrite;
+use yf_host::guarded_text::NoNewText;
+use yf_host::replacing::{Held, SystemFiles};
 use yf_lines::fault::Fault;
-use yf_program::files::{NewText, rewrite};
-use yf_program::replacing::{Held, SystemFiles};
 
 /// Makes an empty folder.
 fn make_folder(rt: &HostRuntime, folder: &str) -> io::Result<()> {
@@ -32,10 +33,11 @@ enum Answer {
 }
 
 /// Returns whether this is the result.
-fn is_answer(answer: &Result<(), RewriteError<Fault>>, wanted: Answer) -> bool {
+fn is_answer(answer: &Result<(), RewriteError<NoNewText>>, wanted: Answer) -> bool {
     match (answer, wanted) {
         (Ok(()), Answer::Rewritten) => true,
-        (Err(RewriteError::Refused(Fault::Syntax { .. })), Answer::Syntax) => true,
+        (Err(RewriteError::Refused(NoNewText::Refused(Fault::Syntax { .. }))), Answer::Syntax) =>
+            true,
         (Err(RewriteError::Unreadable), Answer::ReadFailed) => true,
         (Err(RewriteError::Unwritten(error)), wanted) => match (error, wanted) {
             (ReplaceError::Untouched, Answer::WriteFailed) => true,
@@ -55,7 +57,7 @@ where
     let mut files = SystemFiles::new(files);
     let style = Style::house();
     is_answer(
-        &rewrite(rt.alloc(), &mut files, path, &NewText::Formatted(&style)),
+        &rewrite(rt.alloc(), &mut files, path, &whole_text(&style)),
         wanted,
     )
 }

@@ -5,11 +5,10 @@ use crate::tests::answers::{Answer, Asked, answer_over, answer_to, task};
 use crate::tests::events::{ACCEPTED, REFUSED};
 use crate::tests::faulty::{FaultyReader, FaultyWriter};
 use std::alloc::Global;
-use yf_command_line::command::Input;
 use yf_forms::style::Style;
+use yf_host::streams::Streams;
 use yf_lines::watched::{Sink, Source, Watched};
 use yf_program::program::run;
-use yf_program::streams::Streams;
 
 static COMMANDS: [Asked; 3] = [Asked::Events, Asked::Check, Asked::Fmt];
 
@@ -181,7 +180,7 @@ fn held_answer(trial: Trial) -> Held {
     let status = run(
         trial.alloc,
         &task(trial.alloc, trial.asked, &Style::house()),
-        &Input::Standard,
+        "-",
         &mut Watched::new(trial.input),
         &mut streams,
     );

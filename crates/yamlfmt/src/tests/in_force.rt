@@ -2,13 +2,14 @@
 
 use crate::tests::answer_rows::BEFORE;
 use crate::tests::answers::words_of;
+use crate::tests::excluded_rows;
 use crate::tests::in_force_rows::{ROWS, Row};
 use std::alloc::{AllocError, Global};
 use yf_files::{FileSystem, MemoryFiles};
+use yf_host::memory_inputs::MemoryInputs;
+use yf_host::sources::Sources;
+use yf_host::streams::in_memory;
 use yf_program::answer::answer;
-use yf_program::memory_inputs::MemoryInputs;
-use yf_program::sources::Sources;
-use yf_program::streams::in_memory;
 
 /// The name of the file that the program may rewrite. Its contents are `BEFORE`.
 const FILE: &str = "b.yaml";
@@ -52,6 +53,13 @@ fn answers_line(alloc: Global, row: &Row) -> bool {
 #[test]
 fn one_settings_file_is_in_force(rt: HostRuntime) {
     for row in &ROWS {
+        assert!(rt; answers_line(rt.alloc(), row), "{}: {}", row.1, row.2);
+    }
+}
+
+#[test]
+fn excluded_inputs_are_left_out(rt: HostRuntime) {
+    for row in &excluded_rows::ROWS {
         assert!(rt; answers_line(rt.alloc(), row), "{}: {}", row.1, row.2);
     }
 }

@@ -1,9 +1,9 @@
 //! Settings files and files in memory, and the results of runs with them.
 
-use yf_program::memory_inputs::Stored;
+use yf_host::memory_inputs::Stored;
 
 /// A file to format and to check.
-const A: Stored = Stored {
+pub const A: Stored = Stored {
     name: "a.yaml",
     bytes: b"---\na: \"x\" # c\n",
 };
@@ -40,7 +40,7 @@ const GIT_ABOVE: Stored = Stored {
     bytes: b"",
 };
 
-const OTHER: Stored = Stored {
+pub const OTHER: Stored = Stored {
     name: "other.toml",
     bytes: b"quotes = \"single\"\nexclude = [\"*.yaml\"]\n",
 };
@@ -60,11 +60,6 @@ const BAD_PATTERN: Stored = Stored {
     bytes: b"exclude = [\"a\", \"[\"]\n",
 };
 
-const NO_PATTERN: Stored = Stored {
-    name: ".yamlfmt.toml",
-    bytes: b"exclude = []\n",
-};
-
 const LATER: Stored = Stored {
     name: ".yamlfmt.toml",
     bytes: b"required_version = \">=0.3, <0.4\"\n",
@@ -73,22 +68,6 @@ const LATER: Stored = Stored {
 const THIS: Stored = Stored {
     name: ".yamlfmt.toml",
     bytes: b"required_version = \">=0.2, <0.3\"\n",
-};
-
-const ALL: Stored = Stored {
-    name: ".yamlfmt.toml",
-    bytes: b"exclude = [\"*\"]\n",
-};
-
-/// Leaves out the files of a folder `d` except one.
-const IN_FOLDER: Stored = Stored {
-    name: "../.yamlfmt.toml",
-    bytes: b"exclude = [\"/d/*.yaml\", \"!keep.yaml\"]\n",
-};
-
-const KEPT: Stored = Stored {
-    name: "keep.yaml",
-    bytes: b"---\na: \"x\" # c\n",
 };
 
 /// The files, the path of the current folder, a command line, the exit status, the texts of the two streams, and the
@@ -104,14 +83,11 @@ pub type Row = (
 );
 
 /// The file `a.yaml` in both styles.
-const AS_DOUBLE: &str = "---\na: \"x\"  # c\n";
+pub const AS_DOUBLE: &str = "---\na: \"x\"  # c\n";
 
 const AS_SINGLE: &str = "---\na: 'x'  # c\n";
 
-/// The line of a file that is left out.
-const LEFT_OUT: &str = "left out: the settings exclude it\n";
-
-pub static ROWS: [Row; 38] = [
+pub static ROWS: [Row; 24] = [
     // which settings file is in force
     (&[A], "/w/d", "fmt a.yaml", 0, AS_DOUBLE, "", "a.yaml "),
     (
@@ -175,7 +151,7 @@ pub static ROWS: [Row; 38] = [
         "fmt a.yaml",
         3,
         "",
-        "no settings file can be looked for: the path of the current folder is unknown\n",
+        "can't look for a settings file: the path of the current folder is unknown\n",
         "",
     ),
     (
@@ -289,71 +265,6 @@ pub static ROWS: [Row; 38] = [
         "",
         ".yamlfmt.toml a.yaml ",
     ),
-    // files that are left out
-    (&[A, ALL], "/w/d", "fmt a.yaml", 0, "", "", ".yamlfmt.toml "),
-    (
-        &[A, ALL],
-        "/w/d",
-        "check --explain a.yaml",
-        0,
-        "",
-        LEFT_OUT,
-        ".yamlfmt.toml ",
-    ),
-    (
-        &[ALL],
-        "/w/d",
-        "check --explain none.yaml a.yaml",
-        0,
-        "",
-        "none.yaml: left out: the settings exclude it\na.yaml: left out: the settings exclude it\n",
-        ".yamlfmt.toml ",
-    ),
-    (
-        &[ALL],
-        "/w/d",
-        "fmt --write b.yaml",
-        0,
-        "",
-        "",
-        ".yamlfmt.toml ",
-    ),
-    (
-        &[ALL],
-        "/w/d",
-        "fmt --explain --write b.yaml none.yaml",
-        0,
-        "",
-        "b.yaml: left out: the settings exclude it\nnone.yaml: left out: the settings exclude it\n",
-        ".yamlfmt.toml ",
-    ),
-    (
-        &[ALL],
-        "/w/d",
-        "fmt -",
-        0,
-        "---\n- \"a\"\n",
-        "",
-        ".yamlfmt.toml - ",
-    ),
-    (
-        &[A, OTHER],
-        "/w/d",
-        "fmt --explain --config other.toml a.yaml",
-        0,
-        "",
-        LEFT_OUT,
-        "other.toml ",
-    ),
-    (
-        &[A, NO_PATTERN],
-        "/w/d",
-        "fmt a.yaml",
-        0,
-        AS_DOUBLE,
-        "",
-        ".yamlfmt.toml a.yaml ",
-    ),
     // the settings are shown
     (
         &[OTHER],
@@ -390,61 +301,5 @@ pub static ROWS: [Row; 38] = [
         "",
         ".yamlfmt.toml: config: indent\n",
         ".yamlfmt.toml ",
-    ),
-    // paths from the folder of the settings file
-    (
-        &[A, KEPT, IN_FOLDER],
-        "/w/d",
-        "check a.yaml keep.yaml",
-        1,
-        "keep.yaml:2:8 comment-space (fixable)\n",
-        "",
-        "../.yamlfmt.toml keep.yaml ",
-    ),
-    (
-        &[A, IN_FOLDER],
-        "/w/d",
-        "check ./a.yaml ../d/../d/a.yaml /w/d/a.yaml",
-        0,
-        "",
-        "",
-        "../.yamlfmt.toml ",
-    ),
-    (
-        &[A, IN_FOLDER],
-        "/w/e",
-        "check a.yaml",
-        1,
-        "2:8 comment-space (fixable)\n",
-        "",
-        "../.yamlfmt.toml a.yaml ",
-    ),
-    (
-        &[IN_FOLDER],
-        "/w/e",
-        "fmt ../d/a.yaml",
-        0,
-        "",
-        "",
-        "../.yamlfmt.toml ",
-    ),
-    // an excluded file is in no report
-    (
-        &[A, KEPT, IN_FOLDER],
-        "/w/d",
-        "check --explain --format json a.yaml keep.yaml",
-        1,
-        "[{\"file\":\"keep.yaml\",\"line\":2,\"column\":8,\"end_line\":2,\"end_column\":9,\"rule\":\"comment-space\",\"severity\":\"warning\",\"message\":\"one space before the comment, expected 2\",\"fixable\":true}]",
-        "a.yaml: left out: the settings exclude it\n",
-        "../.yamlfmt.toml keep.yaml ",
-    ),
-    (
-        &[A, IN_FOLDER],
-        "/w/d",
-        "check --explain --format gitlab a.yaml",
-        0,
-        "[]",
-        LEFT_OUT,
-        "../.yamlfmt.toml ",
     ),
 ];

@@ -1,10 +1,11 @@
 //! A file in memory that is rewritten. Each call fails once, and the run or the machine stops at each moment.
 
+use crate::tests::answers::whole_text;
 use std::alloc::Global;
 use yf_files::{FileSystem, MemoryFiles, ReplaceError, RewriteError};
 use yf_forms::style::Style;
-use yf_lines::fault::Fault;
-use yf_program::files::{NewText, rewrite, rewrite_in};
+use yf_host::files::{rewrite, rewrite_in};
+use yf_host::guarded_text::NoNewText;
 
 const FILE: &str = "folder/a.yaml";
 
@@ -84,7 +85,7 @@ fn put(files: &mut MemoryFiles, name: &str, text: &str) -> bool {
 }
 
 /// Returns whether nothing is left of a new file, or the result reports it.
-fn is_told(files: &MemoryFiles, answer: &Result<(), RewriteError<Fault>>) -> bool {
+fn is_told(files: &MemoryFiles, answer: &Result<(), RewriteError<NoNewText>>) -> bool {
     let now = files.at_moment(files.moment());
     match files.found(NEW_NAME, now.changes, now.contents) {
         None => true,
@@ -94,7 +95,7 @@ fn is_told(files: &MemoryFiles, answer: &Result<(), RewriteError<Fault>>) -> boo
 }
 
 /// Returns the texts that may be found at the end after this result.
-fn allowed_after(answer: &Result<(), RewriteError<Fault>>) -> Allowed {
+fn allowed_after(answer: &Result<(), RewriteError<NoNewText>>) -> Allowed {
     match answer {
         Ok(()) => Allowed {
             old: false,
@@ -124,7 +125,7 @@ fn is_rewritten(alloc: Global, call: usize, is_left: bool) -> bool {
     }
     let first = files.moment();
     let style = Style::house();
-    let answer = rewrite_in(alloc, &mut files, FILE, &NewText::Formatted(&style));
+    let answer = rewrite_in(alloc, &mut files, FILE, &whole_text(&style));
     leaves_either(&files, first)
         && leaves(&files, files.moment(), allowed_after(&answer))
         && is_told(&files, &answer)
@@ -154,7 +155,7 @@ fn put_links(files: &mut MemoryFiles) -> bool {
 fn is_unreadable(alloc: Global, files: &mut MemoryFiles, name: &str) -> bool {
     let style = Style::house();
     matches!(
-        rewrite(alloc, files, name, &NewText::Formatted(&style)),
+        rewrite(alloc, files, name, &whole_text(&style)),
         Err(RewriteError::Unreadable)
     )
 }
@@ -167,7 +168,7 @@ fn links_are_followed(rt: HostRuntime) {
         assert!(rt; is_unreadable(rt.alloc(), &mut files, name), "{name}");
     }
     let style = Style::house();
-    assert!(rt; rewrite(rt.alloc(), &mut files, "first", &NewText::Formatted(&style)).is_ok());
+    assert!(rt; rewrite(rt.alloc(), &mut files, "first", &whole_text(&style)).is_ok());
     let now = files.at_moment(files.moment());
     assert!(rt; files.found(FILE, now.changes, now.contents) == Some(NEW.as_bytes()));
     assert!(rt; files.led("first") == Some(FILE));

@@ -1,6 +1,7 @@
 //! What `yamlfmt --help` prints.
 
-pub const OVERVIEW: &str = "Formats YAML in one house style, checks its style and prints its events
+pub const OVERVIEW: &str =
+    "Formats YAML in one house style, checks its style, prints its events and serves editors
 
 Usage: yamlfmt [OPTIONS] <COMMAND>
 

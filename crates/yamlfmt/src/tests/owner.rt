@@ -7,7 +7,7 @@ use crate::tests::replacing::{
 use std::fs::Permissions;
 use std::os::unix::fs::{MetadataExt, PermissionsExt, chown};
 use std::{fs, io};
-use yf_program::replacing::mode_of;
+use yf_host::replacing::mode_of;
 
 /// Returns the permissions of a file after it was rewritten, given those before.
 fn mode_in(rt: &HostRuntime, folder: &Folder, mode: u32) -> io::Result<u32> {

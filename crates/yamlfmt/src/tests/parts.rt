@@ -6,10 +6,11 @@ use crate::tests::answers::answer_to_task;
 use std::alloc::{AllocError, Global};
 use yf_files::{FileSystem, MemoryFiles};
 use yf_forms::style::Style;
+use yf_host::files::{NewText, rewrite_in};
+use yf_host::guarded_text::GuardedText;
 use yf_line_ranges::range::LineRange;
 use yf_parts::run::PartTask;
 use yf_parts::show::Show;
-use yf_program::files::{NewText, rewrite_in};
 use yf_program::task::{Task, Work};
 
 /// The first and the last line of a range.
@@ -212,7 +213,11 @@ fn is_written(alloc: Global, range: LineRange, new_text: &str) -> bool {
     }
     let style = Style::house();
     let lines = [range];
-    let rewritten = rewrite_in(alloc, &mut files, FILE, &NewText::Part(&style, &lines));
+    let asked = GuardedText {
+        any_text: false,
+        new_text: NewText::Part(&style, &lines),
+    };
+    let rewritten = rewrite_in(alloc, &mut files, FILE, &asked);
     let now = files.at_moment(files.moment());
     rewritten.is_ok()
         && files.found(FILE, now.changes, now.contents) == Some(new_text.as_bytes())

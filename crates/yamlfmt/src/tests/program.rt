@@ -4,9 +4,9 @@ use crate::tests::faulty::FaultyWriter;
 use std::alloc::Global;
 use std::io::BufWriter;
 use yf_command_line::usage::Usage;
+use yf_host::streams::{Streams, in_memory};
 use yf_lines::watched::{Sink, Watched};
 use yf_program::program::{answer_usage, written_out};
-use yf_program::streams::{Streams, in_memory};
 
 /// Returns whether a usage has this status and these texts on the two streams.
 fn answers(alloc: Global, usage: &Usage, status: u8, output: &str, line: &str) -> bool {

@@ -10,7 +10,7 @@ use std::os::unix::fs::symlink;
 use std::rt::Files;
 use std::{fs, io};
 use yf_files::{Formatter, rewrite};
-use yf_program::replacing::{Held, SystemFiles, open_regular};
+use yf_host::replacing::{Held, SystemFiles, open_regular};
 
 pub const OLD: &str = "- a\n- b\n";
 

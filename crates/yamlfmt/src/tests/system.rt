@@ -6,11 +6,11 @@ use crate::tests::faulty::FaultyReader;
 use std::alloc::Global;
 use std::io;
 use std::io::Read;
+use yf_host::report::report;
 use yf_lines::fault::Fault;
 use yf_lines::output::write_text;
 use yf_lines::place::Position;
 use yf_lines::watched::{Sink, Source, Watched};
-use yf_program::report::report;
 use yf_rules::input::read_all;
 
 /// A reader that gives the same byte for ever.

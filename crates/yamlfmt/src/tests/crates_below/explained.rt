@@ -149,7 +149,7 @@ fn tells_bytes(rt: HostRuntime) {
             rt.alloc(),
             b"a\ncaf\xE9\n",
             5,
-            "  2:4: the byte xE9 is no UTF-8 here\n  | caf\n  |    ^\n"
+            "  2:4: the byte xE9 is not UTF-8 here\n  | caf\n  |    ^\n"
         )
     );
     assert!(rt; !tells_byte(rt.alloc(), b"a", 1, ""));

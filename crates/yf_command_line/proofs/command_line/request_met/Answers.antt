@@ -11,4 +11,7 @@ returns c = record {
   settings = c.in-Ok-settings_met.ensures;
   shows = c.is_given.ensures;
   explain = c.is_explained.ensures;
+  any_text = c.is_given-2.ensures;
+  names = c.is_given-3.ensures;
+  stdin_name = c.in_ok-stdin_name.ensures;
 }

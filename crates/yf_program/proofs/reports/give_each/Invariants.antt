@@ -2,7 +2,7 @@
 use Rattle.std.proofs.Common.{◌∷◌, take}
 use Rattle.yf_rules.specs.Runs.ByteStream.{stream_of}
 use Rattle.yf_program.specs.Reports.{GivesEach, state_in}
-use Rattle.yf_program.specs.World.{StillKnown}
+use Rattle.yf_host.specs.World.{StillKnown}
 use Rattle.yf_program.proofs.reports.give_each.Given as goal
 
 abbrev pub invariant-loop-input : goal.invariant-loop-input

@@ -2,7 +2,7 @@ use Rattle.std.proofs.Common.{List, inl, inr, refl, subst}
 use Rattle.yf_findings.specs.declared.files.FileProblems.{FileProblems}
 use Rattle.yf_rules.specs.Runs.ByteStream.{stream_of}
 use Rattle.yf_program.specs.Reports.{ReportWritten}
-use Rattle.yf_program.specs.World.{streams_of}
+use Rattle.yf_host.specs.World.{streams_of}
 use Rattle.yf_program.proofs.reports.report_inputs.Goals as goal
 
 pub returns-in-Ok : goal.returns-in-Ok

@@ -1,7 +1,7 @@
 use Rattle.yf_lines.specs.declared.fault.Fault.TheVariants.{ReadFailed}
 use Rattle.yf_rules.specs.Runs.ByteStream.{stream_of}
 use Rattle.yf_program.specs.Run.{EndsByLine}
-use Rattle.yf_program.specs.Settings.{named_fault}
+use Rattle.yf_host.specs.Report.{named_fault}
 use Rattle.yf_program.proofs.search.report_unfound.Goals as goal
 
 pub returns-in-Unreadable : goal.returns-in-Unreadable

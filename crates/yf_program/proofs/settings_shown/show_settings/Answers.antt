@@ -1,4 +1,4 @@
-use Rattle.std.proofs.Common.{◌≡◌, ◌++◌, ℕ, List, inl, inr, subst}
+use Rattle.std.proofs.Common.{◌++◌, ℕ, List, inl, subst}
 use Rattle.std.specs.Prelude.{string_bytes}
 use Rattle.yf_command_line.specs.declared.usage.Usage.TheVariants as usage
 use Rattle.yf_program.specs.Answer.{UsageWritten}

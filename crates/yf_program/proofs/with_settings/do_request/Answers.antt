@@ -2,7 +2,7 @@ use Rattle.std.proofs.Common.{◌≡◌, Bool, inl, inr, refl, rules, subst, sym
 use Rattle.std.specs.Prelude.{MatchBool}
 use Rattle.yf_program.specs.Answer.{host_in}
 use Rattle.yf_program.specs.Run.{SettingsShown, SettingsTaken}
-use Rattle.yf_program.specs.World.{world_in}
+use Rattle.yf_host.specs.World.{world_in}
 use Rattle.yf_program.proofs.with_settings.do_request.Goals as goal
 
 pub returns-then-shows_settings : goal.returns-then-shows_settings

@@ -1,4 +1,4 @@
-use Rattle.std.proofs.Common.{inl, inr, refl}
+use Rattle.std.proofs.Common.{inr, refl}
 use Rattle.yf_program.proofs.SettingsShownLemmas.{file_keeps}
 use Rattle.yf_program.proofs.with_settings.show_in_force.Goals as goal
 

@@ -1,0 +1,276 @@
+//! Files in memory, and the results of runs that name their inputs (`--names`, `--stdin-name`). Standard input has the
+//! text of the first file.
+
+use crate::tests::left_alone_rows::Row;
+use yf_host::memory_inputs::Stored;
+
+const UNSTYLED: Stored = Stored {
+    name: "a.yaml",
+    bytes: b"a: 1\n",
+};
+
+const EXCLUDES: Stored = Stored {
+    name: ".yamlfmt.toml",
+    bytes: b"exclude = [\"b.yaml\"]\n",
+};
+
+const TEMPLATE: Stored = Stored {
+    name: "a.yaml",
+    bytes: b"a: {{ x }}\n",
+};
+
+const PLAIN: Stored = Stored {
+    name: "a.yaml",
+    bytes: b"b\nc\n",
+};
+
+const VAULT: Stored = Stored {
+    name: "a.yaml",
+    bytes: b"$ANSIBLE_VAULT;1.1;AES256\n6638\n",
+};
+
+/// The rows, as in `left_alone_rows`.
+pub static ROWS: [Row; 32] = [
+    (
+        &[UNSTYLED],
+        "check a.yaml",
+        1,
+        "1:1 document-start (fixable)\n",
+        "",
+        "a: 1\n",
+    ),
+    (
+        &[UNSTYLED],
+        "check --names a.yaml",
+        1,
+        "a.yaml:1:1 document-start (fixable)\n",
+        "",
+        "a: 1\n",
+    ),
+    (
+        &[UNSTYLED],
+        "check --names",
+        1,
+        "-:1:1 document-start (fixable)\n",
+        "",
+        "a: 1\n",
+    ),
+    (
+        &[UNSTYLED],
+        "check --names none.yaml",
+        3,
+        "",
+        "none.yaml: read failed\n",
+        "a: 1\n",
+    ),
+    (
+        &[UNSTYLED],
+        "check --names --stdin-name b.yaml",
+        1,
+        "b.yaml:1:1 document-start (fixable)\n",
+        "",
+        "a: 1\n",
+    ),
+    (
+        &[UNSTYLED],
+        "check --stdin-name b.yaml -",
+        1,
+        "1:1 document-start (fixable)\n",
+        "",
+        "a: 1\n",
+    ),
+    (
+        &[UNSTYLED],
+        "check --stdin-name b.yaml a.yaml -",
+        1,
+        "a.yaml:1:1 document-start (fixable)\nb.yaml:1:1 document-start (fixable)\n",
+        "",
+        "a: 1\n",
+    ),
+    (
+        &[UNSTYLED],
+        "fmt --check --names a.yaml",
+        1,
+        "a.yaml:1:1 not formatted\n",
+        "",
+        "a: 1\n",
+    ),
+    (
+        &[UNSTYLED],
+        "fmt --write --names a.yaml",
+        0,
+        "",
+        "",
+        "---\na: 1\n",
+    ),
+    (
+        &[UNSTYLED],
+        "fmt --names a.yaml",
+        0,
+        "---\na: 1\n",
+        "",
+        "a: 1\n",
+    ),
+    (
+        &[UNSTYLED],
+        "fmt --stdin-name b.yaml",
+        0,
+        "---\na: 1\n",
+        "",
+        "a: 1\n",
+    ),
+    (
+        &[UNSTYLED],
+        "events --stdin-name b.yaml",
+        0,
+        "+STR\n+DOC\n+MAP\n=VAL :a\n=VAL :1\n-MAP\n-DOC\n-STR\n",
+        "",
+        "a: 1\n",
+    ),
+    (
+        &[UNSTYLED],
+        "fmt --diff --stdin-name b.yaml",
+        1,
+        "--- b.yaml\n+++ b.yaml\n@@ -1 +1,2 @@\n+---\n a: 1\n",
+        "",
+        "a: 1\n",
+    ),
+    (&[UNSTYLED, EXCLUDES], "fmt", 0, "---\na: 1\n", "", "a: 1\n"),
+    (
+        &[UNSTYLED, EXCLUDES],
+        "fmt --stdin-name b.yaml",
+        0,
+        "a: 1\n",
+        "",
+        "a: 1\n",
+    ),
+    (
+        &[UNSTYLED, EXCLUDES],
+        "fmt --explain --stdin-name b.yaml",
+        0,
+        "a: 1\n",
+        "left out: the settings exclude it\n",
+        "a: 1\n",
+    ),
+    (
+        &[UNSTYLED, EXCLUDES],
+        "fmt --lines 1 --stdin-name b.yaml",
+        0,
+        "a: 1\n",
+        "",
+        "a: 1\n",
+    ),
+    (
+        &[UNSTYLED, EXCLUDES],
+        "fmt --stdin-name c.yaml",
+        0,
+        "---\na: 1\n",
+        "",
+        "a: 1\n",
+    ),
+    (
+        &[UNSTYLED, EXCLUDES],
+        "fmt --check --stdin-name b.yaml",
+        0,
+        "",
+        "",
+        "a: 1\n",
+    ),
+    (
+        &[UNSTYLED, EXCLUDES],
+        "check --explain --stdin-name b.yaml",
+        0,
+        "",
+        "left out: the settings exclude it\n",
+        "a: 1\n",
+    ),
+    (
+        &[UNSTYLED, EXCLUDES],
+        "check --no-config --stdin-name b.yaml",
+        1,
+        "1:1 document-start (fixable)\n",
+        "",
+        "a: 1\n",
+    ),
+    (
+        &[TEMPLATE],
+        "fmt --stdin-name b.yaml",
+        1,
+        "a: {{ x }}\n",
+        "left alone: template\n",
+        "a: {{ x }}\n",
+    ),
+    (
+        &[TEMPLATE],
+        "fmt --lines 1 --stdin-name b.yaml",
+        1,
+        "a: {{ x }}\n",
+        "left alone: template\n",
+        "a: {{ x }}\n",
+    ),
+    (
+        &[TEMPLATE],
+        "fmt --any-text --stdin-name b.yaml",
+        0,
+        "---\na:\n  ? x:\n  :\n",
+        "",
+        "a: {{ x }}\n",
+    ),
+    (
+        &[TEMPLATE],
+        "fmt --check --names --stdin-name b.yaml",
+        1,
+        "b.yaml:1:4 template\n",
+        "",
+        "a: {{ x }}\n",
+    ),
+    (
+        &[TEMPLATE],
+        "events --stdin-name b.yaml",
+        0,
+        "+STR\n+DOC\n+MAP\n=VAL :a\n+MAP {}\n+MAP {}\n=VAL :x\n=VAL :\n-MAP\n=VAL :\n-MAP\n-MAP\n-DOC\n-STR\n",
+        "",
+        "a: {{ x }}\n",
+    ),
+    (
+        &[PLAIN],
+        "fmt --stdin-name b.yaml",
+        1,
+        "b\nc\n",
+        "left alone: no data\n",
+        "b\nc\n",
+    ),
+    (&[PLAIN], "fmt", 0, "---\nb c\n", "", "b\nc\n"),
+    (
+        &[VAULT],
+        "fmt --stdin-name b.yaml",
+        0,
+        "$ANSIBLE_VAULT;1.1;AES256\n6638\n",
+        "left alone: encrypted\n",
+        "$ANSIBLE_VAULT;1.1;AES256\n6638\n",
+    ),
+    (
+        &[VAULT],
+        "fmt --check --stdin-name b.yaml",
+        0,
+        "",
+        "left alone: encrypted\n",
+        "$ANSIBLE_VAULT;1.1;AES256\n6638\n",
+    ),
+    (
+        &[VAULT],
+        "check --names --stdin-name b.yaml",
+        0,
+        "",
+        "b.yaml: left alone: encrypted\n",
+        "$ANSIBLE_VAULT;1.1;AES256\n6638\n",
+    ),
+    (
+        &[VAULT],
+        "events --stdin-name b.yaml",
+        0,
+        "",
+        "left alone: encrypted\n",
+        "$ANSIBLE_VAULT;1.1;AES256\n6638\n",
+    ),
+];

@@ -1,0 +1,4 @@
+-- The lemmas, under the function that they serve.
+
+-- `rewrite`
+pub mod FilesLemmas

@@ -1,0 +1,4 @@
+-- The lemmas, under the functions that they serve.
+
+-- `add_rule`, `found_by_rules`
+pub mod ProblemLemmas

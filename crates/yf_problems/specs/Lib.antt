@@ -1,0 +1,2 @@
+-- the problems of a text
+pub mod Problems

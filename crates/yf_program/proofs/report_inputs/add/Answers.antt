@@ -1,5 +1,0 @@
-use Rattle.std.proofs.Common.{refl}
-use Rattle.yf_program.proofs.report_inputs.add.Goals as goal
-
-pub returns : goal.returns
-returns c = (record { file = c.in_ok-file.file; problems = c.args.problems }, c.in_ok-file.ensures, refl, c.in_ok-push.ensures.items)
