@@ -3,7 +3,7 @@
 Each text has two lines that fmt would change, and only one of them is changed in the work tree.
 """
 from faults import each_file
-from scratch import read, repository, script, sh, write
+from scratch import read, repository, sh, write
 
 OLD = '---\na:  1\nb: 2\nc: 3\nd:  4\n'
 NEW = '---\na:  1\nb: 2\nc: 3\nd:  5\n'
@@ -64,10 +64,10 @@ def many_lines(room, clone, recipes):
     return done.returncode == 0 and read(room + '/h.yaml') == text(' 2', ' 1', '  1', ' 1')
 
 
-def changed_by_git(room, clone, recipes):
-    """The Git hook with --changed refuses a changed line, and takes a commit whose changed lines are formatted."""
+def changed_by_git(room, recipe):
+    """The Git hook with --changed refuses a changed line, and takes a commit with formatted changed lines."""
     edited(room)
-    script(room + '/.git/hooks/pre-commit', 'exec "%s/hooks/pre-commit" --changed\n' % clone)
+    sh(['sh', '-c', recipe], room)
     sh(['git', 'add', '.'], room)
     refused = sh(['git', 'commit', '-qm', 'bad'], room)
     write(room + '/e f.yaml', FORMATTED)
@@ -76,4 +76,4 @@ def changed_by_git(room, clone, recipes):
     return refused.returncode and '-d:  5' in refused.stdout and not taken.returncode
 
 
-EACH = (only_changed_lines, new_files_are_whole, many_lines, changed_by_git)
+EACH = (only_changed_lines, new_files_are_whole, many_lines)

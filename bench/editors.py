@@ -12,8 +12,8 @@ from scratch import BAD, GOOD, NOISE, NoTool, read, recipes, repository, sh, wri
 SINGLE = GOOD.replace('"', "'")
 TEXTS = {'a b.yaml': BAD, 'deep/a.yaml': BAD, 'bad.yaml': 'a: b: c\n', 'template.yaml': 'a: {{ x }}\n', 'vault.yaml': VAULT, 'inventory.yaml': INVENTORY}
 WANTED = dict(TEXTS, **{'a b.yaml': SINGLE, 'deep/a.yaml': SINGLE})
-SAID = {'bad.yaml': '1:5 refused: syntax', 'template.yaml': 'looks like a template', 'vault.yaml': 'encrypted by Ansible Vault',
-        'inventory.yaml': 'plain text over several lines'}
+SAID = {'bad.yaml': '1:5 refused: syntax', 'template.yaml': 'left alone: template',
+        'inventory.yaml': 'left alone: no data'}
 FOUND = ('a b.yaml', '2', '8', 'comment-space (fixable)')
 
 

@@ -8,8 +8,8 @@ It prints the list of these crates, or of all crates, as Markdown. With --check 
 An edit, crates/NAME/must-fail/*.edit, has one line `# promise: TEXT`. Edits with one text share an item of the list.
 The promises without an edit are in docs/proving/promises.txt, a line each: crate, promise and what holds it, with tabs
 between. What holds it names files or tests of yamlfmt in backticks; or it is `-` if there is nothing to hold; or it is
-as `EDIT`, for an edit of the crate that breaks the same clause; or as `EDIT` of CRATE, for an edit of another crate
-that breaks a clause which rests on this one.
+as `EDIT`, for an edit of the crate that breaks the same clause, one of the same form, or one that rests on this one;
+or as `EDIT` of CRATE, for an edit of another crate that breaks a clause which rests on this one.
 
 With or without --check, it fails if
 
@@ -36,8 +36,9 @@ the promise is that function's, if it names no other. One edit stands for a fami
 form. A function needs no edit if the exact clause of another one rests on it: a wrong result of it is refused there. If
 a promise has no edit, the item says why:
 
-- *as* an edit: a similar edit was tried by hand, and the same clause refused it. If the edit is *of* another crate, a
-  clause of this crate refused it, and the clause that the named edit breaks rests on that one.
+- *as* an edit: a similar edit was tried, by hand or in the list of commit 74c4f26a. A clause refused it. The named edit
+  breaks the same clause, one of the same form, or one that rests on it. If the edit is *of* another crate, a clause of
+  this crate refused the similar one, and the clause that the named edit breaks rests on that clause.
 - *by* tests or files: they hold the promise.
 
 docs/proving/COST.md says how to write an edit, and what it costs.

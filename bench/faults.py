@@ -133,14 +133,16 @@ def names_of_bytes(room, clone, recipes):
         with open(os.fsencode(room) + b'/' + name, 'w', encoding='utf-8') as file:
             file.write(text)
     said = [each_file(clone, room, *words, '--', bad, good, text=False) for words in (['check'], ['fmt', '--diff'], ['fmt', '--write'], ['fmt', '--check'])]
-    return ([done.returncode for done in said] == [1, 1, 3, 1] and bad + b':2:8 comment-space (fixable)\n' in said[0].stdout
-            and b'not rewritten: its name is not UTF-8' in said[2].stdout and good + b':' not in said[2].stdout
-            and bad + b':2:8 not formatted\n' in said[3].stdout and good + b':' not in said[3].stdout)
+    wanted = (b'?.yaml:2:8 comment-space (fixable)\n', b'+++ ?.yaml\n',
+              b'?.yaml: not rewritten: its name is not UTF-8\n', b'?.yaml:2:8 not formatted\n')
+    good = [done.returncode for done in said] == [1, 1, 3, 1] and not any(b'This repairs' in done.stdout for done in said)
+    return good and all(done.stdout.count(line) == 1 for done, line in zip(said, wanted))
 
 
 def help_is_there(room, clone, recipes):
     done = each_file(clone, room, '--help')
-    return done.returncode == 0 and all(word in done.stdout for word in ('--config', '--staged', '--stdin', '--templates', 'Status'))
+    wanted = ('--config', '--staged', '--stdin', '--any-text', 'Status')
+    return done.returncode == 0 and all(word in done.stdout for word in wanted)
 
 
 def findings_come_once(room, clone, recipes):
@@ -168,7 +170,7 @@ def findings_are_explained_on_a_terminal(room, clone, recipes):
 
 
 def excludes_hold(room, clone, recipes):
-    """Also for what is staged, and for a file that looks like a template. A pipe is not left out."""
+    """Also for what is staged, and for a template. A pipe is not left out."""
     hooked(room, clone, recipes['git'])
     write(room + '/.yamlfmt.toml', 'exclude = ["/charts/", "a b.yaml"]\n')
     write(room + '/charts/x.yaml', BAD)
@@ -204,30 +206,36 @@ def repairs_are_named(room, clone, recipes):
 
 
 def calls_are_few(room, clone, recipes):
-    """One call of the program for all files with keys, and some for each file with braces or text."""
+    """One call of the program for all files, and with --diff one more for each file that changes."""
     program = sh([clone + '/hooks/program'], room, stderr=subprocess.DEVNULL).stdout.strip()
     script(room + '/counted', "echo call >> '%s/count'\nexec '%s' \"$@\"\n" % (room, program))
     with_hooks(room + '/own', room + '/counted')
     names = ['%d.yaml' % at for at in range(20)]
     for name in names:
         write(room + '/' + name, '# c\n---\nkey: |\n  text\nother:\n  - 1\n')
-    write(room + '/text.yaml', 'a\n')
-    write(room + '/braces.yaml', 'a: "{{ x }}"\n')
+    texts = {'text.yaml': 'a\n', 'braces.yaml': 'a: "{{ x }}"\n', 'template.yaml': 'a: {{ x }}\n',
+             'refused.yaml': 'a: b: c\n'}
+    for name, text in texts.items():
+        write(room + '/' + name, text)
     counts = []
     for words in VERBS:
         write(room + '/count', '')
-        each_file(room + '/own', room, *words, 'text.yaml', 'braces.yaml', *names)
+        each_file(room + '/own', room, *words, *texts, *names)
         counts.append(read(room + '/count').count('call'))
-    return counts == [5, 5, 26, 5]
+    return counts == [1, 1, 3, 1]
 
 
 def one_buffer(room, clone, recipes):
     """Standard input instead of a file."""
     repository(room)
     write(room + '/.yamlfmt.toml', 'quotes = "single"\n')
-    said = [each_file(clone, room, 'fmt', '--stdin', 'new/x.yaml', input=text, stderr=subprocess.PIPE) for text in (BAD, 'a: b: c\n', 'a: {{ x }}\n')]
-    return ([done.returncode for done in said] == [0, 2, 3] and [done.stdout for done in said] == [GOOD.replace('"', "'"), '', '']
-            and 'new/x.yaml:1:5 refused: syntax' in said[1].stderr and 'left alone: looks like a template' in said[2].stderr)
+    wanted = ((BAD, 0, GOOD.replace('"', "'"), ''), ('a: b: c\n', 2, '', 'new/x.yaml:1:5 refused: syntax\n'),
+              ('a: {{ x }}\n', 1, 'a: {{ x }}\n', 'new/x.yaml: left alone: template\n'))
+    good = True
+    for text, status, output, line in wanted:
+        done = each_file(clone, room, 'fmt', '--stdin', 'new/x.yaml', input=text, stderr=subprocess.PIPE)
+        good = good and (done.returncode, done.stdout) == (status, output) and line in done.stderr
+    return good
 
 
 LOGIC = '0123456789abcdef'
@@ -267,6 +275,12 @@ class Builder:
 
     def builds(self):
         return read(self.count).count('run')
+
+
+def copy_hooks(clone):
+    """Copies each_file and its parts."""
+    for name in ('each_file', 'one_file.bash', 'staged_files.bash', 'lines.awk'):
+        shutil.copy(TOP + '/hooks/' + name, clone + '/hooks/' + name)
 
 
 def build_by_content(room, clone, recipes):
@@ -356,8 +370,8 @@ def build_is_told_under_pre_commit(room, clone, recipes):
     if not shutil.which('pre-commit'):
         return True
     builder = Builder(room)
-    for path in ('hooks/each_file', 'hooks/templates.awk', '.pre-commit-hooks.yaml'):
-        shutil.copy(TOP + '/' + path, builder.top + '/' + path)
+    copy_hooks(builder.top)
+    shutil.copy(TOP + '/.pre-commit-hooks.yaml', builder.top)
     for line in ('git init -q .', 'git config user.email a@example.com', 'git config user.name a', 'git add -f .', 'git commit -qm tool'):
         sh(line.split(), builder.top)
     repository(room)
@@ -380,7 +394,7 @@ def program_elsewhere(room, clone, recipes):
 
 def buffer_builds_nothing(room, clone, recipes):
     builder = Builder(room)
-    write(builder.top + '/hooks/each_file', read(TOP + '/hooks/each_file'))
+    copy_hooks(builder.top)
     done = builder.run('hooks/each_file', 'fmt', '--stdin', 'a.yaml', input=BAD)
     return done.returncode == 3 and 'the program is not built' in done.stdout and builder.builds() == 0
 

@@ -76,32 +76,26 @@ def pre_commit(room, text, clone):
     os.symlink('a b.yaml', room + '/link.yaml')
     done = sh(['pre-commit', 'run', '--files', 'a b.yaml', 'c.txt', 'template.yaml', 'link.yaml'], room)
     stays = read(room + '/template.yaml') == 'a: {{ x }}\n' and os.path.islink(room + '/link.yaml')
-    return stays and done.returncode == 1 and read(room + '/a b.yaml') == GOOD.replace('"', "'")
+    good = stays and done.returncode == 1 and read(room + '/a b.yaml') == GOOD.replace('"', "'")
+    return good and pre_commit_left(room + '/left', text.replace('[--config, yamlfmt.toml]', '[]'), clone)
 
 
-def git_templates(room, text, clone):
-    """Ignores templates, and nothing else; also if a repository has no folder for hooks."""
+def git_changed(room, text, clone):
+    """Refuses a changed line, and takes a commit with formatted changed lines; also without a folder for hooks."""
     repository(room)
     sh(['rm', '-rf', '.git/hooks'], room)
-    sh(['sh', '-c', text], room)
-    refused = sh(['git', 'commit', '-qm', 'bad'], room)
-    write(room + '/a b.yaml', GOOD)
-    write(room + '/template.yaml', 'a: {{ x }}\n')
-    sh(['git', 'add', 'a b.yaml', 'template.yaml'], room)
-    return refused.returncode and 'a b.yaml' in refused.stdout and not sh(['git', 'commit', '-qm', 'good'], room).returncode
+    return changed_lines.changed_by_git(room, text)
 
 
-def pre_commit_skip(room, text, clone):
-    """A template passes with the option, and fails the hook without it. An encrypted file passes; plain text fails."""
+def pre_commit_left(room, text, clone):
+    """A template and plain text fail the hook, and an encrypted file passes; all stay."""
     with_tool(room, text, clone)
-    texts = {'template.yaml': 'a: {{ x }}\n', 'vault.yaml': left.VAULT, 'inventory.yaml': left.INVENTORY}
+    texts = {'template.yaml': 'a: {{ x }}\n', 'inventory.yaml': left.INVENTORY, 'vault.yaml': left.VAULT}
     for name, said in texts.items():
         write(room + '/' + name, said)
     done = [sh(['pre-commit', 'run', '--files', name], room) for name in texts]
-    write(room + '/.pre-commit-config.yaml', read(room + '/.pre-commit-config.yaml').replace('[--templates=skip]', '[]'))
-    done.append(sh(['pre-commit', 'run', '--files', 'template.yaml'], room))
     stays = all(read(room + '/' + name) == said for name, said in texts.items())
-    return stays and [one.returncode for one in done] == [0, 0, 1, 1] and 'looks like a template' in done[3].stdout
+    return stays and [one.returncode for one in done] == [1, 1, 0] and 'left alone: template' in done[0].stdout
 
 
 def pre_commit_templates(room, text, clone):
@@ -171,7 +165,7 @@ def make(room, text, clone):
 
 TOOLS = {'folder': ('git', folder), 'changed': ('git', changed),
          'changed-lines': ('git', changed_lines.changed_lines), 'make': ('make', make), 'git': ('git', git),
-         'git-templates': ('git', git_templates), 'pre-commit-skip': ('pre-commit', pre_commit_skip),
+         'git-changed': ('git', git_changed),
          'pre-commit': ('pre-commit', pre_commit), 'pre-commit-package': ('pre-commit', pre_commit_package),
          'pre-commit-templates': ('pre-commit', pre_commit_templates), 'long-lines': ('git', long_lines),
          'pre-commit-long-lines': ('pre-commit', pre_commit_long_lines), 'vim': ('vim', editors.vim), 'neovim': ('nvim', editors.neovim),

@@ -78,8 +78,8 @@ HEAD = """# The standard's productions, letter by letter
 
 **Proved** (`standard_laws` of `yf_standard`, `specs/Laws.antt`). Take a UTF-8 text. Production 211, with the reading
 rules below and at most `DEPTH` open collections, derives all of it exactly if `Stream` of `yf_stream`, which the reader
-follows, derives it. The standard's letter (`letter` of `specs/Rules.antt`) also allows what the reading rules allow,
-except for two readings that both sides share: N2, and the sum n + m for n = -1. A text is accepted exactly if 211
+follows, derives it. Without the reading rules (`letter` of `specs/Rules.antt`) 211 derives these texts too. `letter`
+differs from the standard's letter by two readings: N2, and the sum n + m for n = -1. A text is accepted exactly if 211
 derives it and it breaks no [further rule](GRAMMAR.md#further-rules) (`IsStandardText` of `specs/Acceptance.antt`;
 `headline` of `yf_rules`).
 
@@ -88,7 +88,7 @@ memory](DECISIONS.md#the-standards-productions). The third column is the clause 
 without the name if it has no parameters. `bench/standard_lines.py` compares the second with the third, operator by
 operator, except for the conditions of the reading rules and six clauses. The fourth column is the relation that holds
 for each part that the production derives with the reading rules (`proofs/Standing.antt`, proved in `Closed.antt`),
-or `·` for one character.
+or `·` for one character. The last column names reading rules and [readings](#readings-n1-to-n9).
 
 ## Notation
 
@@ -169,9 +169,9 @@ events and documents.
 `meaning_laws` of `yf_standard` proves that each derivation with the reading rules means what the program reads, for
 plain and quoted scalars (131, 120, 109), the content of literal and folded scalars (173, 182), block scalars (170,
 174), comments (79), separation (80), aliases (104), node properties (96), flow nodes (161), block nodes (196) and
-streams (211). The laws on quoted scalars, block scalars and nodes hold for those that cover no forbidden line. So all
-derivations of a text that has a reading mean the documents, directives, comments and bad escapes of that reading. The
-tokens have neither the offsets of nodes, entries and documents, nor whether `...` ends a document.
+streams (211). The laws on quoted scalars, block scalars and nodes hold for those that cover no forbidden line. So if a
+text has a reading, each of its derivations means the documents, directives, comments and bad escapes of that reading.
+The tokens have neither the offsets of nodes, entries and documents, nor whether `...` ends a document.
 
 ## The productions
 """

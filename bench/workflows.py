@@ -6,12 +6,11 @@ tested.
 import json
 import os
 import re
-import shutil
 
 import lines
 from editors import FOUND
-from faults import SAYS_LOGIC, Builder
-from scratch import BAD, GOOD, TOP, read, recipes, repository, script, sh, write
+from faults import SAYS_LOGIC, Builder, copy_hooks
+from scratch import BAD, GOOD, read, recipes, repository, script, sh, write
 
 # What GitHub runs for `run:`, and for `run:` with `shell: bash`; and what GitLab runs for all of `script:`.
 RUN = ['bash', '-e', '-c']
@@ -26,8 +25,7 @@ class Clone:
         os.makedirs(room)
         repository(room)
         builder = Builder(room)
-        for name in ('each_file', 'templates.awk'):
-            shutil.copy(TOP + '/hooks/' + name, builder.top + '/hooks/' + name)
+        copy_hooks(builder.top)
         os.rename(builder.top, room + '/.yamlfmt')
         script(room + '/bin/rt', rt)
 
