@@ -28,7 +28,7 @@ def program():
     own = prefix + '/bin/yamlfmt' if is_package else os.path.dirname(HERE) + '/yamlfmt'
     found = shutil.which(named) if named else shutil.which(own) or shutil.which('yamlfmt')
     if not found:
-        raise Refused(3, 'YAMLFMT_PROGRAM: %s is no program' % named if named else 'there is no yamlfmt in PATH')
+        raise Refused(3, 'YAMLFMT_PROGRAM: %s is not a program' % named if named else 'there is no yamlfmt in PATH')
     return os.path.abspath(found)
 
 

@@ -52,7 +52,7 @@ pub fn explain(alloc: Global, bytes: &[u8], fault: &Fault) -> Result<Page, Alloc
             alloc,
             bytes,
             *place,
-            "a document has one %YAML, and one %TAG for each handle",
+            "a document has at most one %YAML, and one %TAG for each handle",
         ),
         Fault::BadVersion { place } => explain_place(
             alloc,

@@ -116,7 +116,8 @@ fn refusal_words(fault: &Fault) -> &'static str
         Fault::UnknownHandle { .. } =>
             "no %TAG directive of this document declares the tag's handle",
         Fault::UnknownAlias { .. } => "no anchor with this name comes before it in this document",
-        Fault::RepeatedDirective { .. } => "a document has one %YAML, and one %TAG for each handle",
+        Fault::RepeatedDirective { .. } =>
+            "a document has at most one %YAML, and one %TAG for each handle",
         Fault::BadVersion { .. } => "unsupported YAML version: write 1.2",
         Fault::EscapeValue { .. } => "escape is not a Unicode character",
         Fault::Memory => "no memory",

@@ -61,8 +61,8 @@ fixed_words Says.TextAfterMarker = codes "text after `---`, expected on the next
 fixed_words Says.NoFinalBreak = codes "no line break at the end of the text"
 fixed_words Says.ByteOrderMark = codes "byte order mark outside of scalars"
 fixed_words Says.BlankLine = codes "needless blank line"
-fixed_words Says.FlowLayout = codes "brackets are laid out otherwise than in the house style"
-fixed_words Says.RepeatedKey = codes "key is in the mapping already"
+fixed_words Says.FlowLayout = codes "brackets are not laid out as in the house style"
+fixed_words Says.RepeatedKey = codes "the mapping already has this key"
 fixed_words Says.KeyMark = codes "`?` before a key that needs none"
 fixed_words _ = []
 

@@ -37,8 +37,8 @@ fn fixed_words(message: &Message) -> &'static str
         Message::NoFinalBreak => "no line break at the end of the text",
         Message::ByteOrderMark => "byte order mark outside of scalars",
         Message::BlankLine => "needless blank line",
-        Message::FlowLayout => "brackets are laid out otherwise than in the house style",
-        Message::RepeatedKey => "key is in the mapping already",
+        Message::FlowLayout => "brackets are not laid out as in the house style",
+        Message::RepeatedKey => "the mapping already has this key",
         Message::KeyMark => "`?` before a key that needs none",
         _ => "",
     }
