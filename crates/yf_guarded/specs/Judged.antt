@@ -9,6 +9,8 @@ use Rattle.yf_guard.specs.declared.guarded.Guarded.TheVariants.{Vault, NoData, T
 use Rattle.yf_guarded.specs.declared.read.Verdict.{Verdict}
 use Rattle.yf_guarded.specs.declared.read.Verdict.TheVariants as verdict
 use Rattle.yf_lines.specs.FaultPlaces.{IsPlaceOf}
+use Rattle.yf_lines.specs.declared.fault.Fault.{Fault}
+use Rattle.yf_lines.specs.declared.fault.Fault.TheVariants as fault
 use Rattle.yf_rules.specs.Check.{SortedFrom}
 use Rattle.yf_rules.specs.Runs.Run.{Gave}
 use Rattle.yf_rules.specs.declared.finding.Finding.{Finding}
@@ -68,6 +70,13 @@ abbrev pub IsJudged : Bool → List ℕ → Verdict → Type 0
 IsJudged reads t verdict.Passed = Guards reads t None
 IsJudged reads t verdict.Encrypted = IsVault t
 IsJudged reads t (verdict.NoData f) = (g : Guarded) × Guards reads t (Some g) × FindingOf t (Some g) (Some f)
+
+-- A fault of the bytes, and not of the stream in them: they are not UTF-8, a read failed, or memory was refused.
+abbrev pub IsByteFault : Fault → Type 0
+IsByteFault (fault.NotUtf8 offset) = Unit {0}
+IsByteFault fault.ReadFailed = Unit {0}
+IsByteFault fault.Memory = Unit {0}
+IsByteFault why = ⊥
 
 -- The reader gave a text of which P holds.
 pub record Gives (P : List ℕ → Type 0) (known : Option (List ℕ)) (t : List ℕ) : Type 0 where

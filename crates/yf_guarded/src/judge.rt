@@ -1,5 +1,5 @@
 //! The verdict on a text: whether it is data.
-ghost use Rattle.std.specs.Prelude.{◌≡◌, IfErr, IfOk};
+ghost use Rattle.std.specs.Prelude.{◌≡◌, true, IfErr, IfOk};
 ghost use Rattle.yf_guard.specs.Guards.{IsVault};
 ghost use Rattle.yf_guarded.specs.Judged.{Guards, ReadGuard};
 ghost use Rattle.yf_stream.specs.StreamReader.{StreamFault, TheReading};
@@ -16,10 +16,11 @@ use yf_stream::stream::read_stream;
 ///
 /// # Errors
 ///
-/// Fails like `read_stream`.
+/// Fails like `read_stream`, and only with `reads`.
 pub fn judge(alloc: Global, text: &str, reads: bool) -> Result<Option<Guarded>, Fault>
     ensures found { IfOk result (Guards reads text.now) }
     ensures refuses { IfErr result (StreamFault text.now) }
+    ensures only { IfErr result (λ fault. reads ≡ true) }
 {
     if is_vault(text) {
         return Ok(Some(Guarded::Vault));

@@ -1,6 +1,6 @@
 //! The verdict on the text of a reader.
-ghost use Rattle.std.specs.Prelude.{◌≡◌, IfErr, IfOk, MatchResult, OnOk};
-ghost use Rattle.yf_guarded.specs.Judged.{GivesJudged, GivesText, IsJudged, IsShownAs};
+ghost use Rattle.std.specs.Prelude.{◌≡◌, false, IfErr, IfOk, MatchResult, OnOk};
+ghost use Rattle.yf_guarded.specs.Judged.{GivesJudged, GivesText, IsByteFault, IsJudged, IsShownAs};
 ghost use Rattle.yf_rules.specs.Runs.ByteStream.{stream_of};
 ghost use Rattle.yf_rules.specs.Runs.Run.{Gave, Keeps, RefusedText};
 ghost use Rattle.yf_stream.specs.StreamReader.{StreamFault};
@@ -32,7 +32,7 @@ pub enum Verdict {
 ///
 /// # Errors
 ///
-/// Fails like `run_events` of yf_rules, except with the faults of a writer.
+/// Fails like `run_events` of yf_rules, except with the faults of a writer. Without `reads` it fails like `read_text`.
 pub fn read_judged<R: Source>(
     alloc: Global,
     reads: bool,
@@ -45,6 +45,7 @@ pub fn read_judged<R: Source>(
         (Keeps (R.remaining reader.old) kept.new.items) }
     ensures refusals { IfErr result (λ fault. RefusedText (stream_of R.remaining R.has_failed reader.old)
         (stream_of R.remaining R.has_failed reader.new) fault) }
+    ensures unread { IfErr result (λ fault. reads ≡ false → IsByteFault fault) }
 {
     *kept = read_all(alloc, reader, INPUT_LIMIT)?;
     let text = text_of(kept.as_slice())?;
@@ -55,7 +56,8 @@ pub fn read_judged<R: Source>(
 ///
 /// # Errors
 ///
-/// Fails like `run_events` of yf_rules, except with the faults of a writer and of texts.
+/// `Fault::ReadFailed` if a read fails, `Fault::NotUtf8` if the bytes are not UTF-8, and `Fault::Memory` if memory is
+/// refused.
 pub fn read_text<R: Source>(alloc: Global, reader: &mut R, kept: &mut Vec<u8>) -> Result<(), Fault>
     ensures text { IfOk result (λ _. GivesText (R.remaining reader.old) kept.new.items) }
     ensures reader { OnOk result (R.has_failed reader.new ≡ R.has_failed reader.old) }
@@ -63,6 +65,7 @@ pub fn read_text<R: Source>(alloc: Global, reader: &mut R, kept: &mut Vec<u8>) -
         (Keeps (R.remaining reader.old) kept.new.items) }
     ensures refusals { IfErr result (λ fault. RefusedText (stream_of R.remaining R.has_failed reader.old)
         (stream_of R.remaining R.has_failed reader.new) fault) }
+    ensures unread { IfErr result IsByteFault }
 {
     *kept = read_all(alloc, reader, INPUT_LIMIT)?;
     text_of(kept.as_slice())?;
@@ -73,6 +76,7 @@ pub fn read_text<R: Source>(alloc: Global, reader: &mut R, kept: &mut Vec<u8>) -
 fn verdict_on(alloc: Global, reads: bool, text: &str) -> Result<Verdict, Fault>
     ensures judged { IfOk result (IsJudged reads text.now) }
     ensures refuses { IfErr result (StreamFault text.now) }
+    ensures unread { IfErr result (λ fault. reads ≡ false → fault ≡ Fault.Memory) }
 {
     match judge(alloc, text, reads) {
         Ok(Some(fault)) => match shown(alloc, text, fault) {

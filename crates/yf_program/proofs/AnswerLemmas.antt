@@ -164,9 +164,11 @@ module _ {F : Type 0} (earlier later : Host F) (known : StillKnown earlier.input
       let Formats = new_text_of scope.any_text (FormatsBytes style) in
       all_by (ScopedRewrite later scope explain Formats) (ScopedRewrite earlier scope explain Formats) (scoped_rewrite_before scope explain Formats) scope (map (λ name. File name) (all_files files)) status before after d
   does_in_before (command.Fmt (fmt.Part lines (part.Print input))) scope explain style status before after d = scoped_input_before earlier later known scope (task_of (work.Part (record { lines = lines; show = show.Text })) explain style) input status before after d
-  does_in_before (command.Fmt (fmt.Part lines (part.Check input))) scope explain style status before after d = scoped_input_before earlier later known scope (task_of (work.Part (record { lines = lines; show = show.Place })) explain style) input status before after d
+  does_in_before (command.Fmt (fmt.Part lines (part.Check input))) scope explain style status before after d = all_before scope (task_of (work.Part (record { lines = lines; show = show.Place })) explain style) (input ∷ []) status before after d
   does_in_before (command.Fmt (fmt.Part lines (part.Diff input))) scope explain style status before after d = scoped_input_before earlier later known scope (task_of (work.Part (record { lines = lines; show = show.Diff })) explain style) input status before after d
-  does_in_before (command.Fmt (fmt.Part lines (part.Write file))) scope explain style status before after d = scoped_rewrite_before scope explain (new_text_of scope.any_text (IsPart style lines.items)) (File file) status before after d
+  does_in_before (command.Fmt (fmt.Part lines (part.Write file))) scope explain style status before after d =
+      let Formats = new_text_of scope.any_text (IsPart style lines.items) in
+      all_by (ScopedRewrite later scope explain Formats) (ScopedRewrite earlier scope explain Formats) (scoped_rewrite_before scope explain Formats) scope (File file ∷ []) status before after d
 
   pub does_with_before : (in_force : InForce) (settings : FileSettings) (flags : Flags) (what : Command) (status : ℕ) (before after : World F)
       → DoesWith later in_force settings flags what status before after → DoesWith earlier in_force settings flags what status before after
@@ -207,6 +209,10 @@ module _ {F : Type 0} (scope : Scope) (Does : Input → WorkClaim F) (before aft
   pub named_of : (rest : List Input) → scope.names ≡ true → DoesEach scope.stdin_name Does before (first ∷ rest) status after → DoesAll scope Does (first ∷ rest) status before after
   named_of [] named d = named_only scope.names named d
   named_of (next ∷ rest) named d = d
+
+  -- Without other inputs it was done with the first one.
+  pub no_more : (rest : List Input) → rest ≡ [] → DoesAll scope Does (first ∷ rest) status before after → DoesAll scope Does (first ∷ []) status before after
+  no_more rest none d = subst (λ (r : List Input). DoesAll scope Does (first ∷ r) status before after) none d
 
 -- no names give no files, and some names give some files
 pub no_files : (names : List (List ℕ)) → names ≡ [] → map (λ (name : List ℕ). File name) names ≡ []

@@ -43,7 +43,7 @@ use Rattle.yf_rules.specs.Quoted.{quoted}
 use Rattle.yf_program.specs.Reports.{DoesReport, report_task}
 use Rattle.yf_guard.specs.declared.guarded.Guarded.TheVariants.{Vault}
 use Rattle.yf_guarded.specs.Checked.{CheckedBroke, CheckedRun}
-use Rattle.yf_guarded.specs.Judged.{GivesText}
+use Rattle.yf_guarded.specs.Judged.{GivesText, IsByteFault}
 use Rattle.yf_program.specs.Guarded.{DoneAsJudged, RanJudged, ReaderClaim, is_judged, is_standard}
 use Rattle.yf_host.specs.LeftAlone.{left_line, left_status}
 use Rattle.yf_program.specs.Guarded.{names_without, prints_text, reads_first}
@@ -178,12 +178,12 @@ RanIf false scope input task = RanWork task.work (name_of scope.stdin_name input
 abbrev pub Ran : Scope → Input → RunClaim
 Ran scope input task = RanIf (is_judged scope input) scope input task
 
--- The text of an input that the settings leave out was printed as it is, or refused.
+-- The text of an input that the settings leave out was printed as it is, or its bytes were refused.
 abbrev pub RanLeftOut : RunClaim
 RanLeftOut task status reader left before after =
     ((t : List ℕ) × GivesText reader.contents t × NoFailure reader left
     × AreTold 0 status t (left_out_line task.explain) before after)
-    ⊎ ((f : Fault) × RefusedText reader left f × NothingWritten before.output after.output
+    ⊎ ((f : Fault) × RefusedText reader left f × IsByteFault f × NothingWritten before.output after.output
     × EndsOver task.explain reader.contents f status before.errors after.errors)
 
 -- A reader of the input was opened, and the run was done with it.
@@ -326,11 +326,13 @@ DoesIn host (command.Fmt (fmt.Write files)) scope explain style =
 DoesIn host (command.Fmt (fmt.Part lines (part.Print input))) scope explain style =
     ScopedInput host scope (task_of (work.Part (record { lines = lines; show = show.Text })) explain style) input
 DoesIn host (command.Fmt (fmt.Part lines (part.Check input))) scope explain style =
-    ScopedInput host scope (task_of (work.Part (record { lines = lines; show = show.Place })) explain style) input
+    DoesAll scope
+    (ScopedInput host scope (task_of (work.Part (record { lines = lines; show = show.Place })) explain style)) (input ∷ [])
 DoesIn host (command.Fmt (fmt.Part lines (part.Diff input))) scope explain style =
     ScopedInput host scope (task_of (work.Part (record { lines = lines; show = show.Diff })) explain style) input
 DoesIn host (command.Fmt (fmt.Part lines (part.Write file))) scope explain style =
-    ScopedRewrite host scope explain (new_text_of scope.any_text (IsPart style lines.items)) (File file)
+    DoesAll scope (ScopedRewrite host scope explain (new_text_of scope.any_text (IsPart style lines.items)))
+    (File file ∷ [])
 
 -- The writer writes out what it holds back. If it fails only then, that is reported; otherwise the status stays.
 -- (What a writer holds back is no part of its `ByteStream`, so nothing says that it holds nothing back afterwards.)

@@ -6,7 +6,7 @@ use Rattle.yf_command_line.specs.declared.command.Input.{Input}
 use Rattle.yf_command_line.specs.declared.command.Input.TheVariants.{Standard, File}
 use Rattle.yf_guard.specs.declared.guarded.Guarded.{Guarded}
 use Rattle.yf_guard.specs.declared.guarded.Guarded.TheVariants.{Vault}
-use Rattle.yf_guarded.specs.Judged.{GivesJudged}
+use Rattle.yf_guarded.specs.Judged.{GivesJudged, IsByteFault}
 use Rattle.yf_guarded.specs.declared.read.Verdict.{Verdict}
 use Rattle.yf_guarded.specs.declared.read.Verdict.TheVariants as verdict
 use Rattle.yf_lines.specs.declared.fault.Fault.{Fault}
@@ -132,10 +132,11 @@ pub record JudgedWork : Type 1 where
   -- how a run ends for a fault of the bytes of a reader
   pub Ends : Option (List ℕ) → Fault → ℕ → ByteStream → ByteStream → Type 0
 
--- A text was read and judged, and it was done what the verdict says; or the text was refused.
+-- A text was read and judged, and the run did what the verdict says; or the text was refused. A text that is not read
+-- for the verdict is not refused for its YAML.
 abbrev pub RanJudged : JudgedWork → ReaderClaim
 RanJudged w status reader left before after =
     ((t : List ℕ) × (v : Verdict) × GivesJudged w.reads reader.contents t v × NoFailure reader left
     × w.Does v t status before after)
-    ⊎ ((f : Fault) × RefusedText reader left f × NothingWritten before.output after.output
-    × w.Ends reader.contents f status before.errors after.errors)
+    ⊎ ((f : Fault) × RefusedText reader left f × (w.reads ≡ false → IsByteFault f)
+    × NothingWritten before.output after.output × w.Ends reader.contents f status before.errors after.errors)

@@ -3,13 +3,13 @@ ghost use Rattle.yf_rules.specs.Runs.ByteStream.{stream_of};
 ghost use Rattle.yf_program.specs.Answer.{DoesIn, RanPart, host_in};
 ghost use Rattle.yf_host.specs.World.{world_in};
 
-use crate::each::do_scoped;
+use crate::each::{do_inputs, do_scoped};
 use crate::further::report_input;
-use crate::rewrites::rewrite_scoped;
+use crate::rewrites::rewrite_files;
 use crate::scope::Scope;
 use crate::task::{Task, Work};
 use std::alloc::Global;
-use yf_command_line::command::{Command, Fmt, Part};
+use yf_command_line::command::{Command, FileList, Fmt, InputList, Part};
 use yf_forms::style::Style;
 use yf_host::files::{Links, NewText};
 use yf_host::guarded_text::GuardedText;
@@ -59,7 +59,11 @@ pub fn do_part<I: Inputs, S: Links, W: Sink, E: Sink>(
                 style,
                 explain,
             };
-            do_scoped(alloc, &task, scope, &input, sources, streams)
+            let inputs = InputList {
+                first: input,
+                rest: Vec::new(alloc),
+            };
+            do_inputs(alloc, &task, scope, &inputs, sources, streams)
         }
         Part::Diff(input) => {
             let task = Task {
@@ -77,8 +81,11 @@ pub fn do_part<I: Inputs, S: Links, W: Sink, E: Sink>(
                 any_text: scope.any_text,
                 new_text: NewText::Part(&style, lines.as_slice()),
             };
-            let name = file.as_str();
-            rewrite_scoped(alloc, explain, &new_text, scope, name, sources, streams)
+            let files = FileList {
+                first: file,
+                rest: Vec::new(alloc),
+            };
+            rewrite_files(alloc, explain, &new_text, scope, &files, sources, streams)
         }
     }
 }

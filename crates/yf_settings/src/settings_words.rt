@@ -29,8 +29,7 @@ const ALLOWED: [(&str, &str); 10] = [
 ];
 
 /// The explanation of any other key.
-const NO_KEY: &str =
-    "there is no such setting; `yamlfmt fmt --no-config --show-settings` prints all settings";
+const NO_KEY: &str = "no such setting; `yamlfmt fmt --no-config --show-settings` lists all";
 
 /// Returns the explanation of the bytes of a settings file with a refused `key`. An empty key means that the text is
 /// not TOML.

@@ -30,7 +30,7 @@ const VAULT: Stored = Stored {
 };
 
 /// The rows, as in `left_alone_rows`.
-pub static ROWS: [Row; 32] = [
+pub static ROWS: [Row; 36] = [
     (
         &[UNSTYLED],
         "check a.yaml",
@@ -272,5 +272,37 @@ pub static ROWS: [Row; 32] = [
         "",
         "left alone: encrypted\n",
         "$ANSIBLE_VAULT;1.1;AES256\n6638\n",
+    ),
+    (
+        &[UNSTYLED],
+        "fmt --check --lines 1 a.yaml",
+        1,
+        "1:1 not formatted\n",
+        "",
+        "a: 1\n",
+    ),
+    (
+        &[UNSTYLED],
+        "fmt --check --lines 1 --names a.yaml",
+        1,
+        "a.yaml:1:1 not formatted\n",
+        "",
+        "a: 1\n",
+    ),
+    (
+        &[UNSTYLED],
+        "fmt --write --lines 1 --names none.yaml",
+        3,
+        "",
+        "none.yaml: read failed\n",
+        "a: 1\n",
+    ),
+    (
+        &[PLAIN],
+        "fmt --write --lines 1 --names a.yaml",
+        1,
+        "",
+        "a.yaml: left alone: no data\n",
+        "b\nc\n",
     ),
 ];

@@ -1,3 +1,5 @@
+use Rattle.std.proofs.Common.{◌∙◌, refl, sym}
+use Rattle.std.proofs.lemmas.Bool.{false≢true}
 use Rattle.yf_stream.specs.StreamReader.{for_memory}
 use Rattle.yf_guarded.proofs.VerdictLemmas.{verdict_shown}
 use Rattle.yf_guarded.proofs.read.verdict_on.Goals as goal
@@ -8,3 +10,9 @@ returns-in-Ok-clause-judged c =
 
 pub returns-in-Err-shown-clause-refuses : goal.returns-in-Err-shown-clause-refuses
 returns-in-Err-shown-clause-refuses c = for_memory
+
+pub returns-in-Err-shown-clause-unread : goal.returns-in-Err-shown-clause-unread
+returns-in-Err-shown-clause-unread c = λ unread. refl
+
+pub returns-in-Err-clause-unread : goal.returns-in-Err-clause-unread
+returns-in-Err-clause-unread c = λ unread. absurd (false≢true (sym unread ∙ c.in-Err.ensures.only))

@@ -20,4 +20,4 @@ pub returns : goal.returns
 returns g c =
     let keeps = subst (λ (b : List ℕ). Keeps (g.R.Read.remaining c.args.reader.now) b c.in-Err.fault) (sym c.as_slice-in-Err.ensures.value) c.in-Err.ensures.bytes in
     rw (← c.streams.view_is)
-    (inr (c.in-Err.fault, c.in-Err.ensures.refusals, record { contents = refl; same = refl }, (c.as_slice-in-Err.result.now, keeps, c.report_input.ensures)))
+    (inr (c.in-Err.fault, c.in-Err.ensures.refusals, c.in-Err.ensures.unread, record { contents = refl; same = refl }, (c.as_slice-in-Err.result.now, keeps, c.report_input.ensures)))

@@ -1,4 +1,4 @@
-use Rattle.std.proofs.Common.{Bool, List, ℕ, inl, inr, refl, subst, sym}
+use Rattle.std.proofs.Common.{◌∙◌, Bool, List, ℕ, inl, inr, refl, subst, sym}
 use Rattle.yf_guarded.specs.Judged.{GivesJudged}
 use Rattle.yf_rules.specs.Runs.Run.{Keeps}
 use Rattle.yf_program.proofs.judged.work_past.Goals as goal
@@ -14,4 +14,4 @@ pub returns : goal.returns
 returns g c =
     let keeps = subst (λ (b : List ℕ). Keeps (g.R.Read.remaining c.args.reader.now) b c.in-Err.fault) (sym c.as_slice-in-Err.ensures.value) c.in-Err.ensures.bytes in
     rw (← c.streams.view_is, ← c.name_of-name.ensures)
-    (inr (c.in-Err.fault, c.in-Err.ensures.refusals, record { contents = refl; same = refl }, (c.as_slice-in-Err.result.now, keeps, c.report_input.ensures)))
+    (inr (c.in-Err.fault, c.in-Err.ensures.refusals, (λ unread. c.in-Err.ensures.unread (c.reads_first-reads.ensures ∙ unread)), record { contents = refl; same = refl }, (c.as_slice-in-Err.result.now, keeps, c.report_input.ensures)))
