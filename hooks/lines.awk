@@ -63,7 +63,7 @@ function quoted(name) {
     return "\047" name "\047"
 }
 
-# Puts the command that repairs the files, if there are any. `fmt --write` leaves those alone that are no data.
+# Puts the command that repairs the files, if there are any. `fmt --write` skips those that are no data.
 function tell_repair(    k, many, words, more) {
     for (k = 1; k <= count; k++) {
         if (!(names[k] in is_left) && ++many <= MOST) {
