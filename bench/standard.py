@@ -97,7 +97,7 @@ or `·` for one character. The last column names reading rules and [readings](#r
 | `x09`, `'-'`, `[x20-x7E]`, `<empty>`; no line | `x 0x09`, `x 45`, `0x20 to 0x7E`, `ε`; `never` |
 | `A B`, `A \\| B`, `A?`, `A*`, `A+`, `A{4}` | `A ∙ B`, `A ∣ B`, `A ⁇`, `A ⋆`, `A ⁺`, `times 4 A` |
 | one character of a set; a set's `\\|` and `-` | `‹ s ›`; `∪` and `∖` |
-| `A - s`, where A has more than one character | `A less s` |
+| `A - s`, if A has more than one character | `A less s` |
 | `[ lookahead = A ]`, `<start-of-line>`, `<end-of-input>` | `⟨ lookahead= A ⟩`, `⟨ start-of-line ⟩`, `⟨ end-of-input ⟩` |
 | at most 1024 characters; excluding c-forbidden content | `at-most 1024 (..)`, `excluding-c-forbidden (..)` |
 | m found from the text, t of the header | `some-m λ m. ..`, `some-t λ t. ..`; `some-k` for n + m |
@@ -116,7 +116,7 @@ anything.
 | words of directives | `no-comment` | a parameter does not begin with `#` | `%F #` with the parameter `#` |
 | longest scalars | `no-line`, `no-trail`, `no-comment-line` | a block scalar takes each line that it can, and then each comment line that follows | a scalar that stops earlier |
 | longest folded lines | `no-folded-line` | a group of folded lines ends only if no folded line follows | other meanings of the same texts: for the lines `>`, ` a`, ` b` also `a`, a line feed and `b` |
-| indicated indentation | `is-sum` | k is max(n, 0) + m | nothing, both sides share it (by the letter, the sum at the root is m - 1) |
+| indicated indentation | `is-sum` | k is max(n, 0) + m | nothing: `letter` has it too (by the standard's letter, the sum at the root is m - 1) |
 | detected indentation (N9) | `auto-detect` | k is the indentation of the first line that has another character than a space; if no line has content, all lines of spaces are empty lines | any k of n + 1 or more |
 | explicit values | `no-value` | the value of a `?` entry is left out only if no `:` of the entry follows | `? k` and `: v` as two entries |
 | signs | `sign-ends` | white space, a break or the end follows the `?` and the `:` of an explicit entry | `?-` |
@@ -132,7 +132,7 @@ anything.
 | N5 | 207 | a bare document begins at its content, and comment lines before it belong to the prefix; the texts are the same |
 | N6 | 63 to 67, 110, 121, 127, 131, 136, 201 | nothing is derived if n is negative, or if the standard has no line for the context |
 | N7 | 154, 155 | the 1,024 characters are code points and include the white space after the key |
-| N8 | 137, 140, 150, 183, 186, 187, 195 | at most `DEPTH` of these are open at once, which is a limit of this project (`COLLECTION` of `specs/Literal.antt`) |
+| N8 | 137, 140, 150, 183, 186, 187, 195 | at most `DEPTH` of these are open at once, a limit of this project (`COLLECTION` of `specs/Literal.antt`) |
 | N9 | 170, 174 | the detection of section 8.1.1.1, which the standard describes in prose |
 
 ## Meanings
