@@ -27,19 +27,17 @@ headed() {
     esac
 }
 
-# Runs the program on one file, for a diff or some lines. These have no names, so the file's name is put before the
-# lines.
+# Runs the program on one file, for a diff or some lines.
 do_one() {
-    local file=$1 ends
+    local file=$1 status=0
     shift
     if [ "$mode" = --diff ]; then
         call --diff "$@" | headed "$file"
-        ends=("${PIPESTATUS[@]}")
+        status=${PIPESTATUS[0]}
     else
-        call "$mode" "$@" | named "$file"
-        ends=("${PIPESTATUS[@]}")
+        call "$mode" --names "$@" || status=$?
     fi
-    count "${ends[0]}"
+    count "$status"
 }
 
 # Shows what `fmt` would change in the files in `paths`. The program shows the diff of only one file by each call.

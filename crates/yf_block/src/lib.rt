@@ -1,8 +1,8 @@
 //! Block nodes (YAML 1.2.2, chapter 8): block collections, block scalars, and flow nodes in block collections, read in
 //! one forward pass.
 //!
-//! The readers return exactly the events that the grammar of yf_grammar derives, or where and why it derives none. The
-//! crate reads flow nodes only through yf_flow, and knows no documents.
+//! The readers return exactly the events that the grammar of yf_grammar derives, or at which offset and why it derives
+//! none. The crate reads flow nodes only through yf_flow, and knows no documents.
 #![tactic(auto)]
 
 pub mod block;

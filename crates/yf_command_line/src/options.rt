@@ -254,7 +254,7 @@ fn stdin_name_option<'a>(alloc: Global) -> Arg<'a>
     Arg::new(alloc, STDIN_NAME)
         .long(STDIN_NAME)
         .value_name("NAME")
-        .help("The name of standard input, for messages, excludes and templates")
+        .help("Give standard input this name, for messages, excludes and templates")
 }
 
 fn names_flag<'a>(alloc: Global) -> Arg<'a>
@@ -263,7 +263,7 @@ fn names_flag<'a>(alloc: Global) -> Arg<'a>
     Arg::new(alloc, NAMES)
         .long(NAMES)
         .action(ArgAction::SetTrue)
-        .help("Print the name of the input before each line, even if there is only one")
+        .help("Print the name of the input before each line, also for a single input")
 }
 
 fn without_option<'a>(alloc: Global) -> Arg<'a>

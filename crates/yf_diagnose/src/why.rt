@@ -110,7 +110,7 @@ impl Why {
                 "this `\\` does not begin an escape: write `\\\\`, or use single quotes",
             Why::EscapeDigits =>
                 "write 2 hexadecimal digits after `\\x`, 4 after `\\u`, 8 after `\\U`",
-            Why::EscapedBreakFirst => "a `\\` at the end of a line can't be all that is on it",
+            Why::EscapedBreakFirst => "a line within quotes can't contain only a `\\`",
             Why::TabIndents => "a tab can't indent: write spaces",
             Why::TabBeforeEntry => "a tab can't come before this entry: write spaces",
             Why::NoSuchColumn => "no open collection has entries in this column",
@@ -124,13 +124,14 @@ impl Why {
             Why::RightOfEntries => "the value before has ended: this line is indented too far",
             Why::LeftOfRoot => "this line is indented less than the document's first one",
             Why::LeftInScalar =>
-                "this line is indented less than the block scalar, more than its parent",
+                "this line is indented less than the block scalar, but more than its parent",
             Why::LeftOfScalar => "indent the text below a `|` or `>` more than its parent",
             Why::LongBlankLine =>
                 "this blank line has more spaces than the first line of the scalar",
             Why::KeyWithoutColon => "the `:` after this key is missing",
             Why::LongKey => "more than 1,024 characters before the `:` of a key",
-            Why::MappingInLine => "a key's value can't be a mapping on its line: quote the value",
+            Why::MappingInLine =>
+                "a key's value can't be a mapping on the key's line: quote the value",
             Why::SequenceInLine => "a key's value can't be a sequence or `? ` on the key's line",
             Why::DashInMapping => "an item can't follow the keys of a mapping in their column",
             Why::KeyInSequence => "this column has the items of a list: begin this line with `- `",
@@ -140,7 +141,7 @@ impl Why {
             Why::NoName => "a name must follow `&` or `*`: quote a text that begins with it",
             Why::ColonOfAlias => "the `:` belongs to the alias's name: write a space before it",
             Why::TextAsAlias => "`*` begins an alias: quote a text that begins with `*`",
-            Why::VerbatimTag => "expected the address of a tag and then `>`",
+            Why::VerbatimTag => "expected a tag's URI and then `>`",
             Why::NoSuffix => "the tag has a handle but no name",
             Why::TagEscape => "a `%` of a tag needs two hexadecimal digits",
             Why::PropertyUnspaced => "put a space after an anchor or a tag",

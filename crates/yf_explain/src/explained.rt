@@ -64,7 +64,7 @@ pub fn explain(alloc: Global, bytes: &[u8], fault: &Fault) -> Result<Page, Alloc
             alloc,
             bytes,
             *place,
-            "escape is not a Unicode character",
+            "this escape is not a Unicode character",
         ),
         Fault::Memory | Fault::ReadFailed | Fault::WriteFailed | Fault::Config { .. } => {
             Ok(Page::new(alloc))

@@ -119,7 +119,7 @@ fn refusal_words(fault: &Fault) -> &'static str
         Fault::RepeatedDirective { .. } =>
             "a document has at most one %YAML, and one %TAG for each handle",
         Fault::BadVersion { .. } => "unsupported YAML version: write 1.2",
-        Fault::EscapeValue { .. } => "escape is not a Unicode character",
+        Fault::EscapeValue { .. } => "this escape is not a Unicode character",
         Fault::Memory => "no memory",
         Fault::ReadFailed => "input can't be read",
         Fault::WriteFailed => "output can't be written",

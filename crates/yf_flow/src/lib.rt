@@ -1,8 +1,8 @@
 //! Flow nodes (YAML 1.2.2, chapter 7): flow collections, the scalars and aliases in them, and implicit keys, read in
 //! one forward pass.
 //!
-//! The readers return exactly the events that the grammar of yf_grammar derives, or where and why it derives none. The
-//! crate knows no block nodes.
+//! The readers return exactly the events that the grammar of yf_grammar derives, or at which offset and why it derives
+//! none. The crate knows no block nodes.
 #![tactic(auto)]
 
 pub(crate) mod entries;

@@ -1,4 +1,4 @@
-//! Texts that are not YAML data: Ansible Vault files, texts that only look like one long scalar, and templates.
+//! Texts that are not YAML data: Ansible Vault files, plain text over several lines, and templates.
 //!
 //! The reading decides, not the bytes: `name: build {{version}}` is data, since its value is a scalar, and `vlan: {{
 //! site_vlan }}` is a template, since its value is a mapping with a mapping as its key. `guard` decides it for a text.

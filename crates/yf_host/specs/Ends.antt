@@ -50,7 +50,7 @@ AreTold run status output faults before after =
     ((status ≡ run) × Writes before.output after.output output × WrittenOrFailed before.errors after.errors faults)
     ⊎ (BreaksOff before.output after.output output × EndsBy fault.WriteFailed status before.errors after.errors)
 
--- The same for a fault of an input: its bytes explain what more was written.
+-- The line of an input's fault was written, and with `--explain` lines that explain the fault in its bytes.
 abbrev pub EndsOver : Bool → Option (List ℕ) → Fault → ℕ → ByteStream → ByteStream → Type 0
 EndsOver explain known f status before after =
     (bytes : List ℕ) × Runs.Keeps known bytes f × EndsTold explain (Explains bytes f) f status before after

@@ -110,10 +110,10 @@ abbrev pub rewrite_line : RewriteError NoNewText → List ℕ
 rewrite_line error.Memory = fault_line fault.Memory
 rewrite_line error.Unreadable = fault_line fault.ReadFailed
 rewrite_line (error.Refused none) = no_text_line none
-rewrite_line (error.Unwritten left) = unwritten_line left
+rewrite_line (error.Unwritten how) = unwritten_line how
 
 abbrev pub rewrite_status : RewriteError NoNewText → ℕ
 rewrite_status error.Memory = fault_status fault.Memory
 rewrite_status error.Unreadable = fault_status fault.ReadFailed
 rewrite_status (error.Refused none) = no_text_status none
-rewrite_status (error.Unwritten left) = fault_status fault.WriteFailed
+rewrite_status (error.Unwritten _) = fault_status fault.WriteFailed

@@ -1,4 +1,4 @@
--- The state that the program works on: the part that changes, and the facts that are known and stay.
+-- The world: the state that the program works on. The part that changes, and the facts that are known and stay.
 use Rattle.std.specs.Prelude.{◌≡◌, ℕ, List, Option, None, Result}
 use Rattle.yf_command_line.specs.declared.command.Input.{Input}
 use Rattle.yf_discovery.specs.Nearest.{Looks}

@@ -73,7 +73,7 @@ refusal_words (UnknownHandle place) = codes "no %TAG directive of this document 
 refusal_words (UnknownAlias place) = codes "no anchor with this name comes before it in this document"
 refusal_words (RepeatedDirective place) = codes "a document has at most one %YAML, and one %TAG for each handle"
 refusal_words (BadVersion place) = codes "unsupported YAML version: write 1.2"
-refusal_words (EscapeValue place) = codes "escape is not a Unicode character"
+refusal_words (EscapeValue place) = codes "this escape is not a Unicode character"
 refusal_words _ = []
 
 -- The problem of a refusal: the character at its position, or the end of the text. It is an error.

@@ -51,7 +51,7 @@ static WORDS: [(&str, &str); 16] = [
     ("comment-space", "fmt writes two spaces before this comment"),
     (
         "line-length",
-        "fmt does not change it: it breaks lines only at brackets",
+        "fmt breaks lines only at brackets, so this line stays",
     ),
     ("repeated-keys", "fmt does not change it"),
     ("key-mark", "fmt writes this key without `?`"),

@@ -193,7 +193,7 @@ fn refusal_words(fault: &Fault) -> &'static str
         Fault::RepeatedDirective { .. } =>
             "a document has at most one %YAML, and one %TAG for each handle",
         Fault::BadVersion { .. } => "unsupported YAML version: write 1.2",
-        Fault::EscapeValue { .. } => "escape is not a Unicode character",
+        Fault::EscapeValue { .. } => "this escape is not a Unicode character",
         Fault::NotUtf8 { .. } => "",
         Fault::Memory => "",
         Fault::ReadFailed => "",

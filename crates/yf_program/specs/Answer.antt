@@ -254,7 +254,7 @@ DoesRewrite host explain Text name status before after =
     × EndsRewriting explain (host.Rewrites before.files after.files name Text) status
     before.streams.errors after.streams.errors
 
--- ---- The same is done with several files
+-- ---- A work is done with several files
 
 -- It was done as if for the only file, and written to memory. The texts there were written with the file's name before
 -- each line.

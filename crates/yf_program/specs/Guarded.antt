@@ -53,8 +53,9 @@ abbrev pub is_standard : Input → Bool
 is_standard Standard = true
 is_standard (File name) = false
 
--- Whether a text is read before a work, and so is not only asked whether it is encrypted. The text of a file is printed
--- in the house style also if it is a template or no data. An editor that passes its text expects it back.
+-- Whether a text is read before a work. If it is not read, only its first bytes say whether it is encrypted. `fmt FILE`
+-- prints the text of a file in the house style even if the text is a template or not data. An editor that passes its
+-- text expects it back.
 abbrev pub reads_first : Work → Input → Bool
 reads_first work.Events input = false
 reads_first (work.Check without) input = true

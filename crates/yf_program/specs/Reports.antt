@@ -1,4 +1,4 @@
--- What `check` does with `--format` for programs: all problems of all inputs are in one report, which is written last.
+-- What `check` does with a `--format` for programs: all problems of all inputs are in one report, which is written last.
 -- (before, after: the states, the streams or one stream before and after a step;
 -- reader, left: a reader before and after it was read; problems: those of one input)
 use Rattle.std.specs.Prelude.{◌≡◌, ◌⊎◌, ◌++◌, ◌∷◌, ℕ, max, List, [], Bool, true, false, Option, Some, None}

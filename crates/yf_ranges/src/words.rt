@@ -35,7 +35,7 @@ fn fixed_words(message: &Message) -> &'static str
         Message::NoMarker => "no `---` before the document",
         Message::TextAfterMarker => "text after `---`, expected on the next line",
         Message::NoFinalBreak => "no line break at the end of the text",
-        Message::ByteOrderMark => "byte order mark outside of scalars",
+        Message::ByteOrderMark => "byte order mark outside scalars",
         Message::BlankLine => "needless blank line",
         Message::FlowLayout => "brackets are not laid out as in the house style",
         Message::RepeatedKey => "the mapping already has this key",

@@ -65,7 +65,7 @@ pub const REFUSALS: [Page; 12] = [
         name: "escape-value",
         text: concat!(
             "# escape-value\n\n",
-            "An escape in double quotes has a number that is no character's, for example `\\uD800`.\n\n",
+            "An escape in double quotes has a number that is not that of a character, for example `\\uD800`.\n\n",
             "Write the character that is meant, or two backslashes for one backslash.\n",
         ),
     },
@@ -82,7 +82,7 @@ pub const REFUSALS: [Page; 12] = [
         text: concat!(
             "# write failed\n\n",
             "The output or a file can't be written.\n\n",
-            "`--explain` gives more. With `--write` the file is as it was, unless the line says otherwise.\n",
+            "With `--write` the file is as it was, unless the line says otherwise.\n",
         ),
     },
     Page {
@@ -90,14 +90,14 @@ pub const REFUSALS: [Page; 12] = [
         text: concat!(
             "# no memory\n\n",
             "Memory was refused, or the formatting would have more than 1 GiB.\n\n",
-            "Nothing was written of the text.\n",
+            "None of the text was written.\n",
         ),
     },
     Page {
         name: "config",
         text: concat!(
             "# config\n\n",
-            "The settings file is no TOML, or has a key that is unknown or has a wrong value. The line names\n",
+            "The settings file is not TOML, or has a key that is unknown or has a wrong value. The line names\n",
             "the key.\n\n",
             "`--explain` shows the line and the values that the key may have.\n",
         ),

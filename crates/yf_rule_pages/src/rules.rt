@@ -9,7 +9,7 @@ pub const RULES: [Page; 14] = [
         text: concat!(
             "# trailing-blanks\n\n",
             "White space at the end of a line.\n\n",
-            "It is invisible, and editors remove it or not, so it makes changes that nobody meant. In the\n",
+            "It is invisible. Some editors remove it and others don't, so it makes changes that nobody meant. In the\n",
             "content of a block scalar, white space at the end of a line is data and no fault.\n\n",
             "Wrong:\n\n",
             "    ---\n",
@@ -194,7 +194,8 @@ pub const RULES: [Page; 14] = [
         text: concat!(
             "# repeated-keys\n\n",
             "A key that its mapping has already.\n\n",
-            "YAML forbids it: readers take the first value, the last one, or fail. Remove one of the two entries.\n\n",
+            "YAML forbids it: some readers take the first value, some the last one, and others fail. Remove one of\n",
+            "the two entries.\n\n",
             "Wrong:\n\n",
             "    ---\n",
             "    port: 80\n",
@@ -210,7 +211,7 @@ pub const RULES: [Page; 14] = [
         text: concat!(
             "# key-mark\n\n",
             "A `?` before a key that doesn't need one.\n\n",
-            "Short keys are followed by their `:`.\n\n",
+            "A short key needs only its `:`.\n\n",
             "Wrong:\n\n",
             "    ---\n",
             "    ? name\n",
@@ -225,7 +226,7 @@ pub const RULES: [Page; 14] = [
         name: "hidden-character",
         text: concat!(
             "# hidden-character\n\n",
-            "A character that people don't see or take for another one.\n\n",
+            "A character that people don't see or mistake for another one.\n\n",
             "The rule works only under `invisible = \"escaped\"`. Use it for files from strangers: a hidden\n",
             "character can make a text look like another one. Remove the character, or write the scalar in\n",
             "double quotes, so that `fmt` escapes it.\n\n",

@@ -1,7 +1,7 @@
 //! The part of an editor server that needs no YAML: life cycle, documents and requests of the Language Server Protocol
 //! 3.17.
 //!
-//! `step` answers each request once, and the edits that it sends give the text that its analysis returns. The crate
+//! `step` responds to each request once, and the edits that it sends give the text that its analysis returns. The crate
 //! reads and writes no stream.
 #![tactic(auto)]
 

@@ -29,14 +29,14 @@ pub const LOST: &str =
 /// Returns the text that a client shows for an error.
 fn text_of(code: ErrorCode) -> &'static str {
     match code {
-        ErrorCode::ParseError => "the message is no JSON",
-        ErrorCode::InvalidRequest => "the server takes no such request now",
+        ErrorCode::ParseError => "the message is not JSON",
+        ErrorCode::InvalidRequest => "the server doesn't accept this request now",
         ErrorCode::MethodNotFound => "the server has no such method",
         ErrorCode::InvalidParams =>
             "the parameters are not those of the method, or the document is not open",
         ErrorCode::InternalError => "the server has failed",
         ErrorCode::ServerNotInitialized => "the server is not initialized",
-        ErrorCode::RequestFailed => "the request could not be done",
+        ErrorCode::RequestFailed => "the request failed",
     }
 }
 

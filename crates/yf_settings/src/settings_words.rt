@@ -29,7 +29,7 @@ const ALLOWED: [(&str, &str); 10] = [
 ];
 
 /// The explanation of any other key.
-const NO_KEY: &str = "no such setting; `yamlfmt fmt --no-config --show-settings` lists all";
+const NO_KEY: &str = "no such setting; docs/STYLE.md and `man yamlfmt` list all settings";
 
 /// Returns the explanation of the bytes of a settings file with a refused `key`. An empty key means that the text is
 /// not TOML.

@@ -264,7 +264,7 @@ pub static ROWS: [Row; 47] = [
         "fmt --explain --config bad.toml a.yaml",
         3,
         "",
-        "config: a\n  2:1: no such setting; `yamlfmt fmt --no-config --show-settings` lists all\n  | a = 1\n  | ^\n",
+        "config: a\n  2:1: no such setting; docs/STYLE.md and `man yamlfmt` list all settings\n  | a = 1\n  | ^\n",
         "bad.toml ",
         BEFORE,
     ),

@@ -196,7 +196,7 @@ Options:
       --show-settings      Print the settings in force as TOML, and do nothing else
       --explain            Explain errors and findings on standard error
       --any-text           Don't skip encrypted files, templates and plain text over several lines
-      --stdin-name <NAME>  The name of standard input, for messages, excludes and templates
+      --stdin-name <NAME>  Give standard input this name, for messages, excludes and templates
   -h, --help               Print help
 ",
         ),
@@ -217,8 +217,8 @@ Options:
       --show-settings      Print the settings in force as TOML, and do nothing else
       --explain            Explain errors and findings on standard error
       --any-text           Don't skip encrypted files, templates and plain text over several lines
-      --stdin-name <NAME>  The name of standard input, for messages, excludes and templates
-      --names              Print the name of the input before each line, even if there is only one
+      --stdin-name <NAME>  Give standard input this name, for messages, excludes and templates
+      --names              Print the name of the input before each line, also for a single input
       --without <RULES>    Skip the rules with these ids (comma-separated)
       --format <FORMAT>    Print the findings as line, json, sarif, github, gitlab, junit or checkstyle
   -h, --help               Print help
