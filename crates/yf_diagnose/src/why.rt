@@ -124,7 +124,7 @@ impl Why {
             Why::RightOfEntries => "the value before has ended: this line is indented too far",
             Why::LeftOfRoot => "this line is indented less than the document's first one",
             Why::LeftInScalar =>
-                "this line is indented less than the block scalar, but more than its parent",
+                "this line is indented less than the scalar, but more than its parent",
             Why::LeftOfScalar => "indent the text below a `|` or `>` more than its parent",
             Why::LongBlankLine =>
                 "this blank line has more spaces than the first line of the scalar",
