@@ -78,8 +78,8 @@ def options(lines):
 
 
 def values(program, name, option):
-    """The possible values of an option that takes neither a file nor lines: the refusal of a wrong value lists them."""
-    if option.value in ('', 'FILE', 'LINES'):
+    """The possible values of an option that takes no FILE, LINES or NAME: the refusal of a wrong value lists them."""
+    if option.value in ('', 'FILE', 'LINES', 'NAME'):
         return []
     refusal = subprocess.run([program, name, option.long + '='], stderr=subprocess.PIPE, text=True, stdin=subprocess.DEVNULL).stderr
     listed = re.search(r'\[possible values: (.+)\]', refusal)
