@@ -205,8 +205,22 @@ def repairs_are_named(room, clone, recipes):
     return done.returncode == 0 and read(room + '/a b.yaml') == read(room + '/c.yaml') == GOOD
 
 
+def diffs_of_odd_names(room, clone, recipes):
+    """Names that look like the lines of a diff, or that diffs quote. The last line repairs only what can be repaired."""
+    bad = ['--- z.yaml', 'it\'s\n".yaml']
+    texts = {'--- t.yaml': 'a: {{ x }}\n', '+++ t.yaml': 'a: {{ x }}\n', **dict.fromkeys(bad, BAD)}
+    for name, text in texts.items():
+        write(room + '/' + name, text)
+    said = each_file(clone, room, 'fmt', '--diff', '--', *texts).stdout.splitlines()
+    wanted = ['--- t.yaml:1:4 template', '+++ t.yaml:1:4 template', '--- --- z.yaml\t', '+++ --- z.yaml\t',
+              '--- "it\'s\\n\\".yaml"', '+++ "it\'s\\n\\".yaml"']
+    done = sh(['bash', '-c', said[-1].split(': ', 1)[1]], room)
+    return ([line for line in said if line.startswith(('---', '+++'))] == wanted and done.returncode == 0
+            and [read(room + '/' + name) for name in bad] == [GOOD] * 2)
+
+
 def calls_are_few(room, clone, recipes):
-    """One call of the program for all files, and with --diff one more for each file that changes."""
+    """One call of the program for all files."""
     program = sh([clone + '/hooks/program'], room, stderr=subprocess.DEVNULL).stdout.strip()
     script(room + '/counted', "echo call >> '%s/count'\nexec '%s' \"$@\"\n" % (room, program))
     with_hooks(room + '/own', room + '/counted')
@@ -222,7 +236,7 @@ def calls_are_few(room, clone, recipes):
         write(room + '/count', '')
         each_file(room + '/own', room, *words, *texts, *names)
         counts.append(read(room + '/count').count('call'))
-    return counts == [1, 1, 3, 1]
+    return counts == [1, 1, 1, 1]
 
 
 def one_buffer(room, clone, recipes):
@@ -400,7 +414,7 @@ def buffer_builds_nothing(room, clone, recipes):
 
 
 EACH = [links_stay, names_like_stages, hook_by_relative_path, hook_in_worktree, hook_without_git, settings_of_another_owner,
-        settings_by_pipe, settings_from_elsewhere, settings_not_found_out, excludes_hold, names_come_by_pipe, repairs_are_named, full_folder, names_of_bytes, help_is_there, findings_come_once,
+        settings_by_pipe, settings_from_elsewhere, settings_not_found_out, excludes_hold, names_come_by_pipe, repairs_are_named, diffs_of_odd_names, full_folder, names_of_bytes, help_is_there, findings_come_once,
         findings_are_explained_on_a_terminal, calls_are_few, one_buffer, build_by_content, build_restored_from_elsewhere,
         build_made_by_hand, four_first_calls, failed_build, another_logic, build_is_told, build_is_told_under_pre_commit,
         program_elsewhere, buffer_builds_nothing]

@@ -6,7 +6,7 @@
 - the examples of README.md and docs/STYLE.md;
 - whether `--version` prints the newest version of CHANGELOG.md, and the logic of README.md, docs/PROVED.md and
   `rt version`;
-- whether `patch` turns a hundred texts into their formatting by the output of `fmt --diff`;
+- whether `patch` turns a hundred texts into their formatting by the output of `fmt --diff`, one by one and together;
 - the extension for VS Code, in Node (bench/vscode_client.js).
 
 It prints `tried`, `FAILED`, `no TOOL` or `not tried` for each, and returns 1 if one failed.
@@ -265,7 +265,22 @@ def patched(program):
             if read(room + '/a b.yaml') != wanted or shown.returncode != (text != wanted) or bool(shown.stdout) != (text != wanted):
                 print('  %r' % text)
                 return False
-    return True
+    return patched_together(program)
+
+
+def patched_together(program):
+    """Whether `patch` formats all texts by one output, which also has the line of a template."""
+    with tempfile.TemporaryDirectory() as room:
+        wanted = {}
+        for at, text in enumerate(texts()):
+            name = '%d.yaml' % at
+            write(room + '/' + name, text)
+            wanted[name] = sh([program, 'fmt', name], room).stdout
+        write(room + '/a b.yaml', 'a: {{ x }}\n')
+        shown = sh([program, 'fmt', '--diff', '0.yaml', 'a b.yaml', *list(wanted)[1:]], room, text=False)
+        sh(['patch', '-s', '-p0'], room, text=False, input=shown.stdout)
+        good = shown.returncode == 1 and shown.stdout.count(b'a b.yaml:1:4 template\n') == 1
+        return good and all(read(room + '/' + name) == text for name, text in wanted.items())
 
 
 def extension(program):

@@ -6,9 +6,10 @@
 # REPAIR is the command that repairs files, without their names, or nothing. STAGE is the command that stages them then,
 # or nothing. With pairs=1 the explanation of a finding follows the finding; otherwise it is dropped.
 #
-# Some lines are marks. The character 1 and a name, quoted for the shell: `fmt` would change this file. The character 1:
-# a diff begins, or ends. The character 2: the names after it, up to the next such mark, are not those of files. The
+# Some lines are marks. The character 2: the names after it, up to the next such mark, are not those of files. The
 # character 3 and a line: the line goes to standard error.
+#
+# A diff begins with the lines `--- NAME` and `+++ NAME`. The line before each hunk says how many lines the hunk has.
 
 BEGIN {
     MOST = 20
@@ -63,6 +64,47 @@ function quoted(name) {
     return "\047" name "\047"
 }
 
+# The name in the first line of a diff, as the shell takes it. A tab follows a name with a space. A name with special
+# characters is in double quotes, with escapes that the shell knows.
+function name_in_diff(line,    name) {
+    name = substr(line, 5)
+    sub(/\t$/, "", name)
+    if (name !~ /^"/) {
+        return quoted(name)
+    }
+    name = substr(name, 2, length(name) - 2)
+    gsub(/\047/, "\\\047", name)
+    return "$\047" name "\047"
+}
+
+# The number of lines in a range of a hunk: -FIRST,COUNT, or -LINE for one line.
+function lines_in(range,    at) {
+    at = index(range, ",")
+    return at ? substr(range, at + 1) + 0 : 1
+}
+
+# Takes a line that is no part of a diff.
+function take_line(line,    at) {
+    at = index(line, ":   ")
+    if (at && substr(line, at + 4) ~ /^[0-9]+:[0-9]+ [a-z-]+: /) {
+        note_explanation(line, at)
+        return
+    }
+    if (!at && line ~ /: left out: the settings exclude it$/) {
+        return
+    }
+    if (at || line ~ /^  / || line ~ /: left alone: /) {
+        take(line, 1)
+        return
+    }
+    if (match(line, /:[0-9]+:[0-9]+ ([a-z-]+ \(fixable\)|not formatted)$/)) {
+        note(quoted(substr(line, 1, RSTART - 1)))
+    } else if (match(line, /:[0-9]+:[0-9]+ (template|no-data)$/)) {
+        is_left[quoted(substr(line, 1, RSTART - 1))] = 1
+    }
+    take(line, 0)
+}
+
 # Puts the command that repairs the files, if there are any. `fmt --write` skips those that are no data.
 function tell_repair(    k, many, words, more) {
     for (k = 1; k <= count; k++) {
@@ -77,18 +119,48 @@ function tell_repair(    k, many, words, more) {
     }
 }
 
-$0 == "\001" {
-    is_diff = !is_diff
-    next
-}
-
-is_diff {
+# A line of a hunk
+old_left > 0 || new_left > 0 {
+    old_left -= /^[ -]/
+    new_left -= /^[ +]/
     put($0, 0)
     next
 }
 
-index($0, "\001") == 1 {
-    note(substr($0, 2))
+is_diff && /^@@ -/ {
+    note(name_in_diff(first))
+    split($0, words, " ")
+    old_left = lines_in(words[2])
+    new_left = lines_in(words[3])
+    put($0, 0)
+    next
+}
+
+# The note that the last line has no line feed
+is_diff && /^\\ / {
+    put($0, 0)
+    next
+}
+
+# The line before this one may be the first of a diff.
+head != "" {
+    first = head
+    head = ""
+    is_diff = $0 == "+++ " substr(first, 5)
+    if (is_diff) {
+        put(first, 0)
+        put($0, 0)
+        next
+    }
+    take_line(first)
+}
+
+{
+    is_diff = 0
+}
+
+/^--- / {
+    head = $0
     next
 }
 
@@ -103,33 +175,13 @@ index($0, "\003") == 1 {
 }
 
 {
-    at = index($0, ":   ")
-}
-
-at && substr($0, at + 4) ~ /^[0-9]+:[0-9]+ [a-z-]+: / {
-    note_explanation($0, at)
-    next
-}
-
-!at && /: left out: the settings exclude it$/ {
-    next
-}
-
-at || /^  / || /: left alone: / {
-    take($0, 1)
-    next
-}
-
-{
-    if (match($0, /:[0-9]+:[0-9]+ ([a-z-]+ \(fixable\)|not formatted)$/)) {
-        note(quoted(substr($0, 1, RSTART - 1)))
-    } else if (match($0, /:[0-9]+:[0-9]+ (template|no-data)$/)) {
-        is_left[quoted(substr($0, 1, RSTART - 1))] = 1
-    }
-    take($0, 0)
+    take_line($0)
 }
 
 END {
+    if (head != "") {
+        take_line(head)
+    }
     for (k = 1; k <= lines; k++) {
         put(held[k], aside[k])
         sub(/ \(fixable\)$/, "", held[k])

@@ -1,5 +1,4 @@
-# Functions of each_file for files that the program takes one by one: for diffs and changed lines, and if a name is not
-# UTF-8.
+# Functions of each_file for files that the program takes one by one: for changed lines, and if a name is not UTF-8.
 
 # Copies standard input, with the name of a file before each line.
 named() {
@@ -11,55 +10,6 @@ named() {
             *) printf '%s: %s\n' "$name" "$line" ;;
         esac
     done
-}
-
-# Copies a diff with the marks for lines.awk, or other lines with the name of the file before each.
-headed() {
-    local line
-    IFS= read -r line || return 0
-    case $line in
-        '--- '*)
-            printf '\001%q\n\001\n%s\n' "$1" "$line"
-            cat
-            printf '\001\n'
-            ;;
-        *) { printf '%s\n' "$line" && cat; } | named "$1" ;;
-    esac
-}
-
-# Runs the program on one file, for a diff or some lines.
-do_one() {
-    local file=$1 status=0
-    shift
-    if [ "$mode" = --diff ]; then
-        call --diff "$@" | headed "$file"
-        status=${PIPESTATUS[0]}
-    else
-        call "$mode" --names "$@" || status=$?
-    fi
-    count "$status"
-}
-
-# Shows what `fmt` would change in the files in `paths`. The program shows the diff of only one file by each call.
-show_diffs() {
-    local said line last changes=() others=()
-    mapfile -t said < <(call --check --names -- "${paths[@]}"; printf '%s\n' "$?")
-    last=$((${#said[@]} - 1))
-    for line in "${said[@]:0:last}"; do
-        case $line in
-            *':   '*) others+=("$line") ;;
-            *:[0-9]*:[0-9]*' not formatted')
-                line=${line%:*}
-                changes+=("${line%:*}")
-                ;;
-            *) others+=("$line") ;;
-        esac
-    done
-    for line in ${changes[@]+"${changes[@]}"}; do
-        do_one "$line" -- "$line"
-    done
-    [ ${#others[@]} -eq 0 ] || printf '%s\n' "${others[@]}"
-    count "${said[last]}"
 }
 
 # Runs the program on the text of a file with a name that is not UTF-8, which the program does not accept. The file is
@@ -74,12 +24,7 @@ do_text() {
     fi
     [ "$mode" != --write ] || by=--check
     printf '\002\n'
-    if [ "$mode" = --diff ]; then
-        call --diff "--stdin-name=$name" < "$text" | headed "$name"
-        status=${PIPESTATUS[0]}
-    else
-        call ${by:+"$by"} --names "--stdin-name=$name" < "$text" || status=$?
-    fi
+    call ${by:+"$by"} --names "--stdin-name=$name" < "$text" || status=$?
     [ "$mode$status" != --write1 ] || say "$name" "not rewritten: its name is not UTF-8" 3
     count "$status"
     printf '\002\n'
@@ -99,13 +44,8 @@ do_changed() {
         all) paths+=("$file") ;;
         *)
             mapfile -t options <<< "$lines"
-            do_one "$file" "${options[@]}" -- "$file"
+            call "$mode" --names "${options[@]}" -- "$file"
+            count "$?"
             ;;
     esac
-}
-
-# Whether the diff of a file is made at once: of a pipe, which can be read only once, and of a file with control
-# characters in its name, since the program shows another name.
-is_single() {
-    [ -z "$staged" ] && [ -e "$1" ] && [ ! -f "$1" ] && [ ! -d "$1" ] || has_controls "$1"
 }

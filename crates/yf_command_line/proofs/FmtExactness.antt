@@ -10,8 +10,7 @@ use Rattle.yf_command_line.specs.Lines.{are_lines, lines_in}
 use Rattle.yf_command_line.specs.Requests.{DoesPart, IsFmt, IsNoFmt, all_files, all_inputs, checks, diffs, files_given}
 use Rattle.yf_command_line.specs.Requests.{input_of, inputs_of, is_standard_input, lines_given, writes}
 use Rattle.yf_command_line.specs.Requests.IsNoFmt.{no_file, standard_input, written_and_checked}
-use Rattle.yf_command_line.specs.Requests.IsNoFmt.{written_and_compared, several_compared, several_printed}
-use Rattle.yf_command_line.specs.Requests.IsNoFmt.{several_parts, no_lines}
+use Rattle.yf_command_line.specs.Requests.IsNoFmt.{written_and_compared, several_printed, several_parts, no_lines}
 use Rattle.yf_command_line.specs.declared.command.Fmt.{Fmt}
 use Rattle.yf_command_line.specs.declared.command.Fmt.TheVariants as fmt
 use Rattle.yf_command_line.specs.declared.command.Input.{Input}
@@ -25,7 +24,7 @@ use Rattle.yf_command_line.specs.declared.command.Part.TheVariants as part
 abbrev pub SameFmt : Fmt → Fmt → Type 0
 SameFmt (fmt.Print a) (fmt.Print b) = a ≡ b
 SameFmt (fmt.Check a) (fmt.Check b) = all_inputs a ≡ all_inputs b
-SameFmt (fmt.Diff a) (fmt.Diff b) = a ≡ b
+SameFmt (fmt.Diff a) (fmt.Diff b) = all_inputs a ≡ all_inputs b
 SameFmt (fmt.Write a) (fmt.Write b) = all_files a ≡ all_files b
 SameFmt (fmt.Part lines a) (fmt.Part others b) = (lines.items ≡ others.items) × (a ≡ b)
 SameFmt _ _ = ⊥
@@ -101,32 +100,28 @@ part_not_both given (part.Print a) r p (no_file w e) = cc
 part_not_both given (part.Print a) r p (standard_input w e) = cc
 part_not_both given (part.Print a) r p (written_and_checked w e) = cc
 part_not_both given (part.Print a) r p (written_and_compared w e) = cc
-part_not_both given (part.Print a) r p (several_compared d m) = cc
-part_not_both given (part.Print a) r p (several_printed w c m) = several (files_given given) a p.3 m
+part_not_both given (part.Print a) r p (several_printed w c n m) = several (files_given given) a p.3 m
 part_not_both given (part.Print a) r p (several_parts l m) = several (files_given given) a p.3 m
 part_not_both given (part.Print a) r p (no_lines e) = absurd (false≢true (sym e ∙ r))
 part_not_both given (part.Check a) r p (no_file w e) = cc
 part_not_both given (part.Check a) r p (standard_input w e) = cc
 part_not_both given (part.Check a) r p (written_and_checked w e) = cc
 part_not_both given (part.Check a) r p (written_and_compared w e) = cc
-part_not_both given (part.Check a) r p (several_compared d m) = cc
-part_not_both given (part.Check a) r p (several_printed w c m) = cc
+part_not_both given (part.Check a) r p (several_printed w c n m) = cc
 part_not_both given (part.Check a) r p (several_parts l m) = several (files_given given) a p.3 m
 part_not_both given (part.Check a) r p (no_lines e) = absurd (false≢true (sym e ∙ r))
 part_not_both given (part.Diff a) r p (no_file w e) = cc
 part_not_both given (part.Diff a) r p (standard_input w e) = cc
 part_not_both given (part.Diff a) r p (written_and_checked w e) = cc
 part_not_both given (part.Diff a) r p (written_and_compared w e) = cc
-part_not_both given (part.Diff a) r p (several_compared d m) = several (files_given given) a p.2 m
-part_not_both given (part.Diff a) r p (several_printed w c m) = several (files_given given) a p.2 m
+part_not_both given (part.Diff a) r p (several_printed w c n m) = cc
 part_not_both given (part.Diff a) r p (several_parts l m) = several (files_given given) a p.2 m
 part_not_both given (part.Diff a) r p (no_lines e) = absurd (false≢true (sym e ∙ r))
 part_not_both given (part.Write a) r p (no_file w e) = cc
 part_not_both given (part.Write a) r p (standard_input w e) = cc
 part_not_both given (part.Write a) r p (written_and_checked w e) = cc
 part_not_both given (part.Write a) r p (written_and_compared w e) = cc
-part_not_both given (part.Write a) r p (several_compared d m) = cc
-part_not_both given (part.Write a) r p (several_printed w c m) = cc
+part_not_both given (part.Write a) r p (several_printed w c n m) = cc
 part_not_both given (part.Write a) r p (several_parts l m) = single (files_given given) a p.3 m
 part_not_both given (part.Write a) r p (no_lines e) = absurd (false≢true (sym e ∙ r))
 
@@ -135,26 +130,22 @@ fmt_not_both given (fmt.Print a) p (no_file w e) = cc
 fmt_not_both given (fmt.Print a) p (standard_input w e) = cc
 fmt_not_both given (fmt.Print a) p (written_and_checked w e) = cc
 fmt_not_both given (fmt.Print a) p (written_and_compared w e) = cc
-fmt_not_both given (fmt.Print a) p (several_compared d m) = cc
-fmt_not_both given (fmt.Print a) p (several_printed w c m) = several (files_given given) a p.4 m
+fmt_not_both given (fmt.Print a) p (several_printed w c n m) = several (files_given given) a p.4 m
 fmt_not_both given (fmt.Check a) p (no_file w e) = cc
 fmt_not_both given (fmt.Check a) p (standard_input w e) = cc
 fmt_not_both given (fmt.Check a) p (written_and_checked w e) = cc
 fmt_not_both given (fmt.Check a) p (written_and_compared w e) = cc
-fmt_not_both given (fmt.Check a) p (several_compared d m) = cc
-fmt_not_both given (fmt.Check a) p (several_printed w c m) = cc
+fmt_not_both given (fmt.Check a) p (several_printed w c n m) = cc
 fmt_not_both given (fmt.Diff a) p (no_file w e) = cc
 fmt_not_both given (fmt.Diff a) p (standard_input w e) = cc
 fmt_not_both given (fmt.Diff a) p (written_and_checked w e) = cc
 fmt_not_both given (fmt.Diff a) p (written_and_compared w e) = cc
-fmt_not_both given (fmt.Diff a) p (several_compared d m) = several (files_given given) a p.3 m
-fmt_not_both given (fmt.Diff a) p (several_printed w c m) = several (files_given given) a p.3 m
+fmt_not_both given (fmt.Diff a) p (several_printed w c n m) = cc
 fmt_not_both given (fmt.Write a) p (no_file w e) = cc
 fmt_not_both given (fmt.Write a) p (standard_input w e) = cc
 fmt_not_both given (fmt.Write a) p (written_and_checked w e) = cc
 fmt_not_both given (fmt.Write a) p (written_and_compared w e) = cc
-fmt_not_both given (fmt.Write a) p (several_compared d m) = cc
-fmt_not_both given (fmt.Write a) p (several_printed w c m) = cc
+fmt_not_both given (fmt.Write a) p (several_printed w c n m) = cc
 fmt_not_both given (fmt.Print a) p (several_parts l m) = l p.0
 fmt_not_both given (fmt.Print a) p (no_lines e) = no_wrong_lines given p.0 e
 fmt_not_both given (fmt.Check a) p (several_parts l m) = l p.0
@@ -182,10 +173,16 @@ module _ (inputs : List Input → Vec Input Global) (inputs_are : (l : List Inpu
         fmt.Write (record { first = f; rest = texts fs }),
         (el, ew, ec, ed, ef ∙ ap (λ l. f ∷ l) (sym (texts_are fs)), es),
       )
-  fmt_by given false c true s [] ew ec ed es ef el = inl (fmt.Diff Standard, (el, ew, ed, ap inputs_of ef))
-  fmt_by given false c true s (f ∷ []) ew ec ed es ef el = inl (fmt.Diff (input_of f), (el, ew, ed, ap inputs_of ef))
-  fmt_by given false c true s (f ∷ g ∷ fs) ew ec ed es ef el =
-      inr (several_compared ed (subst (λ (l : List Text). 1 < length l) (sym ef) (omega arith)))
+  fmt_by given false c true s [] ew ec ed es ef el =
+      inl (
+        fmt.Diff (record { first = Standard; rest = inputs [] }),
+        (el, ew, ed, ap inputs_of ef ∙ ap (λ l. Standard ∷ l) (sym (inputs_are []))),
+      )
+  fmt_by given false c true s (f ∷ fs) ew ec ed es ef el =
+      inl (
+        fmt.Diff (record { first = input_of f; rest = inputs (map input_of fs) }),
+        (el, ew, ed, ap inputs_of ef ∙ ap (λ l. input_of f ∷ l) (sym (inputs_are (map input_of fs)))),
+      )
   fmt_by given false true false s [] ew ec ed es ef el =
       inl (
         fmt.Check (record { first = Standard; rest = inputs [] }),
@@ -200,7 +197,7 @@ module _ (inputs : List Input → Vec Input Global) (inputs_are : (l : List Inpu
   fmt_by given false false false s (f ∷ []) ew ec ed es ef el =
       inl (fmt.Print (input_of f), (el, ew, ec, ed, ap inputs_of ef))
   fmt_by given false false false s (f ∷ g ∷ fs) ew ec ed es ef el =
-      inr (several_printed ew ec (subst (λ (l : List Text). 1 < length l) (sym ef) (omega arith)))
+      inr (several_printed ew ec ed (subst (λ (l : List Text). 1 < length l) (sym ef) (omega arith)))
 
   part_by : (given : List Row) (w c d s : Bool) (files : List Text) → writes given ≡ w → checks given ≡ c
       → diffs given ≡ d → list_any is_standard_input (files_given given) ≡ s → files_given given ≡ files

@@ -156,10 +156,10 @@ IsFmt given (fmt.Print input) =
 IsFmt given (fmt.Check inputs) =
     (lines_given given ≡ []) × (writes given ≡ false) × (checks given ≡ true) × (diffs given ≡ false)
     × (inputs_of (files_given given) ≡ all_inputs inputs)
--- `fmt --diff [--check] [FILE]`
-IsFmt given (fmt.Diff input) =
+-- `fmt --diff [--check] [FILE..]`
+IsFmt given (fmt.Diff inputs) =
     (lines_given given ≡ []) × (writes given ≡ false) × (diffs given ≡ true)
-    × (inputs_of (files_given given) ≡ input ∷ [])
+    × (inputs_of (files_given given) ≡ all_inputs inputs)
 -- `fmt --write FILE..`, and no FILE is `-`
 IsFmt given (fmt.Write files) =
     (lines_given given ≡ []) × (writes given ≡ true) × (checks given ≡ false) × (diffs given ≡ false)
@@ -232,10 +232,9 @@ pub data IsNoFmt (given : List Row) : Type 0 where
   written_and_checked : writes given ≡ true → checks given ≡ true → IsNoFmt given
   -- `--write` with `--diff`
   written_and_compared : writes given ≡ true → diffs given ≡ true → IsNoFmt given
-  -- several FILEs with `--diff`
-  several_compared : diffs given ≡ true → 1 < length (files_given given) → IsNoFmt given
   -- several FILEs without a flag
-  several_printed : writes given ≡ false → checks given ≡ false → 1 < length (files_given given) → IsNoFmt given
+  several_printed : writes given ≡ false → checks given ≡ false → diffs given ≡ false
+      → 1 < length (files_given given) → IsNoFmt given
   -- several FILEs with `--lines`
   several_parts : lines_given given ≢ [] → 1 < length (files_given given) → IsNoFmt given
   -- `--lines` with a word that is no range of lines, nor several with commas between

@@ -38,8 +38,8 @@ pub enum Fmt {
     Print(Input),
     /// Reports the inputs that are not in the house style (`--check`).
     Check(InputList),
-    /// Prints how the formatted text differs from the input (`--diff`).
-    Diff(Input),
+    /// Prints how the formatted texts differ from the inputs (`--diff`).
+    Diff(InputList),
     /// Writes the formatted text to the file that was read (`--write`).
     Write(FileList),
     /// Formats only some lines (`--lines`).

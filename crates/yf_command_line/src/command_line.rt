@@ -14,8 +14,7 @@ use crate::options::{
 };
 use crate::part::part_met;
 use crate::refused_words::{
-    NO_COMMAND, NO_FILE, NO_STANDARD_INPUT, NOT_SHOWN, NOTHING_WRITTEN, SEVERAL_DIFFS,
-    SEVERAL_FILES, TWO_SETTINGS,
+    NO_COMMAND, NO_FILE, NO_STANDARD_INPUT, NOT_SHOWN, NOTHING_WRITTEN, SEVERAL_FILES, TWO_SETTINGS,
 };
 use crate::usage::{Usage, refusal, usage_of};
 use crate::without::{names_in, refusal_of_name, unknown_name};
@@ -31,9 +30,9 @@ use std::alloc::Global;
 ///   separated by commas. The option may be given more than once. FORMAT is `line`, `json`, `sarif`, `github`,
 ///   `gitlab`, `junit` or `checkstyle`.
 /// - `fmt [SETTINGS] [READING] [--names] [--write] [--check] [--diff] [--lines LINES] [FILE..]`. `--write` needs a
-///   FILE, and no FILE may be `-`. It excludes `--check` and `--diff`. Several FILEs need `--write`, or `--check`
-///   without `--diff`. `--lines` takes at most one FILE. LINES are numbers of lines and ranges, as in `3-7,12`. The
-///   option may be given more than once.
+///   FILE, and no FILE may be `-`. It excludes `--check` and `--diff`. Several FILEs need one of these three options.
+///   `--lines` takes at most one FILE. LINES are numbers of lines and ranges, as in `3-7,12`. The option may be given
+///   more than once.
 /// - `server [SETTINGS] [--stdio]`. It always reads standard input, and `--stdio` changes nothing: editors pass it.
 ///
 /// SETTINGS is `--config FILE` or `--no-config`, and `--show-settings`. READING is `--explain`, `--any-text` and
@@ -190,10 +189,7 @@ fn whole_met(alloc: Global, given: &ArgMatches<'_>) -> Result<Fmt, Usage>
     }
     let files = words_given(given, FILE);
     if is_given(given, DIFF) {
-        if files.len() > 1 {
-            return Err(refusal(alloc, SEVERAL_DIFFS));
-        }
-        return Ok(Fmt::Diff(first_input(alloc, files)?));
+        return Ok(Fmt::Diff(inputs_of(alloc, files)?));
     }
     if is_given(given, CHECK) {
         return Ok(Fmt::Check(inputs_of(alloc, files)?));

@@ -51,17 +51,9 @@ Usage: yamlfmt fmt [OPTIONS] [FILE]...
 For more information, try '--help'.
 ";
 
-/// The message for several files without `--write` and without `--check`.
+/// The message for several files without `--write`, `--check` and `--diff`.
 pub(crate) const SEVERAL_FILES: &str =
-    "error: several FILEs are possible only with '--write' or '--check'
-
-Usage: yamlfmt fmt [OPTIONS] [FILE]...
-
-For more information, try '--help'.
-";
-
-/// The message for several files with `--diff`.
-pub(crate) const SEVERAL_DIFFS: &str = "error: the argument '--diff' takes one FILE
+    "error: several FILEs are possible only with '--write', '--check' or '--diff'
 
 Usage: yamlfmt fmt [OPTIONS] [FILE]...
 

@@ -2,3 +2,5 @@
 
 -- `rewrite`
 pub mod FilesLemmas
+-- `is_diff`
+mod NamedLemmas

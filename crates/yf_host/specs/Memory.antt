@@ -7,7 +7,7 @@ use Rattle.yf_lines.specs.declared.fault.Fault.TheVariants as fault
 use Rattle.yf_lines.specs.declared.watched.Watched.{Watched}
 use Rattle.yf_rules.specs.Runs.ByteStream.{ByteStream, NothingWritten, WrittenOrFailed}
 use Rattle.yf_host.specs.Ends.{AreTold, EndsBy}
-use Rattle.yf_host.specs.Named.{named_lines}
+use Rattle.yf_host.specs.Named.{named_lines, named_output}
 use Rattle.yf_host.specs.World.{OutputStreams}
 
 -- The text ends with a line feed.
@@ -40,12 +40,12 @@ ToldNamed Whole run status output faults before after =
     (Whole × AreTold run status output faults before after)
     ⊎ (NothingWritten before.output after.output × EndsBy fault.Memory status before.errors after.errors)
 
--- The texts in memory were written so, with a name before each line.
+-- The texts in memory were written so, with a name before each line that is not part of a diff.
 abbrev pub ToldMemory : List ℕ → ℕ → ℕ → OutputStreams → OutputStreams → OutputStreams → Type 0
 ToldMemory name run status memory before after =
     (output : List ℕ) × (faults : List ℕ) × (memory.output.contents ≡ Some output)
     × (memory.errors.contents ≡ Some faults)
-    × ToldNamed (IsWhole memory faults) run status (named_lines name output) (named_lines name faults) before after
+    × ToldNamed (IsWhole memory faults) run status (named_output name output) (named_lines name faults) before after
 
 -- A text was written for the stream of faults, or there was no memory for it, and only that was written.
 -- (run: the status of what was done)

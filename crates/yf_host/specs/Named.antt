@@ -1,6 +1,6 @@
--- The output for one file among several. Each line begins with the file's name and a colon. A space follows if the line
--- doesn't begin with a position.
-use Rattle.std.specs.Prelude.{ℕ, nat_eq, nat_lt, List, [], ◌∷◌, ◌++◌, if◌then◌else◌}
+-- The output for one file among several. A diff has the file's name in its first lines. Any other line begins with the
+-- name and a colon, and a space follows if the line doesn't begin with a position.
+use Rattle.std.specs.Prelude.{ℕ, nat_eq, nat_lt, Bool, false, List, [], ◌∷◌, ◌++◌, if◌then◌else◌}
 use Rattle.yf_command_line.specs.Shown.{shown}
 
 -- the first byte of a line: a position begins with a digit, and any other byte gets a space before it
@@ -19,3 +19,13 @@ prefixed prefix before (b ∷ rest) = prefixed_byte prefix before b ++ prefixed 
 -- a whole text, which starts at the beginning of a line
 abbrev pub named_lines : List ℕ → List ℕ → List ℕ
 named_lines name text = prefixed (shown name ++ 58 ∷ []) 10 text
+
+-- Whether an output is a diff. A diff begins with `-`. Any other output of a run over several files is empty, or begins
+-- with a position.
+abbrev pub is_diff : List ℕ → Bool
+is_diff [] = false
+is_diff (b ∷ rest) = nat_eq b 45
+
+-- what is written to the output: a diff as it is, and any other output with the name before each line
+abbrev pub named_output : List ℕ → List ℕ → List ℕ
+named_output name output = if is_diff output then output else named_lines name output

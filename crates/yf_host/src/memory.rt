@@ -2,10 +2,10 @@
 ghost use Rattle.std.specs.Prelude.{◌≡◌, ◌⊎◌, true, false};
 ghost use Rattle.yf_host.specs.Ends.{AreTold};
 ghost use Rattle.yf_host.specs.Memory.{IsLine, ToldErrors, ToldFaults, ToldMemory, ToldNamed, memory_stream};
-ghost use Rattle.yf_host.specs.Named.{named_lines};
+ghost use Rattle.yf_host.specs.Named.{named_lines, named_output};
 ghost use Rattle.yf_rules.specs.Runs.ByteStream.{stream_of};
 
-use crate::named::named_lines;
+use crate::named::{is_diff, named_lines};
 use crate::report::report;
 use crate::streams::Streams;
 use std::alloc::Global;
@@ -13,8 +13,8 @@ use yf_lines::fault::Fault;
 use yf_lines::output::write_text;
 use yf_lines::watched::{Sink, Watched};
 
-/// Writes the contents of memory with a name before each line, and returns the status. If a part of them is missing, or
-/// memory is refused, it writes only `no memory`.
+/// Writes the contents of memory with a name before each line that is not part of a diff, and returns the status. If a
+/// part of the contents is missing, or memory is refused, it writes only `no memory`.
 pub fn tell_memory<W: Sink, E: Sink>(
     alloc: Global,
     name: &str,
@@ -27,6 +27,9 @@ pub fn tell_memory<W: Sink, E: Sink>(
     let output = memory.output.get_ref().as_slice();
     let faults = memory.errors.get_ref().as_slice();
     let is_whole = is_whole(memory.output.failed(), memory.errors.failed(), faults);
+    if is_diff(output) {
+        return tell_diff(alloc, name, status, output, faults, is_whole, streams);
+    }
     tell_named(alloc, name, status, output, faults, is_whole, streams)
 }
 
@@ -56,8 +59,31 @@ fn ends_line(text: &[u8]) -> bool
     }
 }
 
-// Writes the output for one file among several, and returns its status. If a part of the output is missing, or memory
-// for the names is refused, it writes only `no memory`.
+// Writes the diff of one file among several, and returns its status. If a part of the output is missing, or memory for
+// the names is refused, it writes only `no memory`.
+fn tell_diff<W: Sink, E: Sink>(
+    alloc: Global,
+    name: &str,
+    status: u8,
+    diff: &[u8],
+    faults: &[u8],
+    is_whole: bool,
+    streams: &mut Streams<W, E>,
+) -> u8
+    ensures { ToldNamed (is_whole ≡ true) status result diff.now (named_lines name.now faults.now) streams.old
+        streams.new }
+{
+    if !is_whole {
+        return report(&Fault::Memory, &mut streams.errors);
+    }
+    match named_lines(alloc, name, faults) {
+        Ok(faults) => tell(status, diff, faults.as_slice(), streams),
+        Err(_) => report(&Fault::Memory, &mut streams.errors),
+    }
+}
+
+// Writes the lines of one file among several, and returns its status. If a part of the output is missing, or memory for
+// the names is refused, it writes only `no memory`.
 fn tell_named<W: Sink, E: Sink>(
     alloc: Global,
     name: &str,

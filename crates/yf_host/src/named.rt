@@ -1,11 +1,40 @@
-//! The output for one file among several: its lines, each with the file's name before it.
-ghost use Rattle.std.specs.Prelude.{◌≡◌, ◌++◌, ◌∷◌, [], IfOk};
+//! The output for one file among several: a diff, or lines with the file's name before each.
+ghost use Rattle.std.specs.Prelude.{◌≡◌, ◌<◌, ◌^◌, ◌++◌, ◌∷◌, ℕ, [], IfOk, List, false, not};
 ghost use Rattle.yf_command_line.specs.Shown.{shown};
-ghost use Rattle.yf_host.specs.Named.{first_byte, named_lines, prefixed, prefixed_byte};
+ghost use Rattle.yf_diff.specs.Diff.{AddsDiff};
+ghost use Rattle.yf_host.specs.Named.{first_byte, is_diff, named_lines, prefixed, prefixed_byte};
+ghost use Rattle.yf_lines.specs.declared.place.Position.{Position};
+ghost use Rattle.yf_rules.specs.Runs.Compare.{difference_line};
+ghost use Rattle.yf_rules.specs.Runs.Diffed.{is_same};
+ghost use Rattle.yf_rules.specs.Runs.Run.{finding_line};
+ghost use Rattle.yf_rules.specs.declared.finding.Finding.{Finding};
 
 use std::alloc::{AllocError, Global};
 use yf_command_line::shown::write_shown;
 use yf_lines::watched::Watched;
+
+/// Returns whether the output for a file is a diff. Otherwise it is empty, or begins with the position of a line.
+pub fn is_diff(output: &[u8]) -> bool
+    ensures exact { result ≡ is_diff output.now }
+    ensures diff { (old_name new_name t v : List ℕ) → AddsDiff old_name new_name t v [] output.now
+        → result ≡ not (is_same output.now) }
+    ensures finding { (f : Finding) (rest : List ℕ) → f.place.line < 2 ^ 64 → output.now ≡ finding_line f ++ rest
+        → result ≡ false }
+    ensures difference { (place : Position) → place.line < 2 ^ 64 → output.now ≡ difference_line place
+        → result ≡ false }
+{
+    begins_with_hyphen(output)
+}
+
+// Returns whether a text begins with `-`.
+fn begins_with_hyphen(text: &[u8]) -> bool
+    ensures { result ≡ is_diff text.now }
+{
+    match text.first() {
+        Some(byte) => *byte == b'-',
+        None => false,
+    }
+}
 
 /// Returns a text with the name of a file and a colon before each of its lines. A space follows the colon if the line
 /// doesn't begin with a position. Control characters in the name are shown by their numbers, as in all messages.

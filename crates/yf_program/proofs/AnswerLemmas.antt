@@ -159,13 +159,13 @@ module _ {F : Type 0} (earlier later : Host F) (known : StillKnown earlier.input
   does_in_before (command.Check check) scope explain style status before after d = check_before check scope explain style check.output status before after d
   does_in_before (command.Fmt (fmt.Print input)) scope explain style status before after d = scoped_input_before earlier later known scope (task_of work.Print explain style) input status before after d
   does_in_before (command.Fmt (fmt.Check inputs)) scope explain style status before after d = all_before scope (task_of work.Compare explain style) (all_inputs inputs) status before after d
-  does_in_before (command.Fmt (fmt.Diff input)) scope explain style status before after d = scoped_input_before earlier later known scope (task_of work.Diff explain style) input status before after d
+  does_in_before (command.Fmt (fmt.Diff inputs)) scope explain style status before after d = all_before scope (task_of work.Diff explain style) (all_inputs inputs) status before after d
   does_in_before (command.Fmt (fmt.Write files)) scope explain style status before after d =
       let Formats = new_text_of scope.any_text (FormatsBytes style) in
       all_by (ScopedRewrite later scope explain Formats) (ScopedRewrite earlier scope explain Formats) (scoped_rewrite_before scope explain Formats) scope (map (λ name. File name) (all_files files)) status before after d
   does_in_before (command.Fmt (fmt.Part lines (part.Print input))) scope explain style status before after d = scoped_input_before earlier later known scope (task_of (work.Part (record { lines = lines; show = show.Text })) explain style) input status before after d
   does_in_before (command.Fmt (fmt.Part lines (part.Check input))) scope explain style status before after d = all_before scope (task_of (work.Part (record { lines = lines; show = show.Place })) explain style) (input ∷ []) status before after d
-  does_in_before (command.Fmt (fmt.Part lines (part.Diff input))) scope explain style status before after d = scoped_input_before earlier later known scope (task_of (work.Part (record { lines = lines; show = show.Diff })) explain style) input status before after d
+  does_in_before (command.Fmt (fmt.Part lines (part.Diff input))) scope explain style status before after d = all_before scope (task_of (work.Part (record { lines = lines; show = show.Diff })) explain style) (input ∷ []) status before after d
   does_in_before (command.Fmt (fmt.Part lines (part.Write file))) scope explain style status before after d =
       let Formats = new_text_of scope.any_text (IsPart style lines.items) in
       all_by (ScopedRewrite later scope explain Formats) (ScopedRewrite earlier scope explain Formats) (scoped_rewrite_before scope explain Formats) scope (File file ∷ []) status before after d

@@ -257,7 +257,7 @@ DoesRewrite host explain Text name status before after =
 -- ---- A work is done with several files
 
 -- It was done as if for the only file, and written to memory. The texts there were written with the file's name before
--- each line.
+-- each line that is not part of a diff.
 abbrev pub DoesNamed : {F : Type 0} → List ℕ → WorkClaim F → WorkClaim F
 DoesNamed name Does status before after =
     (run : ℕ) × (memory : OutputStreams)
@@ -318,8 +318,8 @@ DoesIn host (command.Fmt (fmt.Print input)) scope explain style =
     ScopedInput host scope (task_of work.Print explain style) input
 DoesIn host (command.Fmt (fmt.Check inputs)) scope explain style =
     DoesAll scope (ScopedInput host scope (task_of work.Compare explain style)) (all_inputs inputs)
-DoesIn host (command.Fmt (fmt.Diff input)) scope explain style =
-    ScopedInput host scope (task_of work.Diff explain style) input
+DoesIn host (command.Fmt (fmt.Diff inputs)) scope explain style =
+    DoesAll scope (ScopedInput host scope (task_of work.Diff explain style)) (all_inputs inputs)
 DoesIn host (command.Fmt (fmt.Write files)) scope explain style =
     DoesAll scope (ScopedRewrite host scope explain (new_text_of scope.any_text (FormatsBytes style)))
     (map (λ name. File name) (all_files files))
@@ -329,7 +329,8 @@ DoesIn host (command.Fmt (fmt.Part lines (part.Check input))) scope explain styl
     DoesAll scope
     (ScopedInput host scope (task_of (work.Part (record { lines = lines; show = show.Place })) explain style)) (input ∷ [])
 DoesIn host (command.Fmt (fmt.Part lines (part.Diff input))) scope explain style =
-    ScopedInput host scope (task_of (work.Part (record { lines = lines; show = show.Diff })) explain style) input
+    DoesAll scope
+    (ScopedInput host scope (task_of (work.Part (record { lines = lines; show = show.Diff })) explain style)) (input ∷ [])
 DoesIn host (command.Fmt (fmt.Part lines (part.Write file))) scope explain style =
     DoesAll scope (ScopedRewrite host scope explain (new_text_of scope.any_text (IsPart style lines.items)))
     (File file ∷ [])

@@ -154,13 +154,13 @@ fn do_fmt<I: Inputs, S: Links, W: Sink, E: Sink>(
             };
             do_inputs(alloc, &task, scope, &inputs, sources, streams)
         }
-        Fmt::Diff(input) => {
+        Fmt::Diff(inputs) => {
             let task = Task {
                 work: Work::Diff,
                 style,
                 explain,
             };
-            do_scoped(alloc, &task, scope, &input, sources, streams)
+            do_inputs(alloc, &task, scope, &inputs, sources, streams)
         }
         Fmt::Write(files) => {
             let new_text = GuardedText {

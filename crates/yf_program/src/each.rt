@@ -45,8 +45,8 @@ pub fn do_inputs<I: Inputs, S: Links, W: Sink, E: Sink>(
     do_each(alloc, task, scope, inputs, sources, streams)
 }
 
-// Does a task with each input, in order, and returns the greatest status. Each line of the output begins with the name
-// of its input.
+// Does a task with each input, in order, and returns the greatest status. Each line that is not part of a diff begins
+// with the name of its input.
 fn do_each<I: Inputs, S: Links, W: Sink, E: Sink>(
     alloc: Global,
     task: &Task,
@@ -68,8 +68,8 @@ fn do_each<I: Inputs, S: Links, W: Sink, E: Sink>(
     greatest
 }
 
-// Does a task with an input as if it were the only one, and writes the output with the input's name before each line.
-// Returns the status.
+// Does a task with an input as if it were the only one, and writes the output with the input's name before each line
+// that is not part of a diff. Returns the status.
 fn do_named<I: Inputs, S: Links, W: Sink, E: Sink>(
     alloc: Global,
     task: &Task,

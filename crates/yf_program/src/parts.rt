@@ -1,6 +1,7 @@
 //! `fmt --lines`: formatting only some lines of a text.
+ghost use Rattle.std.specs.Prelude.{◌∷◌, []};
 ghost use Rattle.yf_rules.specs.Runs.ByteStream.{stream_of};
-ghost use Rattle.yf_program.specs.Answer.{DoesIn, RanPart, host_in};
+ghost use Rattle.yf_program.specs.Answer.{DoesAll, DoesIn, RanPart, ScopedInput, host_in};
 ghost use Rattle.yf_host.specs.World.{world_in};
 
 use crate::each::{do_inputs, do_scoped};
@@ -9,7 +10,7 @@ use crate::rewrites::rewrite_files;
 use crate::scope::Scope;
 use crate::task::{Task, Work};
 use std::alloc::Global;
-use yf_command_line::command::{Command, FileList, Fmt, InputList, Part};
+use yf_command_line::command::{Command, FileList, Fmt, Input, InputList, Part};
 use yf_forms::style::Style;
 use yf_host::files::{Links, NewText};
 use yf_host::guarded_text::GuardedText;
@@ -59,11 +60,7 @@ pub fn do_part<I: Inputs, S: Links, W: Sink, E: Sink>(
                 style,
                 explain,
             };
-            let inputs = InputList {
-                first: input,
-                rest: Vec::new(alloc),
-            };
-            do_inputs(alloc, &task, scope, &inputs, sources, streams)
+            do_only(alloc, &task, scope, input, sources, streams)
         }
         Part::Diff(input) => {
             let task = Task {
@@ -74,7 +71,7 @@ pub fn do_part<I: Inputs, S: Links, W: Sink, E: Sink>(
                 style,
                 explain,
             };
-            do_scoped(alloc, &task, scope, &input, sources, streams)
+            do_only(alloc, &task, scope, input, sources, streams)
         }
         Part::Write(file) => {
             let new_text = GuardedText {
@@ -88,6 +85,26 @@ pub fn do_part<I: Inputs, S: Links, W: Sink, E: Sink>(
             rewrite_files(alloc, explain, &new_text, scope, &files, sources, streams)
         }
     }
+}
+
+// Does a task with its only input. Returns the status.
+fn do_only<I: Inputs, S: Links, W: Sink, E: Sink>(
+    alloc: Global,
+    task: &Task,
+    scope: &Scope,
+    input: Input,
+    sources: &mut Sources<I, S>,
+    streams: &mut Streams<W, E>,
+) -> u8
+    ensures { DoesAll scope.now (ScopedInput (host_in I.claim S.tells S.state S.leads sources.old) scope.now task.now)
+        (input ∷ []) result (world_in I.opened sources.old streams.old)
+        (world_in I.opened sources.new streams.new) }
+{
+    let inputs = InputList {
+        first: input,
+        rest: Vec::new(alloc),
+    };
+    do_inputs(alloc, task, scope, &inputs, sources, streams)
 }
 
 /// Shows a text with some lines formatted, and returns the status.

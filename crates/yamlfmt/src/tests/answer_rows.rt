@@ -16,7 +16,7 @@ pub type Row = (
     &'static str,
 );
 
-pub static ROWS: [Row; 47] = [
+pub static ROWS: [Row; 48] = [
     ("fmt", 0, "---\n- \"a\"\n", "", "- ", BEFORE),
     (
         "fmt --config good.toml",
@@ -202,6 +202,14 @@ pub static ROWS: [Row; 47] = [
         BEFORE,
     ),
     (
+        "fmt --diff a.yaml refused.yaml none.yaml a.yaml",
+        3,
+        "--- a.yaml\n+++ a.yaml\n@@ -1,2 +1,2 @@\n ---\n-a: \"x\" # c\n+a: \"x\"  # c\n--- a.yaml\n+++ a.yaml\n@@ -1,2 +1,2 @@\n ---\n-a: \"x\" # c\n+a: \"x\"  # c\n",
+        "refused.yaml:2:6 refused: unknown-alias\nnone.yaml: read failed\n",
+        "a.yaml refused.yaml none.yaml a.yaml ",
+        BEFORE,
+    ),
+    (
         "fmt --check --config good.toml refused.yaml a.yaml",
         2,
         "a.yaml:2:4 not formatted\n",
@@ -221,7 +229,7 @@ pub static ROWS: [Row; 47] = [
         "fmt a.yaml b.yaml",
         3,
         "",
-        "error: several FILEs are possible only with '--write' or '--check'\n\nUsage: yamlfmt fmt [OPTIONS] [FILE]...\n\nFor more information, try '--help'.\n",
+        "error: several FILEs are possible only with '--write', '--check' or '--diff'\n\nUsage: yamlfmt fmt [OPTIONS] [FILE]...\n\nFor more information, try '--help'.\n",
         "",
         BEFORE,
     ),

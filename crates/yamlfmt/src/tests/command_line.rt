@@ -63,7 +63,10 @@ fn shape(command: &Command) -> Shape<'_> {
             let InputList { first, rest } = inputs;
             (Verb::Fmt, name_of(first), false, true, false, rest.len())
         }
-        Command::Fmt(Fmt::Diff(input)) => (Verb::Fmt, name_of(input), false, false, true, 0),
+        Command::Fmt(Fmt::Diff(inputs)) => {
+            let InputList { first, rest } = inputs;
+            (Verb::Fmt, name_of(first), false, false, true, rest.len())
+        }
         Command::Fmt(Fmt::Write(files)) => {
             let FileList { first, rest } = files;
             (Verb::Fmt, first.as_str(), true, false, false, rest.len())

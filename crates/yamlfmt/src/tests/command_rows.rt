@@ -30,7 +30,7 @@ pub enum Wanted {
 }
 
 /// The command lines and their expected results.
-pub static LINES: [(&str, Wanted); 83] = [
+pub static LINES: [(&str, Wanted); 84] = [
     (
         "events",
         Wanted::Command(Verb::Events, "", "", false, false, false, 0),
@@ -62,6 +62,14 @@ pub static LINES: [(&str, Wanted); 83] = [
     (
         "fmt a --check --diff",
         Wanted::Command(Verb::Fmt, "", "a", false, false, true, 0),
+    ),
+    (
+        "fmt --diff a b c",
+        Wanted::Command(Verb::Fmt, "", "a", false, false, true, 2),
+    ),
+    (
+        "fmt --diff --check a b",
+        Wanted::Command(Verb::Fmt, "", "a", false, false, true, 1),
     ),
     (
         "check a b",
@@ -154,7 +162,6 @@ For more information, try '--help'.
     ("check --check a", Wanted::Wrong),
     ("events --check a", Wanted::Wrong),
     ("check --diff a", Wanted::Wrong),
-    ("fmt --diff --check a b", Wanted::Wrong),
     ("events --config s --config t", Wanted::Wrong),
     ("fmt --write -", Wanted::Wrong),
     ("fmt a --write -", Wanted::Wrong),
@@ -277,7 +284,7 @@ For more information, try '--help'.
     (
         "fmt a b",
         Wanted::Refused(
-            "error: several FILEs are possible only with '--write' or '--check'
+            "error: several FILEs are possible only with '--write', '--check' or '--diff'
 
 Usage: yamlfmt fmt [OPTIONS] [FILE]...
 

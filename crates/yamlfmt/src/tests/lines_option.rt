@@ -28,7 +28,7 @@ enum Wanted {
     Refused(&'static str),
 }
 
-static ROWS: [(&str, Wanted); 20] = [
+static ROWS: [(&str, Wanted); 21] = [
     (
         "fmt --lines 3-7,12 a",
         Wanted::Part(&[[3, 7], [12, 12]], Task::Print, "a"),
@@ -61,6 +61,7 @@ static ROWS: [(&str, Wanted); 20] = [
     ("fmt --lines 1 --write --check a", Wanted::Wrong),
     ("fmt --lines 1 --write --diff a", Wanted::Wrong),
     ("fmt --lines 1 --write a b", Wanted::Wrong),
+    ("fmt --lines 1 --diff a b", Wanted::Wrong),
     ("events --lines 1 a", Wanted::Wrong),
     (
         "fmt --lines 7-3 a",

@@ -29,8 +29,18 @@ const VAULT: Stored = Stored {
     bytes: b"$ANSIBLE_VAULT;1.1;AES256\n6638\n",
 };
 
+const OTHER: Stored = Stored {
+    name: "b.yaml",
+    bytes: b"b: 1\n",
+};
+
+const STYLED: Stored = Stored {
+    name: "c.yaml",
+    bytes: b"---\nc: 1\n",
+};
+
 /// The rows, as in `left_alone_rows`.
-pub static ROWS: [Row; 36] = [
+pub static ROWS: [Row; 46] = [
     (
         &[UNSTYLED],
         "check a.yaml",
@@ -303,6 +313,87 @@ pub static ROWS: [Row; 36] = [
         1,
         "",
         "a.yaml: left alone: no data\n",
+        "b\nc\n",
+    ),
+    // several diffs: each has the name in its head, and any other line begins with the name
+    (
+        &[UNSTYLED, OTHER, STYLED],
+        "fmt --diff c.yaml a.yaml b.yaml",
+        1,
+        "--- a.yaml\n+++ a.yaml\n@@ -1 +1,2 @@\n+---\n a: 1\n--- b.yaml\n+++ b.yaml\n@@ -1 +1,2 @@\n+---\n b: 1\n",
+        "",
+        "a: 1\n",
+    ),
+    (
+        &[TEMPLATE, OTHER],
+        "fmt --diff a.yaml b.yaml",
+        1,
+        "a.yaml:1:4 template\n--- b.yaml\n+++ b.yaml\n@@ -1 +1,2 @@\n+---\n b: 1\n",
+        "",
+        "a: {{ x }}\n",
+    ),
+    (
+        &[PLAIN, OTHER],
+        "fmt --diff b.yaml a.yaml",
+        1,
+        "--- b.yaml\n+++ b.yaml\n@@ -1 +1,2 @@\n+---\n b: 1\na.yaml:1:1 no-data\n",
+        "",
+        "b\nc\n",
+    ),
+    (
+        &[VAULT, STYLED],
+        "fmt --diff a.yaml c.yaml",
+        0,
+        "",
+        "a.yaml: left alone: encrypted\n",
+        "$ANSIBLE_VAULT;1.1;AES256\n6638\n",
+    ),
+    (
+        &[UNSTYLED, EXCLUDES],
+        "fmt --diff --explain a.yaml b.yaml",
+        1,
+        "--- a.yaml\n+++ a.yaml\n@@ -1 +1,2 @@\n+---\n a: 1\n",
+        "b.yaml: left out: the settings exclude it\n",
+        "a: 1\n",
+    ),
+    (
+        &[UNSTYLED],
+        "fmt --diff a.yaml -",
+        1,
+        "--- a.yaml\n+++ a.yaml\n@@ -1 +1,2 @@\n+---\n a: 1\n--- -\n+++ -\n@@ -1 +1,2 @@\n+---\n a: 1\n",
+        "",
+        "a: 1\n",
+    ),
+    (
+        &[UNSTYLED],
+        "fmt --diff --names a.yaml",
+        1,
+        "--- a.yaml\n+++ a.yaml\n@@ -1 +1,2 @@\n+---\n a: 1\n",
+        "",
+        "a: 1\n",
+    ),
+    (
+        &[PLAIN],
+        "fmt --diff --names a.yaml",
+        1,
+        "a.yaml:1:1 no-data\n",
+        "",
+        "b\nc\n",
+    ),
+    (
+        &[UNSTYLED],
+        "fmt --diff --lines 1 --names a.yaml",
+        1,
+        "--- a.yaml\n+++ a.yaml\n@@ -1 +1,2 @@\n+---\n a: 1\n",
+        "",
+        "a: 1\n",
+    ),
+    (
+        &[PLAIN],
+        "fmt --diff --lines 1 --names a.yaml",
+        1,
+        "a.yaml:1:1 no-data\n",
+        "",
         "b\nc\n",
     ),
 ];

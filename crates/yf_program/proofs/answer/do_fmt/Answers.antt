@@ -7,7 +7,7 @@ pub returns-in-Check : goal.returns-in-Check
 returns-in-Check g c = rw c.in-Check.is c.do_inputs.ensures
 
 pub returns-in-Diff : goal.returns-in-Diff
-returns-in-Diff g c = rw c.in-Diff.is c.do_scoped-in-Diff.ensures.does
+returns-in-Diff g c = rw c.in-Diff.is c.do_inputs-in-Diff.ensures
 
 pub returns-in-Write : goal.returns-in-Write
 returns-in-Write g c = rw c.in-Write.is c.rewrite_files.ensures
