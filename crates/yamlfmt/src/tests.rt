@@ -16,6 +16,7 @@ mod faulty;
 mod files;
 mod fmt;
 mod fmt_check;
+mod formatted_rows;
 mod hostile;
 mod in_force;
 mod in_force_rows;

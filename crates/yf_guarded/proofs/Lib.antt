@@ -4,3 +4,5 @@ pub mod JudgeLemmas
 pub mod CheckLemmas
 -- the verdict on a text with a fault
 pub mod VerdictLemmas
+-- the formatting of a text that is data
+pub mod FormattingLemmas

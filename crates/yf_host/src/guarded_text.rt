@@ -1,6 +1,7 @@
 //! The new text of a file, unless the file is skipped.
-ghost use Rattle.std.specs.Prelude.{◌≡◌, IfErr, IfOk};
-ghost use Rattle.yf_host.specs.Rewriting.{RefusesBytes, no_text_line, no_text_status};
+ghost use Rattle.std.specs.Prelude.{◌≡◌, Bool, None, false, string_bytes, IfErr, IfOk};
+ghost use Rattle.yf_host.specs.Rewriting.{FormatsBytes, HasNoNewText, IsNewText, RefusesBytes};
+ghost use Rattle.yf_host.specs.Rewriting.{no_text_line, no_text_status};
 ghost use Rattle.yf_host.specs.LeftAlone.{LeavesBytes};
 ghost use Rattle.yf_rules.specs.Runs.ByteStream.{WrittenOrFailed, stream_of};
 
@@ -10,7 +11,9 @@ use crate::report::report;
 use std::alloc::Global;
 use yf_chars::utf8::{BadByte, check_utf8};
 use yf_files::Formatter;
+use yf_forms::style::Style;
 use yf_guard::guarded::Guarded;
+use yf_guarded::formatting::{DataFormatting, format_data};
 use yf_guarded::judge::judge;
 use yf_lines::fault::Fault;
 use yf_lines::watched::Sink;
@@ -43,25 +46,65 @@ impl Formatter for GuardedText<'_> {
     ghost Refuses = { λ it bytes why. (claim_of it).Refuses bytes why };
 
     fn format(&self, alloc: Global, bytes: &[u8]) -> Result<String, NoNewText> {
-        match left_alone(alloc, self.any_text, bytes) {
-            Ok(None) => match self.new_text.format(alloc, bytes) {
-                Ok(text) => Ok(text),
-                Err(fault) => Err(NoNewText::Refused(fault)),
-            },
-            Ok(Some(why)) => Err(NoNewText::LeftAlone(why)),
-            Err(fault) => Err(NoNewText::Refused(fault)),
+        if self.any_text {
+            return new_text_of(alloc, &self.new_text, bytes);
+        }
+        match self.new_text {
+            NewText::Formatted(style) => formatting_of_data(alloc, style, bytes),
+            NewText::Part(_, _) => new_text_of_data(alloc, &self.new_text, bytes),
         }
     }
 }
 
-// Returns why a file with these bytes is skipped, or `None` if it is not.
-fn left_alone(alloc: Global, any_text: bool, bytes: &[u8]) -> Result<Option<Guarded>, Fault>
-    ensures left { IfOk result (λ found. LeavesBytes any_text bytes.now found) }
+// Returns the new text of a file with these bytes.
+fn new_text_of(alloc: Global, new_text: &NewText<'_>, bytes: &[u8]) -> Result<String, NoNewText>
+    ensures formats { IfOk result (λ text. IsNewText new_text.now bytes.now (string_bytes text)) }
+    ensures refuses { IfErr result (λ why. (any_text : Bool) → HasNoNewText any_text bytes.now why) }
+{
+    match new_text.format(alloc, bytes) {
+        Ok(text) => Ok(text),
+        Err(fault) => Err(NoNewText::Refused(fault)),
+    }
+}
+
+// Returns the formatting of a file with these bytes, unless their text is no data. The text is read once.
+fn formatting_of_data(alloc: Global, style: &Style, bytes: &[u8]) -> Result<String, NoNewText>
+    ensures formats { IfOk result (λ text. LeavesBytes false bytes.now None
+        × FormatsBytes style.now bytes.now (string_bytes text)) }
+    ensures refuses { IfErr result (HasNoNewText false bytes.now) }
+{
+    match check_utf8(bytes) {
+        Ok(text) => match format_data(alloc, text, style) {
+            Ok(DataFormatting::Formatted(formatted)) => Ok(formatted),
+            Ok(DataFormatting::NoData(why)) => Err(NoNewText::LeftAlone(why)),
+            Err(fault) => Err(NoNewText::Refused(fault)),
+        },
+        Err(BadByte { offset }) => Err(NoNewText::Refused(Fault::NotUtf8 { offset })),
+    }
+}
+
+// Returns the new text of a file with these bytes, unless their text is no data. The text is read first for that.
+fn new_text_of_data(
+    alloc: Global,
+    new_text: &NewText<'_>,
+    bytes: &[u8],
+) -> Result<String, NoNewText>
+    ensures formats { IfOk result (λ text. LeavesBytes false bytes.now None
+        × IsNewText new_text.now bytes.now (string_bytes text)) }
+    ensures refuses { IfErr result (HasNoNewText false bytes.now) }
+{
+    match left_alone(alloc, bytes) {
+        Ok(None) => new_text_of(alloc, new_text, bytes),
+        Ok(Some(why)) => Err(NoNewText::LeftAlone(why)),
+        Err(fault) => Err(NoNewText::Refused(fault)),
+    }
+}
+
+// Returns why the text of these bytes is no data, or `None` if it is data.
+fn left_alone(alloc: Global, bytes: &[u8]) -> Result<Option<Guarded>, Fault>
+    ensures left { IfOk result (λ found. LeavesBytes false bytes.now found) }
     ensures refuses { IfErr result (RefusesBytes bytes.now) }
 {
-    if any_text {
-        return Ok(None);
-    }
     match check_utf8(bytes) {
         Ok(text) => judge(alloc, text, true),
         Err(BadByte { offset }) => Err(Fault::NotUtf8 { offset }),

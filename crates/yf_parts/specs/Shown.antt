@@ -1,4 +1,4 @@
--- How a text with some lines formatted is shown.
+-- How a text with some or all lines formatted is shown.
 -- (t: the text that was read; v: the text with the lines formatted; before, after: the writer; same: the result)
 use Rattle.std.specs.Prelude.{◌≡◌, ◌≢◌, ℕ, List, [], Bool, true, Option, MatchOption}
 use Rattle.std.specs.Option.{is_none}

@@ -1,4 +1,4 @@
-//! How a text with some lines formatted is shown, over any writer. `specs/Shown` has the definitions.
+//! How a text with some or all lines formatted is shown, over any writer. `specs/Shown` has the definitions.
 ghost use Rattle.std.specs.Prelude.{IfErr, IfOk};
 ghost use Rattle.yf_parts.specs.Shown.{DiffBroke, DiffFound, DiffShown, IsShown, NotShown, PlaceBroke, PlaceShown};
 ghost use Rattle.yf_parts.specs.Shown.{ShowBroke, TextBroke, TextShown};
@@ -14,7 +14,7 @@ use yf_lines::watched::Sink;
 use yf_rules::compare::{difference, write_difference};
 use yf_rules::quoted::quoted;
 
-/// How a text with some lines formatted is shown.
+/// How a text with some or all lines formatted is shown.
 #[derive(Clone, Copy)]
 pub enum Show {
     /// The text with the lines formatted.
@@ -25,8 +25,8 @@ pub enum Show {
     Diff,
 }
 
-/// Shows a text with some lines formatted: `part` is `text` with these lines formatted. Returns false only if it shows
-/// a position or a diff and the texts differ. A diff has both texts under the name, as Git writes it.
+/// Shows a text with some or all lines formatted: `part` is `text` with these lines formatted. Returns false only if it
+/// shows a position or a diff and the texts differ. A diff has both texts under the name, as Git writes it.
 ///
 /// # Errors
 ///

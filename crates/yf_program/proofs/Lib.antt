@@ -2,6 +2,8 @@
 
 -- `read_settings`, `run`
 pub mod ProgramLemmas
+-- `show_formatting`, `work_past`
+pub mod ShownLemmas
 -- `answer`
 pub mod AnswerLemmas
 -- `report_version`

@@ -28,6 +28,7 @@ use Rattle.yf_lines.specs.declared.fault.Fault.{Fault}
 use Rattle.yf_lines.specs.declared.fault.Fault.TheVariants as fault
 use Rattle.yf_parts.specs.PartRun.{IsPart, PartBroke, PartRun}
 use Rattle.yf_parts.specs.declared.run.PartTask.{PartTask}
+use Rattle.yf_parts.specs.declared.show.Show.{Show}
 use Rattle.yf_parts.specs.declared.show.Show.TheVariants as show
 use Rattle.yf_rules.specs.AllRules.{FoundWithout, rule_names}
 use Rattle.yf_rules.specs.declared.run.TheConstants.{INPUT_LIMIT}
@@ -44,7 +45,7 @@ use Rattle.yf_program.specs.Reports.{DoesReport, report_task}
 use Rattle.yf_guard.specs.declared.guarded.Guarded.TheVariants.{Vault}
 use Rattle.yf_guarded.specs.Checked.{CheckedBroke, CheckedRun}
 use Rattle.yf_guarded.specs.Judged.{GivesText, IsByteFault}
-use Rattle.yf_program.specs.Guarded.{DoneAsJudged, RanJudged, ReaderClaim, is_judged, is_standard}
+use Rattle.yf_program.specs.Guarded.{DoneAsJudged, JudgedWork, RanJudged, ReaderClaim, is_judged, is_standard}
 use Rattle.yf_host.specs.LeftAlone.{left_line, left_status}
 use Rattle.yf_program.specs.Guarded.{names_without, prints_text, reads_first}
 use Rattle.yf_host.specs.Rewriting.{FileRewrite, FormatsBytes, new_text_of, rewrite_line}
@@ -145,6 +146,12 @@ RanWork work.Diff name = RanFmtDiff name
 RanWork (work.Part part) name = RanPart part name
 RanWork work.Serve name = λ task. Served task.style
 
+-- `fmt`, `fmt --check` or `fmt --diff` showed the formatting of the whole text, or was refused.
+abbrev pub RanShown : Show → List ℕ → RunClaim
+RanShown show.Text name = RanFmt
+RanShown show.Place name = RanFmtCheck
+RanShown show.Diff name = RanFmtDiff name
+
 -- How a check ends: the text is encrypted, or the line of each finding was written.
 abbrev pub EndsCheck : Bool → Option Bool → ℕ → ByteStream → ByteStream → Type 0
 EndsCheck explain None status before after = (status ≡ left_status Vault) × WrittenOrFailed before after (left_line Vault)
@@ -169,6 +176,14 @@ RanPast None scope input task = RanJudged (record {
   Does = DoneAsJudged (prints_text task.work) (RanWork task.work (name_of scope.stdin_name input) task);
   Ends = EndsOver task.explain;
 })
+
+-- The formatting of the whole text is shown. The text is read and judged first.
+abbrev pub shown_work : Show → List ℕ → Task → JudgedWork
+shown_work how name task = record {
+  reads = true;
+  Does = DoneAsJudged (prints_text task.work) (RanShown how name task);
+  Ends = EndsOver task.explain;
+}
 
 abbrev pub RanIf : Bool → Scope → Input → RunClaim
 RanIf true scope input task = RanPast (names_without task.work) scope input task

@@ -65,6 +65,17 @@ reads_first work.Diff input = true
 reads_first (work.Part part) input = shows_changes part.show || is_standard input
 reads_first work.Serve input = false
 
+-- How a work shows the formatting of the whole text of an input, if it does, and if the text is read before the work.
+abbrev pub formatting_shown : Work → Input → Option Show
+formatting_shown work.Events input = None
+formatting_shown (work.Check without) input = None
+formatting_shown work.Print Standard = Some show.Text
+formatting_shown work.Print (File name) = None
+formatting_shown work.Compare input = Some show.Place
+formatting_shown work.Diff input = Some show.Diff
+formatting_shown (work.Part part) input = None
+formatting_shown work.Serve input = None
+
 -- The names of the rules to leave out, if the work is a check.
 abbrev pub names_without : Work → Option (List (List ℕ))
 names_without (work.Check without) = Some without.items

@@ -9,6 +9,7 @@ ghost use Rattle.yf_guard.specs.declared.guarded.Guarded.TheVariants.{Vault};
 ghost use Rattle.yf_rules.specs.Runs.ByteStream.{stream_of};
 
 use crate::each::name_of;
+use crate::formatted::{formatting_shown, show_past};
 use crate::further::{report_input, tell_findings};
 use crate::program::run;
 use crate::scope::{Scope, left_out_line};
@@ -161,6 +162,27 @@ fn work_past<R: Source, W: Sink, E: Sink>(
     ensures { RanPast None scope.now input.now task.now result (stream_of R.remaining R.has_failed reader.old)
         (stream_of R.remaining R.has_failed reader.new) streams.old streams.new }
 {
+    match formatting_shown(&task.work, input) {
+        Some(show) => {
+            let name = name_of(scope, input);
+            show_past(alloc, task, show, name, reader, streams)
+        }
+        None => judge_past(alloc, task, scope, input, reader, streams),
+    }
+}
+
+// Does a work as `work_past` does. If the text passes, the work reads it itself.
+fn judge_past<R: Source, W: Sink, E: Sink>(
+    alloc: Global,
+    task: &Task,
+    scope: &Scope,
+    input: &Input,
+    reader: &mut R,
+    streams: &mut Streams<W, E>,
+) -> u8
+    ensures { RanPast None scope.now input.now task.now result (stream_of R.remaining R.has_failed reader.old)
+        (stream_of R.remaining R.has_failed reader.new) streams.old streams.new }
+{
     let mut bytes = Vec::new(alloc);
     let reads = reads_first(&task.work, input);
     let name = name_of(scope, input);
@@ -198,8 +220,8 @@ fn do_as_judged<W: Sink, E: Sink>(
     }
 }
 
-// Says that a text is encrypted, and prints it as it is if the work prints texts. Returns the status.
-fn do_encrypted<W: Sink, E: Sink>(task: &Task, bytes: &[u8], streams: &mut Streams<W, E>) -> u8
+/// Says that a text is encrypted, and prints it as it is if the work prints texts. Returns the status.
+pub fn do_encrypted<W: Sink, E: Sink>(task: &Task, bytes: &[u8], streams: &mut Streams<W, E>) -> u8
     ensures { DoneUnpassed (prints_text task.now.work) Verdict.Encrypted bytes.now result streams.old streams.new }
 {
     let prints = prints_text(&task.work);
@@ -209,8 +231,8 @@ fn do_encrypted<W: Sink, E: Sink>(task: &Task, bytes: &[u8], streams: &mut Strea
     tell_left(streams)
 }
 
-// Says that a text is no data, and prints it as it is if the work prints texts. Returns the status.
-fn do_no_data<W: Sink, E: Sink>(
+/// Says that a text is no data, and prints it as it is if the work prints texts. Returns the status.
+pub fn do_no_data<W: Sink, E: Sink>(
     task: &Task,
     finding: &Finding,
     bytes: &[u8],

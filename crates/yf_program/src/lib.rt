@@ -6,6 +6,7 @@
 
 pub mod answer;
 pub mod each;
+pub mod formatted;
 pub mod further;
 pub mod judged;
 pub mod left;

@@ -1,12 +1,13 @@
 //! Formatting a text.
-ghost use Rattle.std.specs.Prelude.{◌≤◌, length, IfErr, IfOk};
+ghost use Rattle.std.specs.Prelude.{◌≡◌, ◌≤◌, length, IfErr, IfOk};
 ghost use Rattle.std.specs.Str.{IsUtf8};
 ghost use Rattle.std.specs.String.{string_bytes};
 ghost use Rattle.yf_events.specs.declared.reading.TheConstants.{LONGEST};
 ghost use Rattle.yf_laws.specs.FormatPromises.{FormatKept};
 ghost use Rattle.yf_rules.specs.Headline.{Headline};
+ghost use Rattle.yf_rules.specs.declared.run.TheConstants.{INPUT_LIMIT};
 ghost use Rattle.yf_stream.specs.ReadingOf.{ReadingOf};
-ghost use Rattle.yf_stream.specs.StreamReader.{StreamFault};
+ghost use Rattle.yf_stream.specs.StreamReader.{StreamFault, TheReading};
 
 use std::alloc::{AllocError, Global};
 use yf_events::reading::Reading;
@@ -53,10 +54,33 @@ pub fn format(alloc: Global, text: &str, style: &Style) -> Result<String, Fault>
     ensures within { IfOk result (λ formatted. length (string_bytes formatted) ≤ LONGEST) }
     ensures refuses { IfErr result (StreamFault text.now) }
 {
+    match read_stream(alloc, text) {
+        Ok(reading) => format_reading(alloc, text, reading, style),
+        Err(fault) => Err(fault),
+    }
+}
+
+/// Returns a stream in the house style from its reading, as `format` does.
+///
+/// # Errors
+///
+/// `Fault::Memory` if memory is refused, or if the formatted text would have more than `LONGEST` bytes.
+pub fn format_reading(
+    alloc: Global,
+    text: &str,
+    reading: Reading,
+    style: &Style,
+) -> Result<String, Fault>
+    requires fits { length text.now ≤ INPUT_LIMIT }
+    requires reads { TheReading text.now reading }
+    ensures headline { IfOk result (λ formatted. Headline text.now style.now (string_bytes formatted)) }
+    ensures keeps { IfOk result (λ formatted. FormatKept text.now style.now (string_bytes formatted)) }
+    ensures within { IfOk result (λ formatted. length (string_bytes formatted) ≤ LONGEST) }
+    ensures refused { IfErr result (λ fault. fault ≡ Fault.Memory) }
+{
     formattings_hold();
-    let reading = read_stream(alloc, text)?;
     match formatted(alloc, text, reading, style) {
         Ok(output) => Ok(output),
-        Err(_) => Err(Fault::Memory),
+        Err(AllocError) => Err(Fault::Memory),
     }
 }

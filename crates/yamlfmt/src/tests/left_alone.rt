@@ -1,9 +1,9 @@
-//! The whole program over files in memory with texts that are no data, and over inputs with names.
+//! The whole program over files in memory: texts that are no data, texts that are, and inputs with names.
 
 use crate::tests::answers::words_of;
 use crate::tests::left_alone_reports::REPORT_ROWS;
 use crate::tests::left_alone_rows::{ROWS, Row};
-use crate::tests::named_rows;
+use crate::tests::{formatted_rows, named_rows};
 use std::alloc::{AllocError, Global};
 use yf_files::{FileSystem, MemoryFiles};
 use yf_host::memory_inputs::{MemoryInputs, Stored};
@@ -59,6 +59,13 @@ fn texts_that_are_no_data_are_left_alone(rt: HostRuntime) {
 #[test]
 fn inputs_have_names(rt: HostRuntime) {
     for row in &named_rows::ROWS {
+        assert!(rt; answers_line(rt.alloc(), row), "{}", row.1);
+    }
+}
+
+#[test]
+fn texts_that_are_data_are_formatted(rt: HostRuntime) {
+    for row in &formatted_rows::ROWS {
         assert!(rt; answers_line(rt.alloc(), row), "{}", row.1);
     }
 }

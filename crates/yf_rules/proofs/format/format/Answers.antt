@@ -1,17 +1,12 @@
-use Rattle.std.proofs.Common.{◌≤◌, length}
-use Rattle.yf_stream.specs.StreamReader.{for_memory}
-use Rattle.yf_rules.specs.declared.run.TheConstants.{INPUT_LIMIT}
-use Rattle.yf_rules.proofs.HeadlineHolds.{headline_holds, within_limit}
+use Rattle.std.proofs.Common.{subst, sym}
+use Rattle.std.proofs.lemmas.Result.{IfErr-weaker}
+use Rattle.yf_stream.specs.StreamReader.{StreamFault, for_memory}
+use Rattle.yf_rules.proofs.HeadlineHolds.{within_limit}
 use Rattle.yf_rules.proofs.format.format.Goals as goal
 
-pub returns-in-Ok-clause-headline : goal.returns-in-Ok-clause-headline
-returns-in-Ok-clause-headline c =
-    let within : length c.args.text.now ≤ INPUT_LIMIT = within_limit c.args.text.now _ c.in_ok-reading.ensures.long in
-    headline_holds c.formattings_hold.ensures within c.utf8.text (c.in-Ok.ensures.keeps c.utf8.text c.in_ok-reading.ensures.reads.reads)
-    c.in-Ok.ensures.within
+pub format_reading-requires-clause-fits : goal.format_reading-requires-clause-fits
+format_reading-requires-clause-fits c = within_limit c.args.text.now _ c.in-Ok.ensures.long
 
-pub returns-in-Ok-clause-keeps : goal.returns-in-Ok-clause-keeps
-returns-in-Ok-clause-keeps c = c.in-Ok.ensures.keeps c.utf8.text c.in_ok-reading.ensures.reads.reads
-
-pub returns-in-Err-clause-refuses : goal.returns-in-Err-clause-refuses
-returns-in-Err-clause-refuses c = for_memory
+pub returns-in-Ok-clause-refuses : goal.returns-in-Ok-clause-refuses
+returns-in-Ok-clause-refuses c =
+    IfErr-weaker c.format_reading.result _ _ (λ fault same. subst (StreamFault c.args.text.now) (sym same) for_memory) c.format_reading.ensures.refused
