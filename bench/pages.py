@@ -26,7 +26,7 @@ ITEM = re.compile(r'[A-Za-z]\w*(::\w+)*')
 EXAMPLE = re.compile(r'\b[A-Z]+_|_[A-Z]+\b|_$|vV')
 # Names of examples, of other programs and of the standard library.
 FOREIGN = set('''my_rule my_rule_at my_setting_of my_setting_at MyRule AllocError from_residual
-    Default_Ignorable_Code_Point RT_JOBS O_CREAT O_EXCL PIP_FIND_LINKS GLIBC_TUNABLES same_Some or_parts
+    Default_Ignorable_Code_Point RT_JOBS O_CREAT O_EXCL PIP_FIND_LINKS same_Some or_parts
     or_cases yf_name didChange didSave previousResultId'''.split())
 UNITS = ('zero one two three four five six seven eight nine ten eleven twelve thirteen fourteen fifteen sixteen '
          'seventeen eighteen nineteen').split()

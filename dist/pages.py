@@ -34,11 +34,25 @@ class Option:
 
 
 @dataclasses.dataclass
+class Argument:
+    name: str  # 'FILE', 'FILE ...', 'NAME'
+    about: str
+    values: list  # the names that it may be; of a file, none
+
+
+@dataclasses.dataclass
 class Command:
     name: str
     about: str
     options: list
-    arguments: list  # pairs of a name and what it is
+    arguments: list
+
+    def takes_files(self):
+        return any(not argument.values for argument in self.arguments)
+
+    def names(self):
+        """The names that its arguments may be."""
+        return [name for argument in self.arguments for name in argument.values]
 
     def is_help(self):
         """Whether it is the command `help`, which takes the name of another command."""
@@ -77,14 +91,13 @@ def options(lines):
     return [Option(row[1] or '', row[2], row[3] or '', row[4]) for row in rows(pattern, lines)]
 
 
-def values(program, name, option):
-    """The possible values of an option that takes no FILE, LINES or NAME: the refusal of a wrong value lists them."""
-    if option.value in ('', 'FILE', 'LINES', 'NAME'):
-        return []
-    refusal = subprocess.run([program, name, option.long + '='], stderr=subprocess.PIPE, text=True, stdin=subprocess.DEVNULL).stderr
+def values(program, *words):
+    """The possible values of an option or an argument: the refusal of the words, which give it a wrong value, lists
+    them."""
+    refusal = subprocess.run([program, *words], stderr=subprocess.PIPE, text=True, stdin=subprocess.DEVNULL).stderr
     listed = re.search(r'\[possible values: (.+)\]', refusal)
     if not listed:
-        sys.exit('the values of %s are not known: %r' % (option.long, refusal))
+        sys.exit('the values of %s are not known: %r' % (' '.join(words), refusal))
     return listed[1].split(', ')
 
 
@@ -93,8 +106,12 @@ def command(program, name, about):
     if name == 'help':
         return Command(name, about, [], [])
     _, found = parts(said(program, name, '--help'))
-    taken = [dataclasses.replace(option, values=values(program, name, option)) for option in options(found.get('Options', []))]
-    arguments = [(row[1] + (' ...' if row[2] else ''), row[3])
+    # An option with a FILE, LINES or a NAME takes any text, and an argument FILE too.
+    taken = [option if option.value in ('', 'FILE', 'LINES', 'NAME')
+             else dataclasses.replace(option, values=values(program, name, option.long + '='))
+             for option in options(found.get('Options', []))]
+    arguments = [Argument(row[1] + (' ...' if row[2] else ''), row[3],
+                          [] if row[1] == 'FILE' else values(program, name, '='))
                  for row in rows(r' +\[(\w+)\](\.\.\.)?  +(.+)', found.get('Arguments', []))]
     return Command(name, about, taken, arguments)
 
@@ -122,7 +139,7 @@ def synopsis(commands):
     for one in commands:
         words = ['\\fByamlfmt %s\\fR' % one.name]
         words += ['[%s]' % roff_option(dataclasses.replace(option, short='')) for option in one.options if option.long != '--help']
-        words += ['[\\fI%s\\fR]' % name for name, _ in one.arguments] + ['[\\fICOMMAND\\fR]'] * one.is_help()
+        words += ['[\\fI%s\\fR]' % argument.name for argument in one.arguments] + ['[\\fICOMMAND\\fR]'] * one.is_help()
         yield from (' '.join(words), '.br')
     yield '\\fByamlfmt\\fR \\fB\\-\\-version\\fR'
 
@@ -134,8 +151,8 @@ def described(option):
 def man_commands(commands):
     for one in commands:
         yield from ('.SS yamlfmt ' + one.name, roff(one.about) + '.')
-        for name, about in one.arguments:
-            yield from ('.TP', '\\fI%s\\fR' % name, roff(about) + '.')
+        for argument in one.arguments:
+            yield from ('.TP', '\\fI%s\\fR' % argument.name, roff(argument.about) + '.')
         for option in one.options:
             yield from described(option)
 
@@ -173,8 +190,9 @@ def bash(program):
     names = [one.name for one in commands]
     cases = ["        '') offered='%s %s' ;;" % (' '.join(names), names_of(own))]
     for one in commands:
-        files = ' files=yes' if one.arguments else ''
-        cases.append("        %s) offered='%s'%s ;;" % (one.name, names_of(one.options) or ' '.join(names), files))
+        files = ' files=yes' if one.takes_files() else ''
+        offered = ' '.join([*one.names(), *[name for option in one.options for name in option.names()]])
+        cases.append("        %s) offered='%s'%s ;;" % (one.name, offered or ' '.join(names), files))
     valued = {option.long: option for one in commands for option in one.options if option.value}
     after = [bash_value(option) for _, option in sorted(valued.items())]
     return '''\
@@ -227,6 +245,12 @@ def zsh_option(option):
     return "'%s%s'" % (option.long, about)
 
 
+def zsh_argument(place, argument):
+    offered = '(%s)' % ' '.join(argument.values) if argument.values else '_files'
+    many = argument.name.endswith(' ...')
+    return "'%s:%s:%s'" % ('*' if many else place, argument.name.removesuffix(' ...'), offered)
+
+
 def zsh(program):
     _, own, commands = whole(program)
     listed = '\n'.join('        ' + quoted('%s:%s' % (one.name, one.about)) for one in commands)
@@ -236,8 +260,7 @@ def zsh(program):
             cases.append('                %s) _describe -t commands command commands ;;' % one.name)
             continue
         words = [zsh_option(option) for option in one.options]
-        words += ["'%s:%s:_files'" % ('*' if name.endswith(' ...') else place + 1, name.removesuffix(' ...'))
-                  for place, (name, _) in enumerate(one.arguments)]
+        words += [zsh_argument(place + 1, argument) for place, argument in enumerate(one.arguments)]
         cases.append('                %s)\n                    _arguments \\\n                        %s\n                    ;;'
                      % (one.name, ' \\\n                        '.join(words)))
     return '''\
@@ -293,8 +316,10 @@ def fish(program):
     for one in commands:
         when = '__fish_seen_subcommand_from ' + one.name
         lines += [fish_option(when, option) for option in one.options]
-        if one.arguments:
+        if one.takes_files():
             lines.append('complete -c yamlfmt -n %s -F' % fish_quoted(when))
+        elif one.names():
+            lines.append('complete -c yamlfmt -n %s -a %s' % (fish_quoted(when), fish_quoted(' '.join(one.names()))))
         elif one.is_help():
             others = ' '.join(other.name for other in commands if other is not one)
             lines.append('complete -c yamlfmt -n %s -a %s' % (fish_quoted(when), fish_quoted(others)))

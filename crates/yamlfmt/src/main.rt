@@ -26,6 +26,7 @@ use yf_lines::fault::Fault;
 use yf_lines::watched::Watched;
 use yf_program::answer::answer;
 use yf_program::left::{LEFT, Noting, Silenced};
+use yf_rule_pages::pages::PAGES;
 use yf_rules::input::read_all;
 use yf_rules::run::INPUT_LIMIT;
 
@@ -85,7 +86,7 @@ fn answer_words(rt: &HostRuntime, words: &[String], has_left: &Cell<bool>) -> u8
         output: Watched::new(output),
         errors,
     };
-    answer(rt.alloc(), words, &mut sources, &mut streams)
+    answer(rt.alloc(), words, &PAGES, &mut sources, &mut streams)
 }
 
 /// The explanation of a file that can be opened, but not read or not read completely.

@@ -11,6 +11,7 @@ mod comments;
 mod crates_below;
 mod events;
 mod excluded_rows;
+mod explanations;
 mod failing_files;
 mod faulty;
 mod files;

@@ -1,8 +1,8 @@
--- Each line of words either asks for one request or is refused, and never both: `AsksFor` and `RefusesWords` are exact.
--- The only refusal that is possible for any words is that of memory.
+-- Each line of words asks for one request, asks for a text or is refused: `AsksFor` and `RefusesWords` are exact. Words
+-- that ask for a request do nothing else, and words for which `explain` prints a text are not refused. The only refusal
+-- that is possible for any words is that of memory.
 use Rattle.std.proofs.Common.{◌≡◌, ◌≢◌, ◌⊎◌, ◌||◌, ℕ, Bool, true, false, List, [], ◌∷◌, codes}
 use Rattle.std.proofs.Common.{Vec, Option, Some, None, refl, sym, ap, subst, ◌∙◌, inl, inr, arith}
-use Rattle.std.proofs.Common.{slice_index}
 use Rattle.std.proofs.lemmas.Bool.{false≢true}
 use Rattle.std.proofs.lemmas.Option.{same_Some}
 use Rattle.std.proofs.lemmas.Slice.Eq.{bytes_eq-Decides}
@@ -13,11 +13,11 @@ use Rattle.clap.specs.declared.error.kind.ErrorKind.{ErrorKind}
 use Rattle.clap.specs.declared.error.kind.ErrorKind.TheVariants.{DisplayHelp, DisplayVersion}
 use Rattle.yf_line_ranges.specs.declared.range.LineRange.{LineRange}
 use Rattle.yf_command_line.specs.Options.{yamlfmt}
-use Rattle.yf_command_line.specs.Requests.{AsksFor, AsksText, IsCommand, IsNoCommand, IsNoRequest, IsRequest, Met}
-use Rattle.yf_command_line.specs.Requests.{RefusesWords, files_given, first_input}
+use Rattle.yf_command_line.specs.Requests.{AsksFor, AsksPage, AsksText, Explains, IsCommand, IsNoCommand, IsNoRequest}
+use Rattle.yf_command_line.specs.Requests.{IsRequest, Met, RefusesWords, explained_given, files_given, first_input}
 use Rattle.yf_command_line.specs.Requests.{is_flag, AsksTwice, IsSettings, config_given, stdin_name_given}
 use Rattle.yf_command_line.specs.Requests.{takes_defaults}
-use Rattle.yf_command_line.specs.Requests.IsNoCommand.{other_name, no_check, no_fmt}
+use Rattle.yf_command_line.specs.Requests.IsNoCommand.{other_name, no_check, no_fmt, no_page}
 use Rattle.yf_command_line.specs.declared.command.Command.{Command}
 use Rattle.yf_command_line.specs.declared.command.Command.TheVariants as command
 use Rattle.yf_command_line.specs.declared.command.Input.{Input}
@@ -27,6 +27,8 @@ use Rattle.yf_command_line.specs.declared.command.Settings.TheVariants as asked
 use Rattle.yf_command_line.specs.declared.usage.Usage.TheVariants.{Help, Wrong}
 use Rattle.yf_command_line.proofs.CheckExactness.{SameCheck, check_not_both, check_once, check_or_not}
 use Rattle.yf_command_line.proofs.FmtExactness.{SameFmt, fmt_not_both, fmt_once, fmt_or_not}
+use Rattle.yf_command_line.proofs.RequestLemmas.{not_explained, other_at, other_explain}
+use Rattle.yf_rule_pages.specs.declared.page.Page.{Page}
 
 -- ---- at most one request
 
@@ -37,10 +39,6 @@ SameCommand (command.Check a) (command.Check b) = SameCheck a b
 SameCommand (command.Fmt a) (command.Fmt b) = SameFmt a b
 SameCommand command.Server command.Server = Unit {0}
 SameCommand _ _ = ⊥
-
--- Two texts differ if they differ at an index.
-other_at : (k : ℕ) (a b : Text) → slice_index a k ≢ slice_index b k → a ≢ b
-other_at k a b differ e = differ (ap (λ (l : Text). slice_index l k) e)
 
 -- The names of two commands differ.
 other_names : (codes "events" ≢ codes "check") × (codes "events" ≢ codes "fmt") × (codes "check" ≢ codes "fmt")
@@ -75,20 +73,21 @@ command_once rules name given command.Server (command.Fmt b) p q = absurd (other
 
 -- ---- not both
 
-command_not_both : (rules : List Text) (name : Text) (given : List Row) (a : Command)
-    → IsCommand rules name given a → IsNoCommand rules name given → ⊥
-command_not_both rules name given (command.Events a) p (other_name e c f s) = e p.0
-command_not_both rules name given (command.Events a) p (no_check n r) = other_names.0 (sym p.0 ∙ n)
-command_not_both rules name given (command.Events a) p (no_fmt n r) = other_names.1 (sym p.0 ∙ n)
-command_not_both rules name given (command.Check a) p (other_name e c f s) = c p.0
-command_not_both rules name given (command.Check a) p (no_check n r) = check_not_both rules given a p.1 r
-command_not_both rules name given (command.Check a) p (no_fmt n r) = other_names.2 (sym p.0 ∙ n)
-command_not_both rules name given (command.Fmt a) p (other_name e c f s) = f p.0
-command_not_both rules name given (command.Fmt a) p (no_check n r) = other_names.2 (sym n ∙ p.0)
-command_not_both rules name given (command.Fmt a) p (no_fmt n r) = fmt_not_both given a p.1 r
-command_not_both rules name given command.Server p (other_name e c f s) = s p
-command_not_both rules name given command.Server p (no_check n r) = other_names.4 (sym n ∙ p)
-command_not_both rules name given command.Server p (no_fmt n r) = other_names.5 (sym n ∙ p)
+command_not_both : (rules : List Text) (pages : List Page) (name : Text) (given : List Row) (a : Command)
+    → IsCommand rules name given a → IsNoCommand rules pages name given → ⊥
+command_not_both rules pages name given (command.Events a) p (other_name e c f s x) = e p.0
+command_not_both rules pages name given (command.Events a) p (no_check n r) = other_names.0 (sym p.0 ∙ n)
+command_not_both rules pages name given (command.Events a) p (no_fmt n r) = other_names.1 (sym p.0 ∙ n)
+command_not_both rules pages name given (command.Check a) p (other_name e c f s x) = c p.0
+command_not_both rules pages name given (command.Check a) p (no_check n r) = check_not_both rules given a p.1 r
+command_not_both rules pages name given (command.Check a) p (no_fmt n r) = other_names.2 (sym p.0 ∙ n)
+command_not_both rules pages name given (command.Fmt a) p (other_name e c f s x) = f p.0
+command_not_both rules pages name given (command.Fmt a) p (no_check n r) = other_names.2 (sym n ∙ p.0)
+command_not_both rules pages name given (command.Fmt a) p (no_fmt n r) = fmt_not_both given a p.1 r
+command_not_both rules pages name given command.Server p (other_name e c f s x) = s p
+command_not_both rules pages name given command.Server p (no_check n r) = other_names.4 (sym n ∙ p)
+command_not_both rules pages name given command.Server p (no_fmt n r) = other_names.5 (sym n ∙ p)
+command_not_both rules pages name given a p (no_page n none) = not_explained rules name given a p n
 
 settings_once : (given : List Row) (a b : Settings) → IsSettings given a → IsSettings given b → a ≡ b
 settings_once given asked.Nearest asked.Nearest p q = refl
@@ -139,55 +138,111 @@ pub asks_once : (rules words : List Text) (a b : Request) → AsksFor rules word
     → SameRequest a b
 asks_once rules words a b p q = met_once rules _ _ a b p.1 q.1
 
-met_not_both : (rules : List Text) (before : List Row) (met : Met) (a : Request) → IsRequest rules before met a
-    → IsNoRequest rules met → ⊥
-met_not_both rules before met a p refusal =
-    elim (subst (λ (m : Met). IsNoRequest rules m) p.named refusal) [
-      | inl command ↦ command_not_both rules p.name p.given a.command p.command command
-      | inr twice ↦ settings_not_both p.given a.settings p.settings twice
+met_not_both : (rules : List Text) (pages : List Page) (before : List Row) (met : Met) (a : Request)
+    → IsRequest rules before met a → IsNoRequest rules pages met → ⊥
+met_not_both rules pages before met a p refusal =
+    elim (subst (λ (m : Met). IsNoRequest rules pages m) p.named refusal) [
+      | inl command ↦ command_not_both rules pages p.name p.given a.command p.command command
+      | inr twice ↦ settings_not_both p.given a.settings p.settings twice.1
     ]
+
+-- Words that ask for what `explain` prints ask for no request.
+met_not_explained : (rules : List Text) (pages : List Page) (before : List Row) (met : Met) (a : Request) (text : Text)
+    → IsRequest rules before met a → AsksPage pages met text → ⊥
+met_not_explained rules pages before met a text p page =
+    let explains : Explains pages p.name p.given text = subst (λ (m : Met). AsksPage pages m text) p.named page in
+    not_explained rules p.name p.given a.command p.command explains.0
+
+command_not_explained : (rules : List Text) (pages : List Page) (name : Text) (given : List Row) (text : Text)
+    → Explains pages name given text → IsNoCommand rules pages name given → ⊥
+command_not_explained rules pages name given text page (other_name e c f s x) = x page.0
+command_not_explained rules pages name given text page (no_check n r) = other_explain.1 (sym n ∙ page.0)
+command_not_explained rules pages name given text page (no_fmt n r) = other_explain.2 (sym n ∙ page.0)
+command_not_explained rules pages name given text page (no_page n none) = cc
+
+-- Words for which `explain` prints a text are not refused.
+pub page_not_refused : (rules : List Text) (pages : List Page) (met : Met) (text : Text)
+    → AsksPage pages met text → IsNoRequest rules pages met → ⊥
+page_not_refused rules pages None text page refusal = page
+page_not_refused rules pages (Some m) text page (inl none) = command_not_explained rules pages m.0 m.1 text page none
+page_not_refused rules pages (Some m) text page (inr twice) = twice.0 page.0
+
+-- What `explain` prints is one text.
+pub page_once : (pages : List Page) (met : Met) (a b : Text) → AsksPage pages met a → AsksPage pages met b → a ≡ b
+page_once pages None a b p q = absurd p
+page_once pages (Some m) a b p q = same_Some _ _ (sym p.1 ∙ q.1)
 
 none_among : (kind : ErrorKind) (kinds : List ErrorKind) → kinds ≡ [] → IsAmong kind kinds → ⊥
 none_among kind [] none among = among
 none_among kind (k ∷ ks) none among = cc
 
 -- No line of words both asks for a request and is refused, unless memory runs out.
-pub not_refused : (rules words : List Text) (a : Request) (text : List ℕ) → AsksFor rules words a
-    → RefusesWords rules words (Wrong text) ⊎ RefusesWords rules words (Help text) → ⊥
-not_refused rules words a text p (inl (inl w)) = none_among w.0 _ p.0 w.2
-not_refused rules words a text p (inl (inr w)) = met_not_both rules _ _ a p.1 w.1
-not_refused rules words a text p (inr w) = none_among w.0 _ p.0 w.2
+pub not_refused : (rules : List Text) (pages : List Page) (words : List Text) (a : Request) (text : List ℕ)
+    → AsksFor rules words a → RefusesWords rules pages words (Wrong text) ⊎ RefusesWords rules pages words (Help text)
+    → ⊥
+not_refused rules pages words a text p (inl (inl w)) = none_among w.0 _ p.0 w.2
+not_refused rules pages words a text p (inl (inr w)) = met_not_both rules pages _ _ a p.1 w.1
+not_refused rules pages words a text p (inr (inl w)) = none_among w.0 _ p.0 w.2
+not_refused rules pages words a text p (inr (inr w)) = met_not_explained rules pages _ _ a text p.1 w.1
 
--- ---- at least one of the two. The proof assumes only that vectors with given items exist.
+-- ---- at least one of these. The proof assumes only that vectors with given items exist.
+
+-- A text is a word or differs from it.
+same_by : (text word : Text) (same : Bool) → bytes_eq text word ≡ same → (text ≡ word) ⊎ (text ≢ word)
+same_by text word true eq = inl ((bytes_eq-Decides text word).0 eq)
+same_by text word false eq = inr (λ e. absurd (false≢true (sym eq ∙ (bytes_eq-Decides text word).1 e)))
+
+same_or_other : (text word : Text) → (text ≡ word) ⊎ (text ≢ word)
+same_or_other text word = same_by text word _ refl
 
 module _ (inputs : List Input → Vec Input Global) (inputs_are : (l : List Input) → (inputs l).items ≡ l)
     (texts : List Text → Vec Text Global) (texts_are : (l : List Text) → (texts l).items ≡ l)
     (ranges : List LineRange → Vec LineRange Global) (ranges_are : (l : List LineRange) → (ranges l).items ≡ l) where
-  command_by : (rules : List Text) (name : Text) (given : List Row) (e c f s : Bool)
-      → bytes_eq name (codes "events") ≡ e → bytes_eq name (codes "check") ≡ c → bytes_eq name (codes "fmt") ≡ f
-      → bytes_eq name (codes "server") ≡ s → ((a : Command) × IsCommand rules name given a) ⊎ IsNoCommand rules name given
-  command_by rules name given true c f s pe pc pf ps =
-      inl (command.Events (first_input (files_given given)), ((bytes_eq-Decides name (codes "events")).0 pe, refl))
-  command_by rules name given false true f s pe pc pf ps =
-      let named : name ≡ codes "check" = (bytes_eq-Decides name (codes "check")).0 pc in
+  -- A command, or what `explain` prints, or why there is neither.
+  abbrev Way : List Text → List Page → Text → List Row → Type 0
+  Way rules pages name given =
+      ((a : Command) × IsCommand rules name given a)
+      ⊎ (((text : Text) × Explains pages name given text) ⊎ IsNoCommand rules pages name given)
+
+  check_way : (rules : List Text) (pages : List Page) (name : Text) (given : List Row) → name ≡ codes "check"
+      → Way rules pages name given
+  check_way rules pages name given named =
       elim (check_or_not inputs inputs_are texts texts_are rules given) [
         | inl a ↦ inl (command.Check a.0, (named, a.1))
-        | inr no_way ↦ inr (no_check named no_way)
+        | inr no_way ↦ inr (inr (no_check named no_way))
       ]
-  command_by rules name given false false true s pe pc pf ps =
-      let named : name ≡ codes "fmt" = (bytes_eq-Decides name (codes "fmt")).0 pf in
+
+  fmt_way : (rules : List Text) (pages : List Page) (name : Text) (given : List Row) → name ≡ codes "fmt"
+      → Way rules pages name given
+  fmt_way rules pages name given named =
       elim (fmt_or_not inputs inputs_are texts texts_are ranges ranges_are given) [
         | inl a ↦ inl (command.Fmt a.0, (named, a.1))
-        | inr no_way ↦ inr (no_fmt named no_way)
+        | inr no_way ↦ inr (inr (no_fmt named no_way))
       ]
-  command_by rules name given false false false true pe pc pf ps =
-      inl (command.Server, (bytes_eq-Decides name (codes "server")).0 ps)
-  command_by rules name given false false false false pe pc pf ps =
-      inr (other_name
-      (λ e. absurd (false≢true (sym pe ∙ (bytes_eq-Decides name (codes "events")).1 e)))
-      (λ e. absurd (false≢true (sym pc ∙ (bytes_eq-Decides name (codes "check")).1 e)))
-      (λ e. absurd (false≢true (sym pf ∙ (bytes_eq-Decides name (codes "fmt")).1 e)))
-      (λ e. absurd (false≢true (sym ps ∙ (bytes_eq-Decides name (codes "server")).1 e))))
+
+  explain_way : (rules : List Text) (pages : List Page) (name : Text) (given : List Row) (page : Option Text)
+      → name ≡ codes "explain" → explained_given pages given ≡ page → Way rules pages name given
+  explain_way rules pages name given (Some text) named is = inr (inl (text, (named, is)))
+  explain_way rules pages name given None named none = inr (inr (no_page named none))
+
+  way : (rules : List Text) (pages : List Page) (name : Text) (given : List Row) → Way rules pages name given
+  way rules pages name given =
+      elim (same_or_other name (codes "events")) [
+        | inl is ↦ inl (command.Events (first_input (files_given given)), (is, refl))
+        | inr e ↦ elim (same_or_other name (codes "check")) [
+          | inl is ↦ check_way rules pages name given is
+          | inr c ↦ elim (same_or_other name (codes "fmt")) [
+            | inl is ↦ fmt_way rules pages name given is
+            | inr f ↦ elim (same_or_other name (codes "server")) [
+              | inl is ↦ inl (command.Server, is)
+              | inr s ↦ elim (same_or_other name (codes "explain")) [
+                | inl is ↦ explain_way rules pages name given _ is refl
+                | inr x ↦ inr (inr (other_name e c f s x))
+              ]
+            ]
+          ]
+        ]
+      ]
 
   settings_by : (given : List Row) (d : Bool) (c : Option Text) → takes_defaults given ≡ d → config_given given ≡ c
       → ((a : Settings) × IsSettings given a) ⊎ AsksTwice given
@@ -199,11 +254,16 @@ module _ (inputs : List Input → Vec Input Global) (inputs_are : (l : List Inpu
   settings_or_not : (given : List Row) → ((a : Settings) × IsSettings given a) ⊎ AsksTwice given
   settings_or_not given = settings_by given _ _ refl refl
 
-  met_or_not : (rules : List Text) (before : List Row) (met : Met)
-      → ((a : Request) × IsRequest rules before met a) ⊎ IsNoRequest rules met
-  met_or_not rules before None = inr tt
-  met_or_not rules before (Some m) =
-      elim (command_by rules m.0 m.1 _ _ _ _ refl refl refl refl) [
+  -- A request, or what `explain` prints, or why there is neither.
+  abbrev Outcome : List Text → List Page → List Row → Met → Type 0
+  Outcome rules pages before met =
+      ((a : Request) × IsRequest rules before met a)
+      ⊎ (((text : Text) × AsksPage pages met text) ⊎ IsNoRequest rules pages met)
+
+  outcome : (rules : List Text) (pages : List Page) (before : List Row) (met : Met) → Outcome rules pages before met
+  outcome rules pages before None = inr (inr tt)
+  outcome rules pages before (Some m) =
+      elim (way rules pages m.0 m.1) [
         | inl a ↦ elim (settings_or_not m.1) [
           | inl s ↦ inl (
             record {
@@ -228,9 +288,10 @@ module _ (inputs : List Input → Vec Input Global) (inputs_are : (l : List Inpu
               stdin_name = refl;
             },
           )
-          | inr twice ↦ inr (inr twice)
+          | inr twice ↦ inr (inr (inr (not_explained rules m.0 m.1 a.0 a.1, twice)))
         ]
-        | inr no_way ↦ inr (inl no_way)
+        | inr (inl page) ↦ inr (inl page)
+        | inr (inr no_way) ↦ inr (inr (inl no_way))
       ]
 
   asks_text : (kind : ErrorKind) → AsksText kind ⊎ (¬ AsksText kind)
@@ -238,24 +299,30 @@ module _ (inputs : List Input → Vec Input Global) (inputs_are : (l : List Inpu
   asks_text DisplayVersion = inl (inr refl)
   asks_text _ = inr (λ a. elim a [ inl e ↦ cc | inr e ↦ cc ])
 
-  kinds_by : (rules words : List Text) (text : List ℕ) (kinds : List ErrorKind) → fault_of yamlfmt words ≡ kinds
-      → ((a : Request) × AsksFor rules words a)
-      ⊎ (RefusesWords rules words (Wrong text) ⊎ RefusesWords rules words (Help text))
-  kinds_by rules words text [] e =
-      elim (met_or_not rules (matches_of yamlfmt words) (subcommand_of yamlfmt words)) [
+  -- (text: any text of a refusal or of help)
+  abbrev AsksOrIsRefused : List Text → List Page → List Text → List ℕ → Type 0
+  AsksOrIsRefused rules pages words text =
+      ((a : Request) × AsksFor rules words a)
+      ⊎ (RefusesWords rules pages words (Wrong text)
+      ⊎ ((printed : List ℕ) × RefusesWords rules pages words (Help printed)))
+
+  kinds_by : (rules : List Text) (pages : List Page) (words : List Text) (text : List ℕ) (kinds : List ErrorKind)
+      → fault_of yamlfmt words ≡ kinds → AsksOrIsRefused rules pages words text
+  kinds_by rules pages words text [] e =
+      elim (outcome rules pages (matches_of yamlfmt words) (subcommand_of yamlfmt words)) [
         | inl a ↦ inl (a.0, (e, a.1))
-        | inr no_way ↦ inr (inl (inr (e, no_way)))
+        | inr (inl page) ↦ inr (inr (page.0, inr (e, page.1)))
+        | inr (inr no_way) ↦ inr (inl (inr (e, no_way)))
       ]
-  kinds_by rules words text (kind ∷ kinds) e =
+  kinds_by rules pages words text (kind ∷ kinds) e =
       let among : IsAmong kind (fault_of yamlfmt words) =
       subst (λ (l : List ErrorKind). IsAmong kind l) (sym e) (inl refl) in
       elim (asks_text kind) [
-        | inl a ↦ inr (inr (kind, a, among))
+        | inl a ↦ inr (inr (text, inl (kind, a, among)))
         | inr n ↦ inr (inl (inl (kind, n, among)))
       ]
 
-  -- A line of words asks for a request or is refused.
-  pub asks_or_is_refused : (rules words : List Text) (text : List ℕ)
-      → ((a : Request) × AsksFor rules words a)
-      ⊎ (RefusesWords rules words (Wrong text) ⊎ RefusesWords rules words (Help text))
-  asks_or_is_refused rules words text = kinds_by rules words text _ refl
+  -- A line of words asks for a request, is refused, or asks for a text.
+  pub asks_or_is_refused : (rules : List Text) (pages : List Page) (words : List Text) (text : List ℕ)
+      → AsksOrIsRefused rules pages words text
+  asks_or_is_refused rules pages words text = kinds_by rules pages words text _ refl

@@ -66,6 +66,10 @@ lines_option = record (new_rule (codes "lines")) { long = Some (codes "lines"); 
 abbrev pub stdio_flag : Rule
 stdio_flag = record (new_rule (codes "stdio")) { long = Some (codes "stdio"); action = Some SetTrue }
 
+-- `NAME`
+abbrev pub name_word : Rule
+name_word = record (new_rule (codes "name")) { value_names = 1 }
+
 -- `FILE`
 abbrev pub file_word : Rule
 file_word = record (new_rule (codes "file")) { value_names = 1 }
@@ -82,7 +86,7 @@ with_config name = with_rule (new_app name) config_option
 abbrev pub with_defaults : Text → App
 with_defaults name = with_rule (with_config name) no_config_flag
 
--- SETTINGS, the words that every command takes: `NAME [--config FILE] [--no-config] [--show-settings]`
+-- SETTINGS, the words of every command but `explain`: `NAME [--config FILE] [--no-config] [--show-settings]`
 abbrev pub with_settings : Text → App
 with_settings name = with_rule (with_defaults name) show_settings_flag
 
@@ -116,6 +120,10 @@ writing_command = with_rule (with_rule formatting_command lines_option) file_wor
 abbrev pub serving_command : App
 serving_command = with_rule (with_settings (codes "server")) stdio_flag
 
+-- `explain [NAME]`
+abbrev pub explaining_command : App
+explaining_command = with_rule (new_app (codes "explain")) name_word
+
 -- A command is required. Without any words, the refusal is the help text. The program's name is not among the words.
 -- There is a version.
 abbrev pub wants_command : Shape → Shape
@@ -133,11 +141,12 @@ bare_command = with_rule (on_top wants_command (new_app (codes "yamlfmt"))) expl
 -- `yamlfmt [--explain] COMMAND`
 unfoldable pub yamlfmt : App
 yamlfmt =
-    with_subcommand (with_subcommand (with_subcommand (with_subcommand bare_command
+    with_subcommand (with_subcommand (with_subcommand (with_subcommand (with_subcommand bare_command
     (reading_command (codes "events")).top)
     checking_command.top)
     writing_command.top)
-    serving_command.top
+    serving_command.top)
+    explaining_command.top
 
 -- An option of one command, which no other command inherits.
 abbrev pub IsOption : Arg → Rule → Type 0

@@ -1,5 +1,6 @@
--- The request that the words of a command line ask for, and when the words are refused. `proofs/Exactness.antt` proves
--- that each line of words either asks for one request or is refused, and never both.
+-- The request that the words of a command line ask for, when they ask for a text instead, and when they are refused.
+-- `proofs/Exactness.antt` proves that each line of words asks for one request, asks for a text or is refused. Words that
+-- ask for a request do nothing else, and words for which `explain` prints a text are not refused.
 use Rattle.std.specs.Prelude.{◌≡◌, ◌≢◌, ◌⊎◌, ◌<◌, ⊤, Bool, true, false, ◌||◌, List, [], ◌∷◌, map, length, codes}
 use Rattle.std.specs.Prelude.{Option, Some, None, unwrap_or, if◌then◌else◌, MatchOption}
 use Rattle.std.specs.Str.{bytes_eq}
@@ -28,6 +29,8 @@ use Rattle.yf_command_line.specs.declared.command.Settings.{Settings}
 use Rattle.yf_command_line.specs.declared.command.Settings.TheVariants as asked
 use Rattle.yf_command_line.specs.declared.usage.Usage.{Usage}
 use Rattle.yf_command_line.specs.declared.usage.Usage.TheVariants.{Help, Wrong, Memory}
+use Rattle.yf_rule_pages.specs.Pages.{explanation}
+use Rattle.yf_rule_pages.specs.declared.page.Page.{Page}
 
 -- ---- the rows of a command: one for each option that is used, and one for its FILEs
 
@@ -75,6 +78,10 @@ files_given given = all_given (codes "file") given
 -- The names of the rules to leave out, in order.
 abbrev pub names_given : List Row → List Text
 names_given given = names_in (all_given (codes "without") given)
+
+-- What `explain` prints: the page of its NAME, or without NAME the list of all pages. None if no page has the name.
+abbrev pub explained_given : List Page → List Row → Option Text
+explained_given pages given = explanation pages (first_of (codes "name") given)
 
 -- How problems are printed, or none if the value of `--format` is not the name of a format.
 abbrev pub output_given : List Row → Option Output
@@ -247,25 +254,54 @@ pub data IsNoCheck (rules : List Text) (given : List Row) : Type 0 where
   -- `--format` with a name that no format has
   no_format : output_given given ≡ None → IsNoCheck rules given
 
--- Why a name and the rows after it are not a command.
-pub data IsNoCommand (rules : List Text) (name : Text) (given : List Row) : Type 0 where
+-- Why a name and the rows after it are not a command. (pages: those that `explain` prints)
+pub data IsNoCommand (rules : List Text) (pages : List Page) (name : Text) (given : List Row) : Type 0 where
   -- no command has the name
   other_name : name ≢ codes "events" → name ≢ codes "check" → name ≢ codes "fmt" → name ≢ codes "server"
-      → IsNoCommand rules name given
+      → name ≢ codes "explain" → IsNoCommand rules pages name given
   -- `check` refuses its rows
-  no_check : name ≡ codes "check" → IsNoCheck rules given → IsNoCommand rules name given
+  no_check : name ≡ codes "check" → IsNoCheck rules given → IsNoCommand rules pages name given
   -- `fmt` refuses its rows
-  no_fmt : name ≡ codes "fmt" → IsNoFmt given → IsNoCommand rules name given
+  no_fmt : name ≡ codes "fmt" → IsNoFmt given → IsNoCommand rules pages name given
+  -- `explain` with a NAME that no page has
+  no_page : name ≡ codes "explain" → explained_given pages given ≡ None → IsNoCommand rules pages name given
 
--- The words name no command, or a command that is refused, or they ask for two settings.
-abbrev pub IsNoRequest : List Text → Met → Type 0
-IsNoRequest rules met = MatchOption met ⊤ (λ m. IsNoCommand rules m.0 m.1 ⊎ AsksTwice m.1)
+-- The words name no command, or a command that is refused, or they ask for two settings. `explain` takes no settings.
+abbrev pub IsNoRequest : List Text → List Page → Met → Type 0
+IsNoRequest rules pages met =
+    MatchOption met ⊤ (λ m. IsNoCommand rules pages m.0 m.1 ⊎ ((m.0 ≢ codes "explain") × AsksTwice m.1))
 
 -- The words are wrong for this reason, or memory for the message was refused.
 abbrev pub RefusedBy : Type 0 → Usage → Type 0
 RefusedBy cause (Help text) = ⊥
 RefusedBy cause (Wrong text) = cause
 RefusedBy cause Memory = ⊤
+
+-- The name and the rows after it are `explain`, and it prints this text.
+abbrev pub Explains : List Page → Text → List Row → Text → Type 0
+Explains pages name given text = (name ≡ codes "explain") × (explained_given pages given ≡ Some text)
+
+-- The words ask for what `explain` prints, and it is this text.
+abbrev pub AsksPage : List Page → Met → Text → Type 0
+AsksPage pages met text = MatchOption met ⊥ (λ m. Explains pages m.0 m.1 text)
+
+-- The result of `explain` with these rows.
+abbrev pub ExplainedBy : List Page → List Row → Usage → Type 0
+ExplainedBy pages given (Help text) = explained_given pages given ≡ Some text
+ExplainedBy pages given (Wrong text) = explained_given pages given ≡ None
+ExplainedBy pages given Memory = ⊤
+
+-- A name and the rows after it make no command: `explain` prints this text, or they are wrong.
+abbrev pub MakesNoCommand : List Text → List Page → Text → List Row → Usage → Type 0
+MakesNoCommand rules pages name given (Help text) = Explains pages name given text
+MakesNoCommand rules pages name given (Wrong text) = IsNoCommand rules pages name given
+MakesNoCommand rules pages name given Memory = ⊤
+
+-- Accepted words make no request: they ask for what `explain` prints, or they are wrong.
+abbrev pub MakesNoRequest : List Text → List Page → Met → Usage → Type 0
+MakesNoRequest rules pages met (Help text) = AsksPage pages met text
+MakesNoRequest rules pages met (Wrong text) = IsNoRequest rules pages met
+MakesNoRequest rules pages met Memory = ⊤
 
 -- The words ask for help or for the version.
 abbrev pub AsksText : ErrorKind → Type 0
@@ -277,11 +313,14 @@ IsUsageOf kind (Help text) = AsksText kind
 IsUsageOf kind (Wrong text) = (¬ AsksText kind) × (kind ≢ OutOfMemory)
 IsUsageOf kind Memory = ⊤
 
--- Help or the version is returned only if the words ask for it. The words are wrong only if they are not accepted and
--- don't ask for help or the version, or if they are accepted and ask for nothing. Memory may be refused for any words.
-abbrev pub RefusesWords : List Text → List Text → Usage → Type 0
-RefusesWords rules words (Help text) = (kind : ErrorKind) × AsksText kind × IsAmong kind (fault_of yamlfmt words)
-RefusesWords rules words (Wrong text) =
+-- A text is returned only if the words ask for it: help or the version, or exactly what `explain` prints. The words are
+-- wrong only if they are not accepted and don't ask for help or the version, or if they are accepted and ask for
+-- nothing. Memory may be refused for any words.
+abbrev pub RefusesWords : List Text → List Page → List Text → Usage → Type 0
+RefusesWords rules pages words (Help text) =
+    ((kind : ErrorKind) × AsksText kind × IsAmong kind (fault_of yamlfmt words))
+    ⊎ ((fault_of yamlfmt words ≡ []) × AsksPage pages (subcommand_of yamlfmt words) text)
+RefusesWords rules pages words (Wrong text) =
     ((kind : ErrorKind) × (¬ AsksText kind) × IsAmong kind (fault_of yamlfmt words))
-    ⊎ ((fault_of yamlfmt words ≡ []) × IsNoRequest rules (subcommand_of yamlfmt words))
-RefusesWords rules words Memory = ⊤
+    ⊎ ((fault_of yamlfmt words ≡ []) × IsNoRequest rules pages (subcommand_of yamlfmt words))
+RefusesWords rules pages words Memory = ⊤

@@ -1,11 +1,12 @@
 //! Parses the words of a command line into a request.
 ghost use Rattle.std.specs.Prelude.{◌≡◌, ◌||◌, codes, map, MatchResult, string_bytes, true, false, []};
 ghost use Rattle.clap.specs.Words.{found_of, rows_of, subcommand_rows_of};
-ghost use Rattle.yf_command_line.specs.Requests.{AsksFor, AsksTwice, IsCheck, IsCommand, IsFmt, IsNoCheck, IsNoCommand};
-ghost use Rattle.yf_command_line.specs.Requests.{IsNoFmt, IsNoRequest, IsRequest, IsSettings, RefusedBy, RefusesWords};
-ghost use Rattle.yf_command_line.specs.Requests.{is_flag, lines_given, writes};
+ghost use Rattle.yf_command_line.specs.Requests.{AsksFor, AsksTwice, IsCheck, IsCommand, IsFmt, IsNoCheck};
+ghost use Rattle.yf_command_line.specs.Requests.{IsNoFmt, IsRequest, IsSettings, MakesNoCommand, MakesNoRequest};
+ghost use Rattle.yf_command_line.specs.Requests.{RefusedBy, RefusesWords, is_flag, lines_given, writes};
 
 use crate::command::{Check, Command, Fmt, Request, Settings};
+use crate::explained::explained;
 use crate::formats::output_met;
 use crate::inputs::{files_of, first_input, has_standard_input, inputs_of};
 use crate::options::{
@@ -21,9 +22,10 @@ use crate::without::{names_in, refusal_of_name, unknown_name};
 use crate::words::{is_given, text_given, value_given, words_given};
 use clap::ArgMatches;
 use std::alloc::Global;
+use yf_rule_pages::page::Page;
 
-/// Parses the words after the program's name into a request. `rules` are the names of all rules. `--explain` may also
-/// come before the command. The commands are:
+/// Parses the words after the program's name into a request. `rules` are the names of all rules, and `pages` what
+/// `explain` prints. `--explain` may also come before the command. The commands are:
 ///
 /// - `events [SETTINGS] [READING] [FILE]`
 /// - `check [SETTINGS] [READING] [--names] [--without RULES] [--format FORMAT] [FILE..]`. RULES are names of rules,
@@ -34,6 +36,7 @@ use std::alloc::Global;
 ///   `--lines` takes at most one FILE. LINES are numbers of lines and ranges, as in `3-7,12`. The option may be given
 ///   more than once.
 /// - `server [SETTINGS] [--stdio]`. It always reads standard input, and `--stdio` changes nothing: editors pass it.
+/// - `explain [NAME]`. It makes no request: what it prints is returned as `Usage::Help`.
 ///
 /// SETTINGS is `--config FILE` or `--no-config`, and `--show-settings`. READING is `--explain`, `--any-text` and
 /// `--stdin-name NAME`.
@@ -42,33 +45,44 @@ use std::alloc::Global;
 ///
 /// # Errors
 ///
-/// - `Usage::Help` for `--help`, `help` and `--version`.
+/// - `Usage::Help` for `--help`, `help` and `--version`; and for `explain`, with the page on NAME, or without NAME the
+///   list of all pages.
 /// - `Usage::Wrong` for all other words, with a text that says why.
 /// - `Usage::Memory` if memory is refused, for any words.
-pub fn parse_line(alloc: Global, words: &[String], rules: &[&str]) -> Result<Request, Usage>
+pub fn parse_line(
+    alloc: Global,
+    words: &[String],
+    rules: &[&str],
+    pages: &[Page],
+) -> Result<Request, Usage>
     ensures { MatchResult result
         (AsksFor (map (λ r. r.now) rules.now) (map string_bytes words.now))
-        (RefusesWords (map (λ r. r.now) rules.now) (map string_bytes words.now)) }
+        (RefusesWords (map (λ r. r.now) rules.now) pages.now (map string_bytes words.now)) }
 {
     let command = yamlfmt_command(alloc)?;
     match command.try_get_matches_from(words) {
-        Ok(matches) => request_met(alloc, &matches, rules),
+        Ok(matches) => request_met(alloc, &matches, rules, pages),
         Err(error) => Err(usage_of(alloc, words, &error)),
     }
 }
 
-// Returns the request that the accepted words make.
-fn request_met(alloc: Global, matches: &ArgMatches<'_>, rules: &[&str]) -> Result<Request, Usage>
+// Returns the request that the accepted words make, or what `explain` prints.
+fn request_met(
+    alloc: Global,
+    matches: &ArgMatches<'_>,
+    rules: &[&str],
+    pages: &[Page],
+) -> Result<Request, Usage>
     ensures { MatchResult result
         (IsRequest (map (λ r. r.now) rules.now) (rows_of (found_of matches.now))
         (subcommand_rows_of matches.now))
-        (RefusedBy (IsNoRequest (map (λ r. r.now) rules.now) (subcommand_rows_of matches.now))) }
+        (MakesNoRequest (map (λ r. r.now) rules.now) pages.now (subcommand_rows_of matches.now)) }
 {
     let (name, given) = match matches.subcommand() {
         Some(met) => met,
         None => return Err(refusal(alloc, NO_COMMAND)),
     };
-    let command = match command_met(alloc, name, given, rules) {
+    let command = match command_met(alloc, name, given, rules, pages) {
         Ok(command) => command,
         Err(usage) => return Err(usage),
     };
@@ -114,16 +128,17 @@ fn settings_met(alloc: Global, given: &ArgMatches<'_>) -> Result<Settings, Usage
     }
 }
 
-// Returns the command with this name and these matches.
+// Returns the command with this name and these matches, or what `explain` prints.
 fn command_met(
     alloc: Global,
     name: &str,
     given: &ArgMatches<'_>,
     rules: &[&str],
+    pages: &[Page],
 ) -> Result<Command, Usage>
     ensures { MatchResult result
         (IsCommand (map (λ r. r.now) rules.now) name.now (rows_of (found_of given.now)))
-        (RefusedBy (IsNoCommand (map (λ r. r.now) rules.now) name.now (rows_of (found_of given.now)))) }
+        (MakesNoCommand (map (λ r. r.now) rules.now) pages.now name.now (rows_of (found_of given.now))) }
 {
     if name == EVENTS {
         return Ok(Command::Events(first_input(alloc, words_given(given, FILE))?));
@@ -142,6 +157,9 @@ fn command_met(
     }
     if name == SERVER {
         return Ok(Command::Server);
+    }
+    if name == EXPLAIN {
+        return Err(explained(alloc, given, pages));
     }
     Err(refusal(alloc, NO_COMMAND))
 }

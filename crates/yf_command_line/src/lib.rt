@@ -1,10 +1,11 @@
-//! The command line: the request that its words make, or why they are refused. The crate reads no file and knows no
-//! rule: the caller passes the names of the rules.
+//! The command line: the request that its words make, the text that they ask for, or why they are refused. The crate
+//! reads no file and knows no rule: the caller passes the names of the rules and the pages on them.
 #![tactic(auto)]
 
 pub mod build;
 pub mod command;
 pub mod command_line;
+pub(crate) mod explained;
 pub(crate) mod formats;
 pub(crate) mod inputs;
 pub(crate) mod lines;

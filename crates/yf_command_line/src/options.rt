@@ -2,12 +2,12 @@
 ghost use Rattle.std.specs.Prelude.{◌≡◌, IfOk};
 ghost use Rattle.clap.specs.Words.{App, Rule, app_of, with_rule, with_subcommand};
 ghost use Rattle.yf_command_line.specs.Options.{any_text_flag, bare_command, check_flag, checking_command};
-ghost use Rattle.yf_command_line.specs.Options.{config_option, configured, names_flag, naming, stdin_name_option};
+ghost use Rattle.yf_command_line.specs.Options.{config_option, configured, explaining_command, name_word, names_flag};
 ghost use Rattle.yf_command_line.specs.Options.{diff_flag, explain_flag, file_word, file_words, formatting_command};
 ghost use Rattle.yf_command_line.specs.Options.{format_option, lines_option, no_config_flag, show_settings_flag};
-ghost use Rattle.yf_command_line.specs.Options.{with_config, with_defaults, with_settings, write_flag};
-ghost use Rattle.yf_command_line.specs.Options.{reading_command, serving_command, stdio_flag, without_option};
-ghost use Rattle.yf_command_line.specs.Options.{writing_command, yamlfmt};
+ghost use Rattle.yf_command_line.specs.Options.{naming, with_config, with_defaults, with_settings, write_flag};
+ghost use Rattle.yf_command_line.specs.Options.{reading_command, serving_command, stdin_name_option, stdio_flag};
+ghost use Rattle.yf_command_line.specs.Options.{without_option, writing_command, yamlfmt};
 ghost use Rattle.yf_command_line.specs.Options.{IsOption, IsPart};
 
 use crate::build::VERSION;
@@ -46,6 +46,8 @@ pub(crate) const DIFF: &str = "diff";
 
 pub(crate) const LINES: &str = "lines";
 
+pub(crate) const NAME: &str = "name";
+
 const STDIO: &str = "stdio";
 
 pub(crate) const FILE: &str = "file";
@@ -58,7 +60,8 @@ pub(crate) fn yamlfmt_command<'a>(alloc: Global) -> Result<Command<'a>, AllocErr
     let with_events = with_part(bare_command(alloc), events);
     let with_check = with_part(with_events, check_command(alloc));
     let with_fmt = with_part(with_check, fmt_command(alloc));
-    with_part(with_fmt, server_command(alloc))
+    let with_server = with_part(with_fmt, server_command(alloc));
+    with_part(with_server, explain_command(alloc))
 }
 
 // The program's command before its subcommands. `--explain` may come before a subcommand too.
@@ -141,6 +144,14 @@ fn server_command<'a>(alloc: Global) -> Result<Command<'a>, AllocError>
 {
     let command = with_settings(alloc, SERVER, "Run a language server for an editor");
     with_arg(command, stdio_flag(alloc))
+}
+
+fn explain_command<'a>(alloc: Global) -> Result<Command<'a>, AllocError>
+    ensures { IfOk result (λ c. IsPart c explaining_command) }
+{
+    let about = "Explain a rule or a refusal; without NAME, list all";
+    let command = Command::new(alloc, EXPLAIN).about(about);
+    command.arg(name_word(alloc))
 }
 
 // A command with the options of `configured`, and `--names`.
@@ -329,6 +340,14 @@ fn stdio_flag<'a>(alloc: Global) -> Arg<'a>
         .long(STDIO)
         .action(ArgAction::SetTrue)
         .help("Accepted for editors; changes nothing")
+}
+
+fn name_word<'a>(alloc: Global) -> Arg<'a>
+    ensures { IsOption result name_word }
+{
+    Arg::new(alloc, NAME).value_name("NAME").help(
+        "The name of a rule or of a refusal, such as quoting or read-failed",
+    )
 }
 
 fn file_word<'a>(alloc: Global) -> Arg<'a>

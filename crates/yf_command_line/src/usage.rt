@@ -14,7 +14,7 @@ use yf_lines::text::OwnedText;
 /// Why the words of a command line make no request.
 #[derive(Drop)]
 pub enum Usage {
-    /// The words ask for help or for the version. This is the text, for standard output.
+    /// The words ask for help, for the version, or for what `explain` prints. This is the text, for standard output.
     Help(OwnedText),
     /// The program does not accept the words. The text says why, for standard error.
     Wrong(OwnedText),

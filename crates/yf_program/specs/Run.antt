@@ -19,6 +19,7 @@ use Rattle.yf_program.specs.declared.search.InForce.{InForce}
 use Rattle.yf_program.specs.declared.search.Unfound.{Unfound}
 use Rattle.yf_program.specs.declared.search.Unfound.TheVariants as unfound
 use Rattle.yf_program.specs.declared.task.Flags.{Flags}
+use Rattle.yf_rule_pages.specs.declared.page.Page.{Page}
 use Rattle.yf_rules.specs.AllRules.{rule_names}
 use Rattle.yf_rules.specs.Runs.ByteStream.{ByteStream, NothingWritten, WrittenOrFailed}
 use Rattle.yf_settings.specs.Page.{ShowsSettings}
@@ -102,18 +103,19 @@ RequestDone host request status before after =
     × MatchBool request.shows_settings (SettingsShown host in_force request.explain status before after)
     (SettingsTaken host in_force (flags_of request) request.command status before after))
 
--- What the words ask for was done; or they ask for help or are wrong, and nothing was opened.
-abbrev pub Follows : {F : Type 0} → Host F → List (List ℕ) → WorkClaim F
-Follows host words status before after =
+-- What the words ask for was done; or they ask for help or for what `explain` prints, or are wrong, and nothing was
+-- opened. (pages: those that `explain` prints)
+abbrev pub Follows : {F : Type 0} → Host F → List Page → List (List ℕ) → WorkClaim F
+Follows host pages words status before after =
     ((request : Request) × AsksFor rule_names words request × RequestDone host request status before after)
-    ⊎ ((usage : Usage) × RefusesWords rule_names words usage × (after.files ≡ before.files)
+    ⊎ ((usage : Usage) × RefusesWords rule_names pages words usage × (after.files ≡ before.files)
     × (host.inputs.notes → after.opened ≡ before.opened) × UsageWritten usage status before.streams after.streams)
 
 -- The program did what the words ask for, and then wrote out what the writer held back. The status is the one that
 -- `main` ends with, unless the reader of standard output has left: then `main` ends with 141 instead.
-pub record ProgramRuns {F : Type 0} (host : Host F) (words : List (List ℕ)) (status : ℕ) (before after : World F)
-    : Type 0 where
+pub record ProgramRuns {F : Type 0} (host : Host F) (pages : List Page) (words : List (List ℕ)) (status : ℕ)
+    (before after : World F) : Type 0 where
   pub run : ℕ
   pub streams : OutputStreams
-  pub follows : Follows host words run before (record after { streams = streams })
+  pub follows : Follows host pages words run before (record after { streams = streams })
   pub out : WrittenOut run status streams after.streams

@@ -23,22 +23,26 @@ use yf_host::inputs::Inputs;
 use yf_host::sources::Sources;
 use yf_host::streams::Streams;
 use yf_lines::watched::Sink;
+use yf_rule_pages::page::Page;
 use yf_rules::asked::RULE_NAMES;
 
-/// Does what the words after the program's name ask for, and returns the exit status.
+/// Does what the words after the program's name ask for, and returns the exit status. `explain` prints one of `pages`,
+/// or their list.
 ///
-/// The settings are read first, and an input is opened only if they are accepted. At the end the writer writes out what
-/// it holds back. `main` ends with this status, unless the reader of standard output has left: then it ends with 141.
+/// The settings are read first, and an input is opened only if they are accepted. `explain` reads no settings and opens
+/// nothing. At the end the writer writes out what it holds back. `main` ends with this status, unless the reader of
+/// standard output has left: then it ends with 141.
 pub fn answer<I: Inputs, S: Links, W: Sink, E: Sink>(
     alloc: Global,
     words: &[String],
+    pages: &[Page],
     sources: &mut Sources<I, S>,
     streams: &mut Streams<W, E>,
 ) -> u8
-    ensures { ProgramRuns (host_in I.claim S.tells S.state S.leads sources.old) (map string_bytes words.now) result
-        (world_in I.opened sources.old streams.old) (world_in I.opened sources.new streams.new) }
+    ensures { ProgramRuns (host_in I.claim S.tells S.state S.leads sources.old) pages.now (map string_bytes words.now)
+        result (world_in I.opened sources.old streams.old) (world_in I.opened sources.new streams.new) }
 {
-    match parse_line(alloc, words, &RULE_NAMES) {
+    match parse_line(alloc, words, &RULE_NAMES, pages) {
         Ok(request) => {
             let status = do_request(alloc, request, sources, streams);
             written_out(status, streams)

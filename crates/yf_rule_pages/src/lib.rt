@@ -1,8 +1,11 @@
-//! Pages for people on the rules of style and on the refusals: what is at fault, an example, and how to mend it.
+//! What `yamlfmt explain` prints: pages for people on the rules of style, on the refusals, and on the texts that the
+//! program skips; and the list of these pages.
 //!
 //! A page is found by its name, exactly. The crate knows no YAML: `bench/rules.py` runs the examples in the pages.
 #![tactic(auto)]
 
+pub mod explanation;
 pub mod page;
-pub mod refusals;
-pub mod rules;
+pub mod pages;
+pub(crate) mod refusals;
+pub(crate) mod rules;

@@ -1,105 +1,111 @@
-//! The pages on the refusals.
+//! The pages on the refusals, and on the texts that the program skips.
 
 use crate::page::Page;
 
-/// The pages on the refusals, by the words of their lines.
-pub const REFUSALS: [Page; 12] = [
-    Page {
-        name: "not-utf8",
-        text: concat!(
-            "# not-utf8\n\n",
-            "The input is not UTF-8 from this byte on.\n\n",
-            "Convert the file, for example with `iconv -f latin1 -t utf-8`.\n",
-        ),
-    },
-    Page {
-        name: "syntax",
-        text: concat!(
-            "# syntax\n\n",
-            "The text is not YAML 1.2.2 from this position on.\n\n",
-            "`--explain` shows the line and the reason. `docs/TROUBLESHOOTING.md` lists frequent causes.\n",
-        ),
-    },
-    Page {
-        name: "too-deep",
-        text: concat!(
-            "# too-deep\n\n",
-            "More than 1,024 collections are open at once.\n\n",
-            "Files that people write stay far below the limit. Look for a generator that doesn't close its brackets.\n",
-        ),
-    },
-    Page {
-        name: "unknown-handle",
-        text: concat!(
-            "# unknown-handle\n\n",
-            "A tag such as `!e!x` has a handle that its document doesn't declare.\n\n",
-            "Declare it with a line `%TAG !e! PREFIX` and `---` before the document, or write the tag as\n",
-            "`!<PREFIXx>`.\n",
-        ),
-    },
-    Page {
-        name: "unknown-alias",
-        text: concat!(
-            "# unknown-alias\n\n",
-            "An alias `*x` has no anchor `&x` before it in its document.\n\n",
-            "Write the anchor before the alias, correct the name, or quote a text that begins with `*`.\n",
-        ),
-    },
-    Page {
-        name: "repeated-directive",
-        text: concat!(
-            "# repeated-directive\n\n",
-            "A document has a second `%YAML` line, or a second `%TAG` line for one handle.\n\n",
-            "Remove one of them.\n",
-        ),
-    },
-    Page {
-        name: "bad-version",
-        text: concat!(
-            "# bad-version\n\n",
-            "A `%YAML` line has another major version than 1.\n\n",
-            "Write `%YAML 1.2`, or remove the line.\n",
-        ),
-    },
-    Page {
-        name: "escape-value",
-        text: concat!(
-            "# escape-value\n\n",
-            "An escape in double quotes has a number that is not that of a character, for example `\\uD800`.\n\n",
-            "Write the character that is meant, or two backslashes for one backslash.\n",
-        ),
-    },
-    Page {
-        name: "read failed",
-        text: concat!(
-            "# read failed\n\n",
-            "A file can't be opened or read, or it has more than 1 GiB.\n\n",
-            "`--explain` gives the system's reason.\n",
-        ),
-    },
-    Page {
-        name: "write failed",
-        text: concat!(
-            "# write failed\n\n",
-            "The output or a file can't be written.\n\n",
-            "With `--write` the file is as it was, unless the line says otherwise.\n",
-        ),
-    },
-    Page {
-        name: "no memory",
-        text: concat!(
-            "# no memory\n\n",
-            "Memory was refused, or the formatting would have more than 1 GiB.\n\n",
-            "None of the text was written.\n",
-        ),
-    },
-    Page {
-        name: "config",
-        text: concat!(
-            "# config\n\n",
-            "The settings file is not TOML, or has a key that is unknown or has a wrong value. The line names\n",
-            "the key.\n\n",
-            "`--explain` shows the line and the values that the key may have.\n",
-        ),
-    },
-];
+pub(crate) const NOT_UTF8: Page = Page {
+    name: "not-utf8",
+    summary: "The input is not UTF-8 from this byte on.",
+    text: "Convert the file, for example with `iconv -f latin1 -t utf-8`.\n",
+};
+
+pub(crate) const SYNTAX: Page = Page {
+    name: "syntax",
+    summary: "The text is not YAML 1.2.2 from this position on.",
+    text: "`--explain` shows the line and the reason. `docs/TROUBLESHOOTING.md` lists frequent causes.\n",
+};
+
+pub(crate) const TOO_DEEP: Page = Page {
+    name: "too-deep",
+    summary: "More than 1,024 collections are open at once.",
+    text: "Files that people write stay far below the limit. Look for a generator that doesn't close its brackets.\n",
+};
+
+pub(crate) const UNKNOWN_HANDLE: Page = Page {
+    name: "unknown-handle",
+    summary: "A tag such as `!e!x` has a handle that its document doesn't declare.",
+    text: concat!(
+        "Declare it with a line `%TAG !e! PREFIX` and `---` before the document, or write the tag as\n",
+        "`!<PREFIXx>`.\n",
+    ),
+};
+
+pub(crate) const UNKNOWN_ALIAS: Page = Page {
+    name: "unknown-alias",
+    summary: "An alias `*x` has no anchor `&x` before it in its document.",
+    text: "Write the anchor before the alias, correct the name, or quote a text that begins with `*`.\n",
+};
+
+pub(crate) const REPEATED_DIRECTIVE: Page = Page {
+    name: "repeated-directive",
+    summary: "A document has a second `%YAML` line, or a second `%TAG` line for one handle.",
+    text: "Remove one of them.\n",
+};
+
+pub(crate) const BAD_VERSION: Page = Page {
+    name: "bad-version",
+    summary: "A `%YAML` line has another major version than 1.",
+    text: "Write `%YAML 1.2`, or remove the line.\n",
+};
+
+pub(crate) const ESCAPE_VALUE: Page = Page {
+    name: "escape-value",
+    summary: "An escape in double quotes has a number that is not that of a character, for example `\\uD800`.",
+    text: "Write the character that is meant, or two backslashes for one backslash.\n",
+};
+
+pub(crate) const READ_FAILED: Page = Page {
+    name: "read-failed",
+    summary: "A file can't be opened or read, or it has more than 1 GiB.",
+    text: "The line is `read failed`. `--explain` gives the system's reason.\n",
+};
+
+pub(crate) const WRITE_FAILED: Page = Page {
+    name: "write-failed",
+    summary: "The output or a file can't be written.",
+    text: "The line is `write failed`. With `--write` the file is as it was, unless the line says otherwise.\n",
+};
+
+pub(crate) const NO_MEMORY: Page = Page {
+    name: "no-memory",
+    summary: "Memory was refused, or the formatting would have more than 1 GiB.",
+    text: "The line is `no memory`. None of the text was written.\n",
+};
+
+pub(crate) const CONFIG: Page = Page {
+    name: "config",
+    summary: "A settings file is not TOML, or one of its keys is unknown or has a wrong value.",
+    text: "The line names the key. `--explain` shows its line in the file, and the values that it may have.\n",
+};
+
+pub(crate) const NO_DATA: Page = Page {
+    name: "no-data",
+    summary: "The text is only plain text over several lines.",
+    text: concat!(
+        "In YAML it is one text, and `fmt` would join its lines. Programs that read lines can't use the result.\n",
+        "So `fmt --write` skips the file and prints `left alone: no data`.\n\n",
+        "Write a long text as a block scalar, exclude the file in the settings, or pass `--any-text`.\n",
+        "Settings: `any_text`, `exclude`.\n",
+    ),
+};
+
+pub(crate) const TEMPLATE: Page = Page {
+    name: "template",
+    summary: "The text contains a template such as `{{ x }}`.",
+    text: concat!(
+        "In YAML it is a mapping with a mapping as its key, and `fmt` would write that mapping. So `fmt --write`\n",
+        "skips the file and prints `left alone: template`.\n\n",
+        "Put quotes around the value (`a: \"{{ x }}\"`), exclude the file in the settings, or pass `--any-text`.\n",
+        "Settings: `any_text`, `exclude`.\n",
+    ),
+};
+
+pub(crate) const ENCRYPTED: Page = Page {
+    name: "encrypted",
+    summary: "The text begins with `$ANSIBLE_VAULT;`, so Ansible Vault has encrypted it.",
+    text: concat!(
+        "In YAML it is one text, and `fmt` would join its lines. Ansible could not decrypt the result. So every\n",
+        "command skips the file, prints `left alone: encrypted`, and returns 0.\n\n",
+        "`--any-text` turns this off.\n",
+        "Settings: `any_text`, `exclude`.\n",
+    ),
+};

@@ -9,6 +9,7 @@ use yf_host::memory_inputs::{MemoryInputs, Stored};
 use yf_host::sources::Sources;
 use yf_host::streams::in_memory;
 use yf_program::answer::answer;
+use yf_rule_pages::pages::PAGES;
 
 /// The files and their contents.
 static FILES: [Stored; 13] = [
@@ -100,7 +101,7 @@ fn is_answered(alloc: Global, words: &[String], row: &Row) -> bool {
     };
     let mut sources = Sources { inputs, files };
     let mut streams = in_memory(alloc);
-    let status = answer(alloc, words, &mut sources, &mut streams);
+    let status = answer(alloc, words, &PAGES, &mut sources, &mut streams);
     status == row.1
         && streams.output.get_ref().as_slice() == row.2.as_bytes()
         && streams.errors.get_ref().as_slice() == row.3.as_bytes()

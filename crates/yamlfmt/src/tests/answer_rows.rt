@@ -1,5 +1,6 @@
 //! Command lines, and the results of the whole program.
 
+use crate::tests::explanations::{FINAL_BREAK, LIST, NO_PAGE};
 use crate::tests::overview::OVERVIEW;
 
 /// The contents of the file before the run.
@@ -16,7 +17,7 @@ pub type Row = (
     &'static str,
 );
 
-pub static ROWS: [Row; 48] = [
+pub static ROWS: [Row; 51] = [
     ("fmt", 0, "---\n- \"a\"\n", "", "- ", BEFORE),
     (
         "fmt --config good.toml",
@@ -365,4 +366,7 @@ pub static ROWS: [Row; 48] = [
         "",
         BEFORE,
     ),
+    ("explain", 0, LIST, "", "", BEFORE),
+    ("explain final-break", 0, FINAL_BREAK, "", "", BEFORE),
+    ("explain Syntax", 3, "", NO_PAGE, "", BEFORE),
 ];

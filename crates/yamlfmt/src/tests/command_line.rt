@@ -6,6 +6,7 @@ use std::alloc::Global;
 use yf_command_line::command::{Command, FileList, Fmt, Input, InputList, Request, Settings};
 use yf_command_line::command_line::parse_line;
 use yf_command_line::usage::Usage;
+use yf_rule_pages::pages::PAGES;
 use yf_rules::asked::RULE_NAMES;
 
 /// Returns whether the settings are those of the file with this name. An empty name means the nearest settings file, and
@@ -100,7 +101,10 @@ fn is_found(parsed: &Result<Request, Usage>, wanted: Wanted) -> bool {
 /// Returns whether the result for a command line is as expected.
 fn asks(alloc: Global, line: &str, wanted: Wanted) -> bool {
     match &words_of(alloc, line) {
-        Ok(words) => is_found(&parse_line(alloc, words.as_slice(), &RULE_NAMES), wanted),
+        Ok(words) => is_found(
+            &parse_line(alloc, words.as_slice(), &RULE_NAMES, &PAGES),
+            wanted,
+        ),
         Err(_) => false,
     }
 }

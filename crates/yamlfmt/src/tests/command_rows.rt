@@ -1,5 +1,6 @@
 //! Command lines and their expected results.
 
+use crate::tests::explanations::{FINAL_BREAK, HELP, LIST, NO_PAGE, UNKNOWN_ALIAS};
 use crate::tests::overview::OVERVIEW;
 
 /// The name of a command.
@@ -23,14 +24,14 @@ pub enum Wanted {
     Wrong,
     /// Wrong words, and the reason.
     Refused(&'static str),
-    /// Help with this text.
+    /// Help, or what `explain` prints: this text.
     Help(&'static str),
     /// The version and the lines about the build.
     Version,
 }
 
 /// The command lines and their expected results.
-pub static LINES: [(&str, Wanted); 84] = [
+pub static LINES: [(&str, Wanted); 95] = [
     (
         "events",
         Wanted::Command(Verb::Events, "", "", false, false, false, 0),
@@ -338,6 +339,20 @@ For more information, try '--help'.
 ",
         ),
     ),
+    ("explain", Wanted::Help(LIST)),
+    ("explain final-break", Wanted::Help(FINAL_BREAK)),
+    ("explain -- unknown-alias", Wanted::Help(UNKNOWN_ALIAS)),
+    (
+        "--explain explain unknown-alias",
+        Wanted::Help(UNKNOWN_ALIAS),
+    ),
+    ("explain Syntax", Wanted::Refused(NO_PAGE)),
+    ("explain syntax quoting", Wanted::Wrong),
+    ("explain --explain syntax", Wanted::Wrong),
+    ("explain --config s.toml syntax", Wanted::Wrong),
+    ("explain --no-config", Wanted::Wrong),
+    ("explain --show-settings", Wanted::Wrong),
+    ("explain --help", Wanted::Help(HELP)),
     ("--version", Wanted::Version),
     ("-V", Wanted::Version),
 ];

@@ -10,6 +10,7 @@ use yf_host::memory_inputs::MemoryInputs;
 use yf_host::sources::Sources;
 use yf_host::streams::in_memory;
 use yf_program::answer::answer;
+use yf_rule_pages::pages::PAGES;
 
 /// The name of the file that the program may rewrite. Its contents are `BEFORE`.
 const FILE: &str = "b.yaml";
@@ -34,7 +35,7 @@ fn is_answered(alloc: Global, words: &[String], row: &Row) -> bool {
     }
     let mut sources = Sources { inputs, files };
     let mut streams = in_memory(alloc);
-    let status = answer(alloc, words, &mut sources, &mut streams);
+    let status = answer(alloc, words, &PAGES, &mut sources, &mut streams);
     status == row.3
         && streams.output.get_ref().as_slice() == row.4.as_bytes()
         && streams.errors.get_ref().as_slice() == row.5.as_bytes()

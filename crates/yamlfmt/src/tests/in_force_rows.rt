@@ -1,5 +1,6 @@
 //! Settings files and files in memory, and the results of runs with them.
 
+use crate::tests::explanations::UNKNOWN_ALIAS;
 use yf_host::memory_inputs::Stored;
 
 /// A file to format and to check.
@@ -87,7 +88,7 @@ pub const AS_DOUBLE: &str = "---\na: \"x\"  # c\n";
 
 const AS_SINGLE: &str = "---\na: 'x'  # c\n";
 
-pub static ROWS: [Row; 24] = [
+pub static ROWS: [Row; 25] = [
     // which settings file is in force
     (&[A], "/w/d", "fmt a.yaml", 0, AS_DOUBLE, "", "a.yaml "),
     (
@@ -301,5 +302,15 @@ pub static ROWS: [Row; 24] = [
         "",
         ".yamlfmt.toml: config: indent\n",
         ".yamlfmt.toml ",
+    ),
+    // `explain` reads no settings
+    (
+        &[FAULTY],
+        "/w/d",
+        "explain unknown-alias",
+        0,
+        UNKNOWN_ALIAS,
+        "",
+        "",
     ),
 ];

@@ -10,6 +10,7 @@ use yf_host::memory_inputs::{MemoryInputs, Stored};
 use yf_host::sources::Sources;
 use yf_host::streams::in_memory;
 use yf_program::answer::answer;
+use yf_rule_pages::pages::PAGES;
 
 /// Returns whether the file of this name has this text at the end.
 fn ends_with(files: &MemoryFiles, name: &str, text: &str) -> bool {
@@ -31,7 +32,7 @@ fn is_answered(alloc: Global, words: &[String], row: &Row, first: &Stored) -> bo
     }
     let mut sources = Sources { inputs, files };
     let mut streams = in_memory(alloc);
-    let status = answer(alloc, words, &mut sources, &mut streams);
+    let status = answer(alloc, words, &PAGES, &mut sources, &mut streams);
     status == row.2
         && streams.output.get_ref().as_slice() == row.3.as_bytes()
         && streams.errors.get_ref().as_slice() == row.4.as_bytes()

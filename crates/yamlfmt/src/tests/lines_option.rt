@@ -6,6 +6,7 @@ use yf_command_line::command::{Command, Fmt, Input, Part, Request};
 use yf_command_line::command_line::parse_line;
 use yf_command_line::usage::Usage;
 use yf_line_ranges::range::LineRange;
+use yf_rule_pages::pages::PAGES;
 use yf_rules::asked::RULE_NAMES;
 
 /// The task for the text.
@@ -126,7 +127,10 @@ fn is_found(alloc: Global, line: &str, wanted: Wanted) -> bool {
     let Ok(words) = words_of(alloc, line) else {
         return false;
     };
-    match (&parse_line(alloc, words.as_slice(), &RULE_NAMES), wanted) {
+    match (
+        &parse_line(alloc, words.as_slice(), &RULE_NAMES, &PAGES),
+        wanted,
+    ) {
         (Ok(request), Wanted::Part(lines, task, file)) => is_part(request, lines, task, file),
         (Err(Usage::Wrong(_)), Wanted::Wrong) => true,
         (Err(Usage::Wrong(text)), Wanted::Refused(wanted)) => text.as_str() == wanted,

@@ -16,7 +16,7 @@ returns-in-Ok c =
     let none : fault_of yamlfmt words ≡ [] =
     subst (λ (a : App). fault_of a words ≡ []) is
     (c.in-Ok.ensures.kinds (ap is_simple_and_free is ∙ yamlfmt_is_free)) in
-    accepted _ _ _ words c.request_met.result before met none c.request_met.ensures
+    accepted _ _ _ _ words c.request_met.result before met none c.request_met.ensures
 
 pub returns-in-Err : goal.returns-in-Err
 returns-in-Err c =
@@ -25,4 +25,4 @@ returns-in-Err c =
     let kinds : HasKind (fault_of yamlfmt words) c.in-Err.error =
     subst (λ (a : App). HasKind (fault_of a words) c.in-Err.error) is
     (c.in-Err.ensures.kinds (ap is_simple_and_free is ∙ yamlfmt_is_free)) in
-    refused _ (kind_of c.in-Err.error) words c.usage_of.result kinds c.usage_of.ensures
+    refused _ _ (kind_of c.in-Err.error) words c.usage_of.result kinds c.usage_of.ensures

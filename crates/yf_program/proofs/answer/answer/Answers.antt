@@ -1,6 +1,4 @@
-use Rattle.std.proofs.Common.{List, ℕ, inl, inr, refl, subst}
-use Rattle.yf_command_line.specs.Requests.{AsksFor, RefusesWords}
-use Rattle.yf_rules.specs.AllRules.{rule_names}
+use Rattle.std.proofs.Common.{inl, inr, refl}
 use Rattle.yf_program.proofs.answer.answer.Goals as goal
 
 pub returns-in-Ok : goal.returns-in-Ok
@@ -9,4 +7,12 @@ returns-in-Ok g c = record {
   streams = c.do_request-status.new.streams;
   follows = inl (c.in-Ok.request, c.in-Ok.ensures, c.do_request-status.ensures);
   out = c.written_out.ensures;
+}
+
+pub returns-in-Err : goal.returns-in-Err
+returns-in-Err g c = record {
+  run = c.answer_usage-status.result;
+  streams = c.answer_usage-status.new.streams;
+  follows = inr (c.in-Err.usage, c.in-Err.ensures, refl, (λ noted. refl), c.answer_usage-status.ensures);
+  out = c.written_out-in-Err.ensures;
 }

@@ -1,0 +1,46 @@
+//! All pages.
+
+use crate::page::Page;
+use crate::refusals::{
+    BAD_VERSION, CONFIG, ENCRYPTED, ESCAPE_VALUE, NO_DATA, NO_MEMORY, NOT_UTF8, READ_FAILED,
+    REPEATED_DIRECTIVE, SYNTAX, TEMPLATE, TOO_DEEP, UNKNOWN_ALIAS, UNKNOWN_HANDLE, WRITE_FAILED,
+};
+use crate::rules::{
+    BLANK_LINES, BYTE_ORDER_MARK, COMMENT_SPACE, DOCUMENT_START, FINAL_BREAK, FLOW_LAYOUT,
+    HIDDEN_CHARACTER, INDENTATION, KEY_MARK, LINE_BREAKS, LINE_LENGTH, QUOTING, REPEATED_KEYS,
+    TRAILING_BLANKS,
+};
+
+/// All pages: on the rules of style in the order of their numbers, then on the refusals, then on the texts that the
+/// program skips.
+pub const PAGES: [Page; 29] = [
+    TRAILING_BLANKS,
+    INDENTATION,
+    QUOTING,
+    DOCUMENT_START,
+    FINAL_BREAK,
+    LINE_BREAKS,
+    BYTE_ORDER_MARK,
+    BLANK_LINES,
+    FLOW_LAYOUT,
+    COMMENT_SPACE,
+    LINE_LENGTH,
+    REPEATED_KEYS,
+    KEY_MARK,
+    HIDDEN_CHARACTER,
+    NOT_UTF8,
+    SYNTAX,
+    TOO_DEEP,
+    UNKNOWN_HANDLE,
+    UNKNOWN_ALIAS,
+    REPEATED_DIRECTIVE,
+    BAD_VERSION,
+    ESCAPE_VALUE,
+    READ_FAILED,
+    WRITE_FAILED,
+    NO_MEMORY,
+    CONFIG,
+    NO_DATA,
+    TEMPLATE,
+    ENCRYPTED,
+];
