@@ -1,4 +1,5 @@
-//! The explanation of a fault: its words, the line of the source with a caret, and where open collections were opened.
+//! The explanation of a fault: its words, the line of the source with a caret, and the position at which an open quote
+//! or bracket begins.
 //!
 //! An explanation has only characters that are shown as they are. The crate knows faults and positions, but no reader.
 #![tactic(auto)]

@@ -8,4 +8,4 @@ pub mod BlockLines
 pub mod FlowTexts
 pub mod FlowsAlone
 pub mod ImplicitKeys
-pub mod SingleAnswers
+pub mod SingleNodes

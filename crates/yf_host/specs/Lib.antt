@@ -1,4 +1,4 @@
--- the state that the program works on, and how a run ends
+-- the world that the program works on, and how a run ends
 pub mod World
 pub mod Ends
 -- the lines that are written

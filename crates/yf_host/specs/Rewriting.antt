@@ -58,9 +58,9 @@ claim_of guarded = new_text_of guarded.any_text (IsNewText guarded.new_text)
 -- At any moment, even if the run or the machine stops, the file holds its old text or exactly the new text, never a part
 -- of it. No name except the new one ever has anything else. If the result is `Ok`, then either the file has the new
 -- text, even after a crash, or it had the new text before, and nothing was touched. If the result is an error, the file
--- is as it was, or the error says what remains. A file that is left alone is as it was. If the formatter refuses, then
--- it refused some bytes, even if nothing is known of the files.
--- (tells: the file system makes its contents known; old, new: its states)
+-- is as it was, or the error says what remains. A file that the program skips stays as it was. If the formatter refuses,
+-- then it refused some bytes, even if nothing is known of the files.
+-- (tells: the contents of the files are known; old, new: the states of the file system)
 abbrev pub RewritesFile : Type 0 → FilesState → FilesState → List ℕ → TextClaim → Result Unit (RewriteError NoNewText)
     → Type 0
 RewritesFile tells old new file Text result =

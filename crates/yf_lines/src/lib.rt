@@ -1,7 +1,7 @@
 //! Lines and positions of a text, the faults that all crates return, texts that borrow from their source, and readers
 //! and writers that remember a failure.
 //!
-//! Positions are exact, counted in characters. The crate knows no production that spans a node.
+//! Positions are exact, counted in characters. The crate reads no nodes.
 #![tactic(auto)]
 
 pub mod basic;

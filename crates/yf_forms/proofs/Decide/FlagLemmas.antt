@@ -11,7 +11,7 @@ use Rattle.yf_forms.specs.declared.form.decide.Form.{Form}
 use Rattle.yf_forms.specs.declared.style.Style.{Style}
 use Rattle.yf_forms.specs.NormalForms.Forms.{Site, site_at, key_site, value_site, forms, forms_of_items, forms_of_pairs, forms_within, no_form, document_forms, stream_forms}
 use Rattle.yf_forms.specs.Nodes.ImplicitKeys.{begins_implicit}
-use Rattle.yf_forms.specs.Nodes.SingleAnswers.{keys, keys_of_items, keys_of_pairs, keys_of_documents, block_keys}
+use Rattle.yf_forms.specs.Nodes.SingleNodes.{keys, keys_of_items, keys_of_pairs, keys_of_documents, block_keys}
 use Rattle.yf_forms.specs.NormalForms.Normal.{LayoutSetting, Margins, root_margins, inner_margins, key_margins, value_margins, is_implicit, fits, settled, settled_items, settled_pairs, styled, normal_document, setting_of}
 use Rattle.yf_events.specs.Tree.{NodeOffsets, Node, scalar, alias, sequence, mapping, Items, no_items, item, Pairs, no_pairs, pair, DocumentTree, flat, flat_items, flat_pairs, flat_document, unplaced}
 use Rattle.yf_forms.proofs.Decide.CountLemmas.{two_counts, forms_count}

@@ -4,7 +4,7 @@ use Rattle.std.proofs.Common.{◌≡◌, ℕ, suc, ◌+◌, Bool, true, false, n
 use Rattle.std.specs.Prelude.{nat_le, if◌then◌else◌}
 use Rattle.std.proofs.lemmas.Bool.{and_parts, cases_Bool}
 use Rattle.yf_forms.specs.declared.style.Style.{Style}
-use Rattle.yf_forms.specs.Nodes.SingleAnswers.{keys, keys_of_items, keys_of_pairs}
+use Rattle.yf_forms.specs.Nodes.SingleNodes.{keys, keys_of_items, keys_of_pairs}
 use Rattle.yf_forms.specs.NormalForms.Normal.{LayoutSetting, Margins, inner_margins, key_margins, value_margins, value_of_implicit, value_entries, key_column, is_implicit, is_one_line_key, fits, settled, settled_items, settled_pairs}
 use Rattle.yf_forms.specs.Nodes.OneLine.{width, written}
 use Rattle.yf_events.specs.Tree.{Node, scalar, alias, sequence, mapping, Items, no_items, item, Pairs, no_pairs, pair, flat, flat_items, flat_pairs, is_sequence}

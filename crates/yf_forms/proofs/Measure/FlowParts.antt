@@ -8,7 +8,7 @@ use Rattle.yf_events.specs.Tree.{Node, scalar, alias, sequence, mapping, Items, 
 use Rattle.yf_forms.specs.declared.form.measure.Measure.{Measure}
 use Rattle.yf_forms.specs.declared.form.collection.Open.{Open}
 use Rattle.yf_forms.specs.Nodes.FlowsAlone.{depth_after, next_depth, depths, event_seen, flows_alone, is_flow, is_outside, seen, span_seen}
-use Rattle.yf_forms.specs.Nodes.SingleAnswers.{NodeAt}
+use Rattle.yf_forms.specs.Nodes.SingleNodes.{NodeAt}
 use Rattle.yf_forms.specs.NormalForms.Measures.{no_measure}
 use Rattle.yf_forms.specs.Passes.MeasurePass.{MeasuredSoFar, found, has_text, passed}
 use Rattle.yf_forms.specs.NormalForms.Normal.{LayoutSetting}

@@ -9,7 +9,7 @@ use Rattle.yf_events.specs.declared.event.Span.{Span}
 use Rattle.yf_forms.specs.declared.form.ended.Ended.{Ended}
 use Rattle.yf_forms.specs.declared.form.measure.Measure.{Measure}
 use Rattle.yf_forms.specs.declared.form.collection.Open.{Open}
-use Rattle.yf_forms.specs.Nodes.SingleAnswers.{NodeAt}
+use Rattle.yf_forms.specs.Nodes.SingleNodes.{NodeAt}
 use Rattle.yf_forms.specs.NormalForms.Measures.{AreMeasures, measure_of, no_measure}
 use Rattle.yf_forms.specs.Passes.MeasurePass.{MeasuredSoFar, found, opened, closed, handed, noted, popped, begun, passed, past, pass, have_texts, ended_scalar, ended_alias}
 use Rattle.yf_forms.specs.NormalForms.Normal.{LayoutSetting}

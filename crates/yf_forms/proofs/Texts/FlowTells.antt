@@ -7,7 +7,7 @@ use Rattle.yf_forms.specs.declared.form.measure.Measure.{Measure}
 use Rattle.yf_forms.specs.declared.style.Style.{Style}
 use Rattle.yf_forms.specs.Nodes.FlowTexts.{TellsFlow, text_measured}
 use Rattle.yf_forms.specs.Nodes.FlowsAlone.{flows_alone, is_flow}
-use Rattle.yf_forms.specs.Nodes.SingleAnswers.{AddsKept, NodeAt}
+use Rattle.yf_forms.specs.Nodes.SingleNodes.{AddsKept, NodeAt}
 use Rattle.yf_forms.specs.NormalForms.Measures.{AreMeasures, measure_of, no_measure}
 use Rattle.yf_forms.specs.NormalForms.Normal.{LayoutSetting}
 use Rattle.yf_forms.specs.Passes.OneLinePass.{between, run}

@@ -5,7 +5,7 @@ use Rattle.std.proofs.lemmas.Option.{get_or_from_slice_get}
 use Rattle.std.proofs.lemmas.Bool.{and_parts}
 use Rattle.yf_events.specs.Event.{EventInText}
 use Rattle.yf_forms.specs.declared.style.Style.{Style}
-use Rattle.yf_forms.specs.Nodes.SingleAnswers.{AddsKept, NodeAt, kept_text_of}
+use Rattle.yf_forms.specs.Nodes.SingleNodes.{AddsKept, NodeAt, kept_text_of}
 use Rattle.yf_forms.specs.Nodes.OneLineFlows.{may_be_kept}
 use Rattle.yf_forms.specs.declared.form.measure.Measure.{Measure}
 use Rattle.yf_forms.specs.NormalForms.Measures.{AreMeasures, TellsKept, measure_of, no_measure}

@@ -12,7 +12,7 @@ use Rattle.yf_events.specs.declared.event.ScalarStyle.TheVariants.{Plain, Single
 use Rattle.yf_forms.specs.declared.form.kept.Expected.{Expected}
 use Rattle.yf_forms.specs.declared.form.kept.Expected.TheVariants.{FirstItem, Item, FirstKey, Key}
 use Rattle.yf_forms.specs.declared.style.Style.{Style}
-use Rattle.yf_forms.specs.Nodes.SingleAnswers.{AddsKept, NodeAt}
+use Rattle.yf_forms.specs.Nodes.SingleNodes.{AddsKept, NodeAt}
 use Rattle.yf_forms.specs.Nodes.OneLineFlows.{may_be_kept, items_may_be_kept, pairs_may_be_kept, scalar_may_be_kept, has_comment}
 use Rattle.yf_forms.specs.NormalForms.Normal.{LayoutSetting, styled, styled_items, styled_pairs}
 use Rattle.yf_forms.specs.Nodes.OneLine.{bare, written, more_items, more_pairs, spaced, space_after, props_text, colon_after, scalar_text}

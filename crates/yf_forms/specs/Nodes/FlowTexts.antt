@@ -5,7 +5,7 @@ use Rattle.yf_events.specs.Tree.{Node}
 use Rattle.yf_forms.specs.declared.form.measure.Measure.{Measure}
 use Rattle.yf_forms.specs.declared.style.Style.{Style}
 use Rattle.yf_forms.specs.Nodes.FlowsAlone.{flows_alone, is_flow}
-use Rattle.yf_forms.specs.Nodes.SingleAnswers.{NodeAt, kept_text_of}
+use Rattle.yf_forms.specs.Nodes.SingleNodes.{NodeAt, kept_text_of}
 use Rattle.yf_forms.specs.NormalForms.Measures.{AreMeasures}
 use Rattle.yf_forms.specs.NormalForms.Normal.{LayoutSetting}
 use Rattle.yf_forms.specs.Passes.OneLinePass.{between, run}

@@ -4,7 +4,7 @@ use Rattle.yf_events.specs.Event.{EventValue, scalar_node, alias_node}
 use Rattle.yf_events.specs.Tree.{NodeOffsets, scalar, alias}
 use Rattle.yf_events.specs.declared.lists.Lists.{Lists}
 use Rattle.yf_forms.specs.declared.style.Style.{Style}
-use Rattle.yf_forms.specs.Nodes.SingleAnswers.{block_keys}
+use Rattle.yf_forms.specs.Nodes.SingleNodes.{block_keys}
 use Rattle.yf_forms.specs.NormalForms.Normal.{is_implicit, styled}
 use Rattle.yf_forms.specs.NormalForms.Textual.{IsTextual}
 

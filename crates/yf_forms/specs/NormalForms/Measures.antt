@@ -6,7 +6,7 @@ use Rattle.yf_events.specs.declared.event.ScalarStyle.{ScalarStyle}
 use Rattle.yf_events.specs.declared.event.ScalarStyle.TheVariants.{Plain, Single, Double, Literal, Folded}
 use Rattle.yf_forms.specs.declared.form.measure.Measure.{Measure}
 use Rattle.yf_forms.specs.declared.style.Style.{Style}
-use Rattle.yf_forms.specs.Nodes.SingleAnswers.{NodeAt, kept_text_of}
+use Rattle.yf_forms.specs.Nodes.SingleNodes.{NodeAt, kept_text_of}
 use Rattle.yf_forms.specs.Nodes.OneLineFlows.{may_be_kept}
 use Rattle.yf_forms.specs.NormalForms.Normal.{LayoutSetting, styled}
 use Rattle.yf_forms.specs.Nodes.OneLine.{width, scalar_text, written}

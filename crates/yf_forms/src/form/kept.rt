@@ -4,7 +4,7 @@ ghost use Rattle.std.specs.String.{string_bytes};
 ghost use Rattle.yf_props.specs.Props.{props_value};
 ghost use Rattle.yf_events.specs.Event.{event_value};
 ghost use Rattle.yf_forms.specs.Nodes.FlowTexts.{TellsFlow, text_measured};
-ghost use Rattle.yf_forms.specs.Nodes.SingleAnswers.{AddsKept};
+ghost use Rattle.yf_forms.specs.Nodes.SingleNodes.{AddsKept};
 ghost use Rattle.yf_forms.specs.NormalForms.Measures.{IsKeptText, TellsKept, no_measure};
 ghost use Rattle.yf_forms.specs.NormalForms.Normal.{setting_of};
 ghost use Rattle.yf_forms.specs.NormalForms.Textual.{CommentsAscend};

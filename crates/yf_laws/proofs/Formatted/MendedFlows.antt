@@ -8,7 +8,7 @@ use Rattle.yf_events.specs.Tree.{NodeOffsets, Node, scalar, alias, sequence, map
 use Rattle.yf_events.specs.declared.lists.Lists.{Lists}
 use Rattle.yf_props.specs.Props.{PropsValue}
 use Rattle.yf_forms.specs.Nodes.OneLineFlows.{may_be_kept}
-use Rattle.yf_forms.specs.Nodes.SingleAnswers.{NodeAt}
+use Rattle.yf_forms.specs.Nodes.SingleNodes.{NodeAt}
 use Rattle.yf_forms.specs.NormalForms.Normal.{LayoutSetting, Margins, fits, inner_margins, key_margins, normal_document, root_margins, settled, settled_items, settled_pairs, styled, styled_items, styled_pairs, value_margins}
 use Rattle.yf_forms.proofs.Decide.AmongLemmas.{Among, back, after_first, first_at, front, node_at}
 use Rattle.yf_laws.proofs.NormalForms.SettledTwice.{settled_twice}

@@ -14,7 +14,7 @@ use Rattle.yf_events.specs.Tree.{Node, scalar, alias, sequence, mapping, Items, 
 use Rattle.yf_events.specs.declared.event.Entry.{Entry}
 use Rattle.yf_events.proofs.TreeLemmas.{trees_unique}
 use Rattle.yf_events.specs.declared.lists.Lists.{Lists}
-use Rattle.yf_forms.specs.Nodes.SingleAnswers.{NodeAt, keys, keys_of_documents, keys_of_items, keys_of_pairs}
+use Rattle.yf_forms.specs.Nodes.SingleNodes.{NodeAt, keys, keys_of_documents, keys_of_items, keys_of_pairs}
 use Rattle.yf_forms.specs.NormalForms.Normal.{Normal, LayoutSetting, Margins, inner_margins, is_implicit, key_margins, normal_document, root_margins, setting_of, value_of_implicit, value_margins}
 use Rattle.yf_forms.specs.declared.style.Style.{Style}
 use Rattle.yf_laws.proofs.SecondRun.FixedLawsHold.{formats_normal}

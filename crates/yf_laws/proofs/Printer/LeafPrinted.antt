@@ -18,7 +18,7 @@ use Rattle.yf_forms.specs.Passes.DecidePass.{has_space, is_leaf_at}
 use Rattle.yf_print.specs.Passes.Drafts.{Draft, with_text}
 use Rattle.yf_forms.specs.NormalForms.Forms.{is_empty_node, is_nothing, is_placed}
 use Rattle.yf_forms.specs.Nodes.OneLineFlows.{may_be_kept, scalar_may_be_kept}
-use Rattle.yf_forms.specs.Nodes.SingleAnswers.{NodeAt}
+use Rattle.yf_forms.specs.Nodes.SingleNodes.{NodeAt}
 use Rattle.yf_forms.specs.NormalForms.Measures.{first_of, leaf_indices, leaf_indices_of_items, leaf_indices_of_pairs, measure_of}
 use Rattle.yf_forms.specs.Passes.MeasurePass.{setting}
 use Rattle.yf_forms.specs.NormalForms.Normal.{LayoutSetting, Margins, setting_of}

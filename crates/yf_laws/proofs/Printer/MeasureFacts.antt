@@ -13,7 +13,7 @@ use Rattle.yf_print.specs.declared.printer.FrameState.TheVariants.{Item, Key}
 use Rattle.yf_print.specs.declared.printer.Role.{Role}
 use Rattle.yf_forms.specs.Passes.DecidePass.{has_space, is_leaf_at}
 use Rattle.yf_print.specs.Passes.Drafts.{Draft}
-use Rattle.yf_forms.specs.Nodes.SingleAnswers.{NodeAt}
+use Rattle.yf_forms.specs.Nodes.SingleNodes.{NodeAt}
 use Rattle.yf_forms.specs.NormalForms.Measures.{AreMeasures, first_of, leaf_indices, measure_of, no_measure}
 use Rattle.yf_forms.specs.NormalForms.Normal.{LayoutSetting}
 use Rattle.yf_print.specs.Passes.PrintPass as Printing

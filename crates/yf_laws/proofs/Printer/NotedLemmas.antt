@@ -13,7 +13,7 @@ use Rattle.yf_laws.proofs.OfTexts.KeyEntries.{keys_begin, keys_begin_in_items, k
 use Rattle.yf_forms.specs.Passes.DecidePass as Deciding
 use Rattle.yf_print.specs.Passes.Drafts.{Draft, LineMarks, leaf_marked, trailing_if}
 use Rattle.yf_forms.specs.NormalForms.Forms.{is_placed, items_are_placed, pairs_are_placed}
-use Rattle.yf_forms.specs.Nodes.SingleAnswers.{NodeAt}
+use Rattle.yf_forms.specs.Nodes.SingleNodes.{NodeAt}
 use Rattle.yf_forms.specs.NormalForms.Measures.{no_measure}
 use Rattle.yf_print.specs.Passes.PrintPass.{entry_met, event_noted, events_noted, is_leaf, leaf_noted_if}
 use Rattle.yf_print.specs.Passes.PrintWork.{Work}

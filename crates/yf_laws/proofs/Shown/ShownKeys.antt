@@ -1,7 +1,7 @@
 -- The definitions of the layout, evaluated on single nodes.
 use Rattle.std.proofs.Common.{◌≡◌, true, false, [], ◌∷◌, Some, None, codes, refl, replicate}
 use Rattle.yf_props.specs.Props.{no_props}
-use Rattle.yf_forms.specs.Nodes.SingleAnswers.{kept_text_of, block_keys}
+use Rattle.yf_forms.specs.Nodes.SingleNodes.{kept_text_of, block_keys}
 use Rattle.yf_forms.specs.NormalForms.Normal.{is_implicit, setting_of}
 use Rattle.yf_events.specs.Tree.{sequence, no_items}
 use Rattle.yf_laws.proofs.Shown.Examples.{house, at, entry, key, word, nothing, flow_items, flow_pairs, block_pairs, one_document, root, remark, lists_of, formatted}

@@ -9,7 +9,7 @@ use Rattle.yf_events.specs.declared.event.Span.{Span}
 use Rattle.yf_forms.specs.declared.form.measure.Measure.{Measure}
 use Rattle.yf_forms.specs.Passes.DecidePass as Deciding
 use Rattle.yf_forms.specs.NormalForms.Forms.{documents_are_placed, is_placed, items_are_placed, pairs_are_placed}
-use Rattle.yf_forms.specs.Nodes.SingleAnswers.{NodeAt}
+use Rattle.yf_forms.specs.Nodes.SingleNodes.{NodeAt}
 use Rattle.yf_forms.specs.NormalForms.Measures.{first_of, leaf_indices}
 use Rattle.yf_print.specs.Passes.TrailPass.{is_leaf}
 use Rattle.yf_forms.proofs.Decide.AmongLemmas.{Among, back, after_first, front, node_at}

@@ -9,7 +9,7 @@ use Rattle.yf_forms.specs.declared.form.measure.Measure.{Measure}
 use Rattle.yf_forms.specs.declared.style.Style.{Style}
 use Rattle.yf_laws.specs.Layouts.Decorated.{rows_of}
 use Rattle.yf_forms.specs.NormalForms.Forms.{AreForms}
-use Rattle.yf_forms.specs.Nodes.SingleAnswers.{NodeAt}
+use Rattle.yf_forms.specs.Nodes.SingleNodes.{NodeAt}
 use Rattle.yf_laws.specs.Layouts.Layout.{first_comment, is_among, source_of, trailing, trailing_leaf}
 use Rattle.yf_forms.specs.NormalForms.Measures.{AreMeasures}
 use Rattle.yf_forms.specs.Passes.MeasurePass.{setting}

@@ -10,7 +10,7 @@ use Rattle.yf_events.specs.declared.lists.Lists.{Lists}
 use Rattle.yf_forms.specs.declared.form.decide.Form.{Form}
 use Rattle.yf_forms.specs.declared.style.Style.{Style}
 use Rattle.yf_forms.specs.Nodes.ImplicitKeys.{is_atom, is_implicit_atom}
-use Rattle.yf_forms.specs.Nodes.SingleAnswers.{NodeAt}
+use Rattle.yf_forms.specs.Nodes.SingleNodes.{NodeAt}
 use Rattle.yf_forms.specs.NormalForms.Forms.{Site, site_at, key_site, value_site, forms, forms_of_items, forms_of_pairs, no_form, document_forms, stream_forms}
 use Rattle.yf_forms.specs.NormalForms.Normal.{LayoutSetting, inner_margins, is_implicit, root_margins, setting_of, styled, styled_items, styled_pairs}
 use Rattle.yf_forms.proofs.Decide.AmongLemmas.{Among, after_first, back, front, node_at}

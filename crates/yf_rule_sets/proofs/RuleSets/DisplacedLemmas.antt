@@ -5,7 +5,7 @@ use Rattle.std.specs.Prelude.{◌==◌, MatchBool, if◌then◌else◌, slice_ge
 use Rattle.std.proofs.lemmas.Bool.{cases_Bool, cases_lt}
 use Rattle.std.proofs.lemmas.List.{length-append, length-drop, length-map, take_all}
 use Rattle.std.proofs.lemmas.Option.{same_Some, slice_get_within}
-use Rattle.yf_forms.specs.Nodes.SingleAnswers.{NodeAt, kept_text_of}
+use Rattle.yf_forms.specs.Nodes.SingleNodes.{NodeAt, kept_text_of}
 use Rattle.yf_forms.specs.NormalForms.Normal.{LayoutSetting, setting_of}
 use Rattle.yf_forms.specs.Nodes.OneLine.{bare}
 use Rattle.yf_forms.specs.declared.style.Style.{Style}

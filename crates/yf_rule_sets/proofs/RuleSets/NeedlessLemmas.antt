@@ -8,7 +8,7 @@ use Rattle.std.proofs.lemmas.List.{length-map}
 use Rattle.std.proofs.lemmas.Option.{same_Some, slice_get_within}
 use Rattle.yf_forms.specs.NormalForms.Forms.{no_form, stream_forms}
 use Rattle.yf_forms.specs.Nodes.ImplicitKeys.{begins_implicit, is_implicit_atom}
-use Rattle.yf_forms.specs.Nodes.SingleAnswers.{block_keys}
+use Rattle.yf_forms.specs.Nodes.SingleNodes.{block_keys}
 use Rattle.yf_forms.specs.NormalForms.Normal.{setting_of}
 use Rattle.yf_forms.specs.NormalForms.Textual.{IsTextual}
 use Rattle.yf_forms.specs.declared.form.decide.Form.{Form}

@@ -12,7 +12,7 @@ use Rattle.yf_events.specs.WellPlaced.{begins_node}
 use Rattle.yf_events.specs.Tree.{Node, scalar, alias, sequence, mapping, Items, no_items, item, Pairs, no_pairs, pair, DocumentTree, TreesOf, unplaced, flat, flat_items, flat_pairs, flat_document, flat_stream}
 use Rattle.yf_events.specs.declared.lists.Lists.{Lists}
 use Rattle.yf_events.proofs.TreeLemmas.{node_unique}
-use Rattle.yf_forms.specs.Nodes.SingleAnswers.{NodeAt}
+use Rattle.yf_forms.specs.Nodes.SingleNodes.{NodeAt}
 
 -- At an index: a node that ends within the first n events, or an event that begins none.
 pub data IsAt (es : List EventInText) (i n : ℕ) : Type 0 where

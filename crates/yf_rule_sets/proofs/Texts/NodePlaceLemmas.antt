@@ -2,7 +2,7 @@
 use Rattle.std.proofs.Common.{◌≡◌, ℕ, ◌+◌, List, [], ◌∷◌, ◌++◌, length, refl, subst, ⊎_elim}
 use Rattle.std.specs.List.{Contains}
 use Rattle.std.specs.Prelude.{flat_map}
-use Rattle.yf_forms.specs.Nodes.SingleAnswers.{NodeAt}
+use Rattle.yf_forms.specs.Nodes.SingleNodes.{NodeAt}
 use Rattle.yf_forms.proofs.Decide.AmongLemmas.{Among, back, after_first, front, node_at}
 use Rattle.yf_events.specs.Event.{EventInText, document_ends, mapping_ends, sequence_ends, stream_ends, stream_starts}
 use Rattle.yf_events.specs.Tree.{Node, scalar, alias, sequence, mapping, Items, no_items, item, Pairs, no_pairs, pair, DocumentTree, TreesOf, flat, flat_items, flat_pairs, flat_document, unplaced}

@@ -2,7 +2,7 @@
 use Rattle.std.specs.Prelude.{◌≡◌, ℕ, List, get_or}
 use Rattle.yf_forms.specs.NormalForms.Forms.{no_form}
 use Rattle.yf_forms.specs.Nodes.ImplicitKeys.{begins_implicit}
-use Rattle.yf_forms.specs.Nodes.SingleAnswers.{block_keys}
+use Rattle.yf_forms.specs.Nodes.SingleNodes.{block_keys}
 use Rattle.yf_forms.specs.declared.form.decide.Form.{Form}
 use Rattle.yf_forms.specs.declared.style.Style.{Style}
 use Rattle.yf_events.specs.Tree.{DocumentTree}

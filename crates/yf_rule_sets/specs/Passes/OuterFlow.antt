@@ -1,7 +1,7 @@
 -- Flow collections among the events of a reading: which events are in one, and the state of a pass over the events.
 use Rattle.std.specs.Prelude.{◌≡◌, ℕ, ◌+◌, ◌<◌, ◌≤◌, ◌⊎◌, Bool, true, false, List, codes, length, Option, Some, None}
 use Rattle.yf_forms.specs.Nodes.ContentStart.{content_start}
-use Rattle.yf_forms.specs.Nodes.SingleAnswers.{NodeAt}
+use Rattle.yf_forms.specs.Nodes.SingleNodes.{NodeAt}
 use Rattle.yf_events.specs.Event.{EventValue, EventInText, sequence_starts, mapping_starts}
 use Rattle.yf_events.specs.Tree.{Node, scalar, alias, sequence, mapping, flat}
 use Rattle.yf_events.specs.declared.event.Span.{Span}

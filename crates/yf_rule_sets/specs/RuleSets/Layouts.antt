@@ -2,7 +2,7 @@
 use Rattle.std.specs.Prelude.{◌≡◌, ◌≢◌, ℕ, ◌-◌, ◌<◌, true, if◌then◌else◌, List, slice_range, Option, Some}
 use Rattle.std.specs.List.{Contains}
 use Rattle.yf_forms.specs.Nodes.ContentStart.{content_start}
-use Rattle.yf_forms.specs.Nodes.SingleAnswers.{NodeAt, block_keys, kept_text_of}
+use Rattle.yf_forms.specs.Nodes.SingleNodes.{NodeAt, block_keys, kept_text_of}
 use Rattle.yf_forms.specs.NormalForms.Normal.{LayoutSetting, setting_of}
 use Rattle.yf_forms.specs.Nodes.OneLine.{bare}
 use Rattle.yf_events.specs.Tree.{Node, DocumentTree, is_filled_flow, props_of, standing}

@@ -1,7 +1,7 @@
 //! Rule 9, flow-layout.
 ghost use Rattle.std.specs.Prelude.{◌≡◌, ◌≢◌, ◌<◌, ℕ, true, false, List, Option, Some, length, slice_get, slice_range, IfOk, MatchBool};
 ghost use Rattle.yf_forms.specs.Nodes.FlowsAlone.{flows_alone};
-ghost use Rattle.yf_forms.specs.Nodes.SingleAnswers.{NodeAt};
+ghost use Rattle.yf_forms.specs.Nodes.SingleNodes.{NodeAt};
 ghost use Rattle.yf_forms.specs.NormalForms.Measures.{AreMeasures};
 ghost use Rattle.yf_forms.specs.NormalForms.Normal.{LayoutSetting, setting_of};
 ghost use Rattle.yf_forms.specs.declared.style.Style.{Style};
