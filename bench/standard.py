@@ -1,5 +1,5 @@
 #!/usr/bin/env python3
-"""Writes docs/STANDARD.md: the 211 productions of YAML 1.2.2 beside those of crates/yf_standard/specs.
+"""Writes docs/STANDARD.md: the 211 productions of YAML 1.2.2, and how those of crates/yf_standard/specs differ.
 
 Usage: bench/standard.py [--check]     (--check writes nothing, and fails if the page is stale)
 
@@ -9,10 +9,10 @@ of a clause is not the standard's. bench/standard.txt has the standard's side: n
 import os
 import re
 import sys
+import textwrap
 
 TOP = os.path.dirname(os.path.dirname(os.path.abspath(__file__)))
 SPECS = os.path.join(TOP, "crates", "yf_standard", "specs")
-TABLE = os.path.join(TOP, "crates", "yf_standard", "proofs", "Standing.antt")
 PAGE = os.path.join(TOP, "docs", "STANDARD.md")
 
 # The conditions that are reading rules, and readings of this project, by the name of the rule.
@@ -83,30 +83,16 @@ differs from the standard's letter by two readings: N2, and the sum n + m for n 
 derives it and it breaks no [further rule](GRAMMAR.md#further-rules) (`IsStandardText` of `specs/Acceptance.antt`;
 `headline` of `yf_rules`).
 
-**The table's columns.** The second column is the production as YAML 1.2.2 prints it, written [from
-memory](DECISIONS.md#the-standards-productions). The third column is the clause of `Characters` or `Productions`,
-without the name if it has no parameters. `bench/standard_lines.py` compares the second with the third, operator by
-operator, except for the conditions of the reading rules and six clauses. The fourth column is the relation that holds
-for each part that the production derives with the reading rules (`proofs/Standing.antt`, proved in `Closed.antt`),
-or `·` for one character. The last column names reading rules and [readings](#readings-n1-to-n9).
-
-## Notation
-
-| The standard | Here |
-|---|---|
-| `x09`, `'-'`, `[x20-x7E]`, `<empty>`; no line | `x 0x09`, `x 45`, `0x20 to 0x7E`, `ε`; `never` |
-| `A B`, `A \\| B`, `A?`, `A*`, `A+`, `A{4}` | `A ∙ B`, `A ∣ B`, `A ⁇`, `A ⋆`, `A ⁺`, `times 4 A` |
-| one character of a set; a set's `\\|` and `-` | `‹ s ›`; `∪` and `∖` |
-| `A - s`, if A has more than one character | `A less s` |
-| `[ lookahead = A ]`, `<start-of-line>`, `<end-of-input>` | `⟨ lookahead= A ⟩`, `⟨ start-of-line ⟩`, `⟨ end-of-input ⟩` |
-| at most 1024 characters; excluding c-forbidden content | `at-most 1024 (..)`, `excluding-c-forbidden (..)` |
-| m found from the text, t of the header | `some-m λ m. ..`, `some-t λ t. ..`; `some-k` for n + m |
-| n+1+m, n-1 | `plus n (1 + m)`, `n -ℤ pos 1` |
+**The list of productions** has each production as YAML 1.2.2 prints it, written [from
+memory](DECISIONS.md#the-standards-productions). The line after it names its reading rules and
+[readings](#readings-n1-to-n9). Its clause in `crates/yf_standard/specs` (`Characters`, `Productions`) has the same
+number, and `Notation` explains the signs. `bench/standard_lines.py` compares the two, operator by operator, except for
+the conditions of the reading rules and six clauses. `proofs/Standing.antt` has the relation that holds for each part
+that a production derives.
 
 ## Reading rules
 
-Each rule is a condition, in bold in the table of productions. Under `letter` only `is-sum` and `auto-detect` require
-anything.
+Each rule is a condition in `⟨ ⟩`. Under `letter` only `is-sum` and `auto-detect` require anything.
 
 | Rule | Condition | What it requires | What the letter derives as well |
 |---|---|---|---|
@@ -215,44 +201,13 @@ def clauses():
     return found
 
 
-def stands():
-    found = {}
-    with open(TABLE, encoding="utf-8") as file:
-        text = file.read()
-    for name, right in re.findall(r"^StandsFor t low s e \(?([^\s()]+)[^=]*? i j =((?:.*\n)(?:    .*\n)*)", text, re.M):
-        right = " ".join(right.split())
-        right = re.sub(r"^O(?:n|ff) s \((.*)\)$", r"\1", right)
-        found.setdefault(name, right.removesuffix(" i j"))
-    if len(found) < 100:
-        sys.exit(f"standard.py: {TABLE} has {len(found)} clauses of StandsFor: is it called otherwise now?")
-    return found
-
-
-def code(text):
-    tick = "``" if "`" in text else "`"
-    space = " " if "`" in text else ""
-    return tick + space + text.replace("|", "\\|") + space + tick
-
-
-def clause(text):
-    parts = []
-    at = 0
-    for mark in re.finditer(r"⟨ ([^⟩\s]+)[^⟩]*⟩", text):
-        if mark.group(1) in RULES:
-            before = text[at:mark.start()].strip()
-            if before:
-                parts.append(code(before))
-            parts.append("**" + code(mark.group(0)) + "**")
-            at = mark.end()
-    rest = text[at:].strip()
-    if rest:
-        parts.append(code(rest))
-    return " ".join(parts)
+def wrapped(line):
+    return textwrap.wrap(line, 120, subsequent_indent=" " * 13, break_long_words=False, break_on_hyphens=False)
 
 
 def page():
-    theirs, ours, known = standard(), clauses(), stands()
-    lines = [HEAD, "| No | YAML 1.2.2 | Here | Derives | |", "|---|---|---|---|---|"]
+    theirs, ours = standard(), clauses()
+    lines = [HEAD]
     for number in range(1, 212):
         if number not in theirs:
             fail(f"{number} is missing in standard.txt")
@@ -264,10 +219,8 @@ def page():
             if one.lstrip("(").split()[0].rstrip(")") != plain:
                 fail(f"{number} is {plain} in the standard, and here: {one}")
         rules = sorted({RULES[c] for one in ours[number] for c in re.findall(r"⟨ ([^⟩\s]+)", one) if c in RULES})
-        note = "; ".join(["**" + rule + "**" for rule in rules] + ([NOTES[number]] if number in NOTES else []))
-        relation = code(known[plain]) if plain in known else "·" if number not in (206,) else ""
-        here = "<br>".join(clause(one.removeprefix(plain + " = ")) for one in ours[number])
-        lines.append(f"| {number} | {code(name)} ::= {code(right)} | {here} | {relation} | {note} |")
+        note = "; ".join(rules + ([NOTES[number]] if number in NOTES else []))
+        lines += wrapped(f"    {number:3}  {name} ::= {right}") + (wrapped(f"         here: {note}") if note else [])
     if len(ours) != 211 or len(theirs) != 211:
         fail(f"{len(theirs)} and {len(ours)} productions, not 211")
     return "\n".join(lines) + "\n"
