@@ -1,0 +1,74 @@
+#!/usr/bin/env python3
+"""Measures the reports of `check --format` on texts with up to a million findings, and fails if one grows faster than
+its text.
+
+Usage: bench/reports.py PROGRAM [FINDINGS]     (FINDINGS: how many at most; a million by default)
+
+Each text has one finding on each line. For each format, the script runs a text with a quarter, a half and all of the
+findings. It prints the processor seconds and the peak of memory in bytes per finding, and the size of the report. It is
+a fault if time or memory grows more than 2.5-fold from one text to the next, if the report lists another number of
+findings, or if the status is not 1. Run it by hand; it is not part of rt ci.
+"""
+import json
+import os
+import re
+import subprocess
+import sys
+import tempfile
+
+FORMATS = ('line', 'json', 'sarif', 'github', 'gitlab', 'junit', 'checkstyle')
+
+
+def text_of(findings):
+    """A sequence in the house style, except for a blank after each item."""
+    return b'---\n' + b''.join(b'- item %d \n' % number for number in range(findings))
+
+
+def count(name, path):
+    """The number of findings that a report lists."""
+    with open(path, 'rb') as file:
+        report = file.read()
+    if name in ('json', 'gitlab'):
+        return len(json.loads(report))
+    if name == 'sarif':
+        return len(json.loads(report)['runs'][0]['results'])
+    mark = {'line': rb' \(fixable\)\n', 'github': rb'(?m)^::warning ', 'junit': rb'<failure', 'checkstyle': rb'<error'}
+    return len(re.findall(mark[name], report))
+
+
+def run(program, name, path, out):
+    """The processor seconds, the peak of memory in bytes, and the status."""
+    with open(out, 'wb') as file:
+        child = subprocess.Popen([program, 'check', '--no-config', '--format', name, path], stdout=file)
+        _, status, usage = os.wait4(child.pid, 0)
+    return usage.ru_utime + usage.ru_stime, usage.ru_maxrss * 1024, os.waitstatus_to_exitcode(status)
+
+
+def tried(program, name, findings, folder):
+    path, out = folder + '/text.yaml', folder + '/report'
+    with open(path, 'wb') as file:
+        file.write(text_of(findings))
+    seconds, memory, status = run(program, name, path, out)
+    print('%-10s %9d findings: %6.2f s, %5d bytes of memory and %4d of the report for each' % (
+        name, findings, seconds, memory // findings, os.path.getsize(out) // findings), flush=True)
+    if status != 1 or count(name, out) != findings:
+        print('  status %d, %d findings listed' % (status, count(name, out)))
+        return None
+    return seconds, memory
+
+
+def main():
+    program, most = os.path.abspath(sys.argv[1]), int(sys.argv[2]) if len(sys.argv) > 2 else 1_000_000
+    faults = 0
+    with tempfile.TemporaryDirectory() as folder:
+        for name in FORMATS:
+            found = [tried(program, name, most // part, folder) for part in (4, 2, 1)]
+            for less, more in zip(found, found[1:]):
+                if not less or not more or any(after > 2.5 * before for before, after in zip(less, more)):
+                    print('  %s: a fault' % name)
+                    faults += 1
+    sys.exit(1 if faults else 0)
+
+
+if __name__ == '__main__':
+    main()
