@@ -5,12 +5,12 @@ Usage: bench/excludes.py [--seed N] [--sets N] [--paths N] COMMAND..
 
 COMMAND reads a line for each case from standard input: a path, and the patterns in order, with tabs between. It writes
 a line for each: `1` if the patterns exclude the path, `0` if they don't, and `bad` if one of them is no pattern. Cases
-with a bad pattern are counted and left out: Git ignores such a pattern. Git is asked with the patterns in .gitignore of
-an empty folder, so no path is there, and the last name of each is taken for a file's.
+with a bad pattern are counted and left out: Git ignores such a pattern. Git gets the patterns in the .gitignore of an
+empty folder, so no path exists, and Git takes the last name of each path for a file.
 
-Two cases are left out. gitignore(5) says of `**` in a segment that begins with a plain byte, as `a**/b`, that its stars
-are plain stars. Git takes the plain bytes off first, and reads the rest, `**/b`, as if it were at the beginning. The
-range of a class whose first byte is above its last, as `[b-a]`, has no byte here; Git takes its first byte.
+Two cases are left out. gitignore(5) says of `**` in a segment that begins with a plain byte, such as `a**/b`, that its
+stars are plain stars. Git takes the plain bytes off first, and reads the rest, `**/b`, as if it were at the beginning.
+The range of a class with its first byte above its last, such as `[b-a]`, has no byte here; Git takes its first byte.
 """
 import argparse
 import os

@@ -1,13 +1,13 @@
 #!/usr/bin/env python3
-"""Measures `fmt --lines` on the YAML files of this machine: how many lines change if one line is asked for.
+"""Measures `fmt --lines` on the YAML files of this machine: how many lines change if one line is requested.
 
 Usage: bench/parts.py PROGRAM [FILES]     (FILES: how many files for each of the settings; 400 by default)
 
-For each of four settings it takes files that `fmt` changes, in an order that is always the same, and asks for one line
+For each of four settings it takes files that `fmt` changes, in an order that is always the same, and requests one line
 that differs from the formatting. It prints the median and the 90th percentile of the lines that change, beside those of
 the whole formatting, and in how many files the result is the whole formatting. It checks each result: formatting it
-gives the formatting of the file, and the line that was asked for is in no remaining difference. A result that fails is
-printed, and the status is 1.
+gives the formatting of the file, and the requested line is in no remaining difference. A result that fails is printed,
+and the status is 1.
 
 Run it by hand; it is not part of rt ci.
 """

@@ -4,10 +4,10 @@
     bench/server_client.py PROGRAM [--times] [--edits N] [--seed N]
 
 PROGRAM is the built program (crates/yamlfmt/out/yamlfmt). The script opens documents, edits them at random, formats
-them, and compares each answer with a model (bench/server_model.py): the text that the edits must give, and what PROGRAM
-itself prints for that text by `fmt` and `check`. It asks for the edits, the code actions and the problems in each way
-that there is. Then it sends what a broken client sends, and runs a session with too little memory. With --times it
-measures how long an edit in a document of 1 MB and of 16 MB takes until its diagnostics are there.
+them, and compares each response with a model (bench/server_model.py): the text that the edits must give, and what
+PROGRAM itself prints for that text by `fmt` and `check`. It requests the edits, the code actions and the problems in
+each possible way. Then it sends what a broken client sends, and runs a session with too little memory. With --times it
+measures how long after an edit its diagnostics come, in documents of 1 MB and of 16 MB.
 """
 import argparse
 import os
@@ -63,7 +63,7 @@ def check_lines(program, server, text, formatted, encoding):
 
 
 def some_lines(server):
-    """Ranges of one text, and what becomes of it. A range that ends at the start of a line does not have that line."""
+    """Formats ranges of one text. A range that ends at the start of a line does not have that line."""
     text = '---\na:   1\nx: 1\nb:   \U0001F600\ny: 1\nc:   3\n'
     server.change(3, [{'text': text}])
     server.receive()
@@ -176,7 +176,7 @@ def random_edits(program, count, seed, encoding):
 
 
 def check_lost(server, uri=NAME):
-    """The text of the document is lost, and the client hears of it."""
+    """The text of the document is lost, and the client gets a warning."""
     assert server.receive()['method'] == 'window/logMessage'
     cleared = server.receive()
     assert cleared['params'] == {'uri': uri, 'diagnostics': []}, cleared
@@ -326,7 +326,7 @@ def broken_clients(program):
 
 
 def with_memory(program, limit, breaks):
-    """A session in which a change adds many lines. Returns what became of it."""
+    """A session in which a change adds many lines. Returns its result."""
     server = Server(program, limit=limit)
     try:
         initialize(server)

@@ -4,15 +4,15 @@
 Usage: bench/standard_lines.py
 
 Both are read into one form: a reading rule's condition is left out, the members of a set are alternatives, and m, k and t are
-bound nowhere. Then the clause must be the standard's line, operator by operator, but for the productions of OTHERWISE. It prints
-those, and fails where another one differs. Run by hand; not part of rt ci.
+bound nowhere. Then the clause must be the standard's line, operator by operator, except for the productions of OTHERWISE. It
+prints those, and fails if another one differs. Run it by hand; it is not part of rt ci.
 """
 import re
 import sys
 
 import standard
 
-# Whose clauses are no copies of the standard's line, and why.
+# The productions with clauses that are no copies of the standard's line, and why.
 OTHERWISE = {
     63: "nothing for negative n",
     64: "nothing for n = 0 and below",

@@ -1,4 +1,4 @@
-"""Reads YAML and JSON by `yamlfmt events`, for import_settings."""
+"""Reads YAML and JSON with `yamlfmt events`, for import_settings."""
 import os
 import re
 import shutil
@@ -68,7 +68,7 @@ def plain_value(text, words):
 
 
 def mapping(items):
-    """A mapping from keys and values by turns. All keys that are collections are one key."""
+    """A mapping from alternating keys and values. All keys that are collections are one key."""
     keys = ['a collection' if isinstance(key, (dict, list)) else key for key in items[::2]]
     return dict(zip(keys, items[1::2]))
 
