@@ -132,11 +132,12 @@ impl Why {
             Why::LongKey => "more than 1,024 characters before the `:` of a key",
             Why::MappingInLine =>
                 "a key's value can't be a mapping on the key's line: quote the value",
-            Why::SequenceInLine => "a key's value can't be a sequence or `? ` on the key's line",
+            Why::SequenceInLine =>
+                "a key's value can't be a sequence or begin with `? ` on the key's line",
             Why::DashInMapping => "an item can't follow the keys of a mapping in their column",
             Why::KeyInSequence => "this column has the items of a list: begin this line with `- `",
             Why::DashUnspaced => "put a space after the `-` of an item",
-            Why::PropertyTwice => "a node can have one anchor and one tag",
+            Why::PropertyTwice => "a node can have at most one anchor and one tag",
             Why::AliasProperties => "an alias can have neither anchor nor tag",
             Why::NoName => "a name must follow `&` or `*`: quote a text that begins with it",
             Why::ColonOfAlias => "the `:` belongs to the alias's name: write a space before it",

@@ -18,7 +18,7 @@ const ABOVE: &str = "../";
 /// The result of the search for a settings file.
 #[derive(Drop)]
 pub enum Discovery {
-    /// The settings file of this name. The name is relative to the current folder, as `../.yamlfmt.toml`.
+    /// The settings file with this name. The name is relative to the current folder, such as `../.yamlfmt.toml`.
     Settings(OwnedText),
     /// No settings file.
     Nothing,

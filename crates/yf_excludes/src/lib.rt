@@ -1,6 +1,7 @@
 //! Which files a list of patterns excludes, by the rules of gitignore(5): patterns, their meaning, and paths.
 //!
-//! The meaning is stated over the grammar of patterns, and the functions return exactly this meaning. The crate opens no file.
+//! The meaning is stated over the grammar of patterns, and the functions return exactly this meaning. The crate opens no
+//! file.
 #![tactic(auto)]
 
 pub mod atom;

@@ -9,9 +9,10 @@ use crate::page::Page;
 use std::alloc::AllocError;
 use yf_chars::text::peek;
 
-/// The most columns of the line before the offset, and from it on.
+/// The most columns of the line that are shown before the offset.
 const BEFORE: usize = 34;
 
+/// The most columns of the line that are shown in all.
 const ALL: usize = 68;
 
 /// Adds a line of a text, from its start to its end, cut around an offset on it, and a caret under the character there.

@@ -31,7 +31,7 @@ pub data Guards (reads : Bool) (t : List ℕ) (found : Option Guarded) : Type 0 
   not_read : ¬ (IsVault t) → reads ≡ false → found ≡ None → Guards reads t found
   by_reading : ¬ (IsVault t) → reads ≡ true → ReadGuard t found → Guards reads t found
 
--- A finding of this name at an offset. It is not fixable, and is sorted before the findings of rules at its position.
+-- A finding with this name at an offset. It is not fixable, and is sorted before the findings of rules at its position.
 -- (An offset within a character has no position. No reading has such an offset.)
 pub record IsFinding (t name : List ℕ) (offset : ℕ) (f : Finding) : Type 0 where
   pub place : IsCharBoundary t offset → IsPlaceOf t offset f.place

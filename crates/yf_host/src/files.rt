@@ -84,9 +84,9 @@ pub enum NewText<'a> {
 /// Rewrites the file at this name with its new text. If the name is a link, the file to which it leads is rewritten.
 ///
 /// The function first reads and formats the whole text. If the new text equals the text, nothing else happens.
-/// Otherwise it writes a new file (its name is the file's name with `.yamlfmt-new` after it), and renames it to the
-/// file. So at any moment, even if the run or the machine stops, the file holds its old text or exactly the new text.
-/// Every name except the new one has what it had.
+/// Otherwise it writes a new file (its name is the file's name with `.yamlfmt-new` after it), and gives it the file's
+/// name. So at any moment, even if the run or the machine stops, the file holds its old text or exactly the new text.
+/// All other names, except the new one, keep their contents.
 ///
 /// # Errors
 ///

@@ -82,8 +82,8 @@ fn answer(outcome: io::Result<()>) -> Result<(), Failed> {
 
 /// The files of the system: the file that was read last, and the file that was made last.
 ///
-/// Each method makes the system calls that its name says. Nothing is known of what the system holds, so the contracts
-/// say nothing about it. It is trusted that the calls do what `FileSystem` says.
+/// Each method makes the system calls that its name says. The contents of the system's files are not known, so the
+/// contracts say nothing about them. It is trusted that the calls do what `FileSystem` says.
 #[derive(Drop)]
 pub struct SystemFiles<R: Files + Drop> {
     rt: R,

@@ -16,10 +16,10 @@ pub const GOOD: u8 = 0;
 /// The status of a check that found something, and of a text that is not in the house style.
 pub const FINDINGS: u8 = 1;
 
-/// Writes the fault's line to the error stream, and returns the fault's status: 2 if the stream is refused, and 3 for
+/// Writes the fault's line to the error stream, and returns the fault's status: 2 if the text is refused, and 3 for
 /// memory, files and settings.
 ///
-/// If the error stream fails, the status is the same, and only a prefix of the line has been written. The function
+/// If the error stream fails, the status does not change, and only a prefix of the line has been written. The function
 /// takes no memory.
 pub fn report<E: Sink>(fault: &Fault, error_stream: &mut E) -> u8
     ensures status { result ≡ fault_status fault.now }

@@ -91,7 +91,7 @@ RanEvents task status reader left before after =
     ⊎ ((f : Fault) × RefusedEvents reader left before.output after.output f
     × EndsOver task.explain reader.contents f status before.errors after.errors)
 
--- `check` wrote what all rules but those of these names find, or was refused.
+-- `check` wrote the findings of all rules except those with these names, or was refused.
 abbrev pub RanCheck : List (List ℕ) → RunClaim
 RanCheck without task status reader left before after =
     ((any : Bool)
@@ -136,7 +136,7 @@ RanPart part name task status reader left before after =
     after.output f
     × EndsOver task.explain reader.contents f status before.errors after.errors)
 
--- The work was done with a reader of the input of this name.
+-- The work was done with a reader of the input with this name.
 abbrev pub RanWork : Work → List ℕ → RunClaim
 RanWork work.Events name = RanEvents
 RanWork (work.Check without) name = RanCheck without.items

@@ -65,7 +65,8 @@ reads_first work.Diff input = true
 reads_first (work.Part part) input = shows_changes part.show || is_standard input
 reads_first work.Serve input = false
 
--- How a work shows the formatting of the whole text of an input, if it does, and if the text is read before the work.
+-- How a work shows the formatting of the whole text of an input. None if it doesn't, or if the text is not read before
+-- the work.
 abbrev pub formatting_shown : Work → Input → Option Show
 formatting_shown work.Events input = None
 formatting_shown (work.Check without) input = None

@@ -106,7 +106,7 @@ scope_of f settings flags = record {
   stdin_name = flags.stdin_name;
 }
 
--- The patterns of the settings file exclude the file of this name.
+-- The patterns of the settings file exclude the file with this name.
 abbrev pub Excludes : Scope → List ℕ → Type 0
 Excludes scope name = ExcludesFile scope.patterns.items scope.current.items scope.settings name
 

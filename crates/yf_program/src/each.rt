@@ -128,7 +128,7 @@ pub fn do_scoped<I: Inputs, S: Links, W: Sink, E: Sink>(
     }
 }
 
-// Does what is done with an input that the settings leave out: prints its text as it is, or nothing.
+// Handles an input that the settings exclude: prints its text as it is, or nothing.
 fn skip_input<I: Inputs, S: Links, W: Sink, E: Sink>(
     alloc: Global,
     task: &Task,
@@ -149,7 +149,7 @@ fn skip_input<I: Inputs, S: Links, W: Sink, E: Sink>(
     }
 }
 
-// Does what is done with standard input if the settings leave it out.
+// Handles standard input if the settings exclude it.
 fn skip_standard<I: Inputs, S: Links, W: Sink, E: Sink>(
     alloc: Global,
     task: &Task,

@@ -21,7 +21,8 @@ use yf_lines::watched::{Sink, Source};
 use yf_parts::show::{Show, show_part};
 use yf_rules::input::text_of;
 
-/// Returns how a work shows the formatting of the whole text of an input, if it does, and if the text is read before.
+/// Returns how the work shows the formatting of the whole text of an input. Returns `None` if it doesn't, or if the text
+/// is not read before the work.
 pub fn formatting_shown(work: &Work, input: &Input) -> Option<Show>
     ensures { result ≡ formatting_shown work.now input.now }
 {
@@ -115,7 +116,7 @@ fn show_formatting<W: Sink, E: Sink>(
     }
 }
 
-// Shows another text in place of the text with these bytes, as `show_part` does.
+// Shows another text instead of the text with these bytes, as `show_part` does.
 fn show_bytes<W: Sink>(
     alloc: Global,
     show: Show,

@@ -299,7 +299,7 @@ fn show_finding<W: Sink, E: Sink>(finding: &Finding, streams: &mut Streams<W, E>
     }
 }
 
-// Prints what the rules find in a file but those of these names, and why its text is no data. Returns the status.
+// Prints the findings of all rules except those with these names, and why the text is no data. Returns the status.
 fn check_past<R: Source, W: Sink, E: Sink>(
     alloc: Global,
     task: &Task,

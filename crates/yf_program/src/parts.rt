@@ -23,8 +23,8 @@ use yf_lines::watched::{Sink, Source};
 use yf_parts::run::{PartTask, run_part};
 use yf_parts::show::Show;
 
-/// Formats some lines of a text in a style, and shows the result or writes it to the file. Does nothing with an input
-/// that the settings leave out.
+/// Formats some lines of a text in a style, and shows the result or writes it to the file. An input that the
+/// settings leave out stays as it is.
 pub fn do_part<I: Inputs, S: Links, W: Sink, E: Sink>(
     alloc: Global,
     lines: Vec<LineRange>,

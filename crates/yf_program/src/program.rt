@@ -33,7 +33,7 @@ use yf_settings::settings::no_key;
 /// The status if the words on the command line are refused.
 const USAGE: u8 = 3;
 
-/// Does a task with a reader of the input of this name. Returns the status of the run, or that of the fault that was
+/// Does a task with a reader of the input with this name. Returns the status of the run, or that of the fault that was
 /// reported on the stream of faults.
 pub fn run<R: Source, W: Sink, E: Sink>(
     alloc: Global,
@@ -79,7 +79,7 @@ fn run_reader<R: Source, W: Sink, E: Sink>(
     }
 }
 
-// Prints what the rules find but those of these names, and returns the status.
+// Prints the findings of all rules except those with these names, and returns the status.
 fn run_checker<R: Source, W: Sink, E: Sink>(
     alloc: Global,
     task: &Task,
@@ -246,8 +246,8 @@ pub fn written_out<W: Sink, E: Sink>(status: u8, streams: &mut Streams<W, E>) ->
     }
 }
 
-/// Returns the settings that a settings file has, and keeps the bytes of the file. Bytes that are no text are
-/// `Fault::Config` with the empty key.
+/// Returns the settings that a settings file has, and keeps the bytes of the file. Fails with `Fault::Config` and an
+/// empty key if the bytes are not UTF-8.
 pub fn read_settings<R: Source>(
     alloc: Global,
     reader: &mut R,

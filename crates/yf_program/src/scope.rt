@@ -51,7 +51,7 @@ fn is_standard_left_out(alloc: Global, scope: &Scope) -> Result<bool, AllocError
     }
 }
 
-/// Returns whether the file of this name is left out.
+/// Returns whether the file with this name is left out.
 pub fn is_file_left_out(alloc: Global, scope: &Scope, name: &str) -> Result<bool, AllocError>
     ensures { IfOk result (λ out. IsTrue out ↔ Excludes scope.now name.now) }
 {

@@ -9,7 +9,7 @@ use yf_parts::run::PartTask;
 pub enum Work {
     /// Its events are printed.
     Events,
-    /// The findings of the rules in it are printed. The rules of these names are left out.
+    /// The findings of the rules in it are printed. The rules with these names are left out.
     Check(Vec<OwnedText>),
     /// Its formatting is printed.
     Print,
@@ -19,7 +19,7 @@ pub enum Work {
     Diff,
     /// Some of its lines are formatted, and the result is shown.
     Part(PartTask),
-    /// It is read as the messages of an editor, which are answered.
+    /// It is read as the messages of an editor, and the server responds to them.
     Serve,
 }
 

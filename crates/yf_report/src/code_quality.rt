@@ -21,7 +21,7 @@ type Counts = HashMap<String, u64>;
 /// Returns the report as a JSON array of issues, in the order of the problems.
 ///
 /// A refusal has the severity `major` and a finding has `minor`. A fingerprint is a SHA-256 digest of the file, the
-/// rule, the text of the line and the number of earlier problems with these three, so it stays when lines move.
+/// rule, the problem's `line_text` and the number of earlier problems with these three, so it stays when lines move.
 ///
 /// # Errors
 ///

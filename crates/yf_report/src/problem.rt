@@ -24,11 +24,11 @@ pub enum Severity {
     Warning,
 }
 
-/// Another place that belongs to a problem, such as the first of two equal keys.
+/// Another range that belongs to a problem, such as the first of two equal keys.
 #[derive(Clone, Copy)]
 pub struct Related<'a> {
     pub range: Range,
-    /// What is there.
+    /// The message for this range.
     pub message: &'a str,
 }
 
@@ -46,7 +46,7 @@ pub struct Problem<'a> {
     /// Whether `fmt` fixes it.
     pub fixable: bool,
     pub related: Option<Related<'a>>,
-    /// The line of the text on which the range begins, without its line break.
+    /// The line of the text on which the range begins, or a front of it, without its line break.
     pub line_text: &'a str,
 }
 

@@ -16,7 +16,7 @@ use std::alloc::{AllocError, Global};
 /// Returns the report as a JSON array of objects, in the order of the problems.
 ///
 /// An object has the members `file` (`null` for standard input), `line`, `column`, `end_line`, `end_column`, `rule`,
-/// `severity` (`error` or `warning`), `message` and `fixable`, and `related` only if there is another place.
+/// `severity` (`error` or `warning`), `message` and `fixable`, and `related` only if the problem has another range.
 /// docs/formats/findings.schema.json is its JSON schema.
 ///
 /// # Errors

@@ -56,7 +56,7 @@ pub(crate) const ESCAPE_VALUE: Page = Page {
 pub(crate) const READ_FAILED: Page = Page {
     name: "read-failed",
     summary: "A file can't be opened or read, or it has more than 1 GiB.",
-    text: "The line is `read failed`. `--explain` gives the system's reason.\n",
+    text: "The line is `read failed`. For a file, `--explain` gives the system's reason.\n",
 };
 
 pub(crate) const WRITE_FAILED: Page = Page {
@@ -68,18 +68,18 @@ pub(crate) const WRITE_FAILED: Page = Page {
 pub(crate) const NO_MEMORY: Page = Page {
     name: "no-memory",
     summary: "Memory was refused, or the formatting would have more than 1 GiB.",
-    text: "The line is `no memory`. None of the text was written.\n",
+    text: "The line is `no memory`. For a single input, nothing was written.\n",
 };
 
 pub(crate) const CONFIG: Page = Page {
     name: "config",
     summary: "A settings file is not TOML, or one of its keys is unknown or has a wrong value.",
-    text: "The line names the key. `--explain` shows its line in the file, and the values that it may have.\n",
+    text: "The line names the key, if the file is TOML. `--explain` shows its line in the file, and the values that it may have.\n",
 };
 
 pub(crate) const NO_DATA: Page = Page {
     name: "no-data",
-    summary: "The text is only plain text over several lines.",
+    summary: "A document is only plain text over several lines.",
     text: concat!(
         "In YAML it is one text, and `fmt` would join its lines. Programs that read lines can't use the result.\n",
         "So `fmt --write` skips the file and prints `left alone: no data`.\n\n",

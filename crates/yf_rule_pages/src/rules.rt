@@ -189,7 +189,7 @@ pub(crate) const LINE_LENGTH: Page = Page {
 
 pub(crate) const REPEATED_KEYS: Page = Page {
     name: "repeated-keys",
-    summary: "A key that its mapping has already.",
+    summary: "A key that its mapping already has.",
     text: concat!(
         "YAML forbids it: some readers take the first value, some the last one, and others fail. Remove one of\n",
         "the two entries.\n\n",
@@ -222,7 +222,7 @@ pub(crate) const KEY_MARK: Page = Page {
 
 pub(crate) const HIDDEN_CHARACTER: Page = Page {
     name: "hidden-character",
-    summary: "A character that people don't see or mistake for another one.",
+    summary: "A character that people don't see, or take for another one.",
     text: concat!(
         "The rule works only under `invisible = \"escaped\"`. Use it for files from strangers: a hidden\n",
         "character can make a text look like another one. Remove the character, or write the scalar in\n",

@@ -19,7 +19,7 @@ use yf_lines::watched::{Sink, Source};
 pub enum Action<'a> {
     /// Prints the events (`run_events`).
     Events,
-    /// Prints the findings of all rules except those of these names (`run_check_all`).
+    /// Prints the findings of all rules except those with these names (`run_check_all`).
     Check(&'a [OwnedText]),
     /// Prints the formatting (`run_fmt`).
     Format,

@@ -1,4 +1,4 @@
-//! The names of rules, with which a check leaves rules out.
+//! The names of the rules that a check can leave out.
 ghost use Rattle.std.specs.Prelude.{◌≡◌};
 ghost use Rattle.yf_rules.specs.AllRules.{rule_names};
 ghost use Rattle.yf_rules.specs.Asked.{is_among};

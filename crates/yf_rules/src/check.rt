@@ -131,7 +131,7 @@ fn add(all: &mut Vec<Finding>, mut findings: Vec<Finding>) -> Result<(), Fault>
 ///
 /// # Errors
 ///
-/// `Fault::Memory` if a growth of memory is refused.
+/// `Fault::Memory` if memory is refused.
 pub fn check(
     alloc: Global,
     rules: &[Box<dyn Rule>],

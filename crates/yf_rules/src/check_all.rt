@@ -47,7 +47,7 @@ impl WithRules for Checking<'_, '_> {
 ///
 /// # Errors
 ///
-/// `Fault::Memory` if a growth of memory is refused.
+/// `Fault::Memory` if memory is refused.
 pub fn check_all(
     alloc: Global,
     without: &[OwnedText],

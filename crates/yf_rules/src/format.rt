@@ -40,7 +40,7 @@ fn formatted(
     layout_by(alloc, text, &normal, measures, forms, style)
 }
 
-/// Returns a stream in the house style. `Headline` states what is proved about the two texts. The result is the only
+/// Returns the text in the house style. `Headline` states what is proved about the two texts. The result is the only
 /// formatting of the text. It is a stream of at most 1 GiB, with the same content and the same comments at the same
 /// places. Formatting it again changes nothing, and a check of it has no fixable finding. `Keeps` states how types,
 /// spellings and blank lines are kept.

@@ -81,8 +81,8 @@ pub trait Rule: Drop {
         self.about().fixable
     }
 
-    /// Returns the byte offsets at which the rule is broken in a text with this reading. In a formatted text they are
-    /// none, if the house style fixes the rule's findings.
+    /// Returns the byte offsets at which the rule is broken in a text with this reading. A formatted text has
+    /// none if the house style fixes the rule's findings.
     fn offsets(&self, alloc: Global, src: &Src, reading: &Reading, style: &Style) -> FoundOffsets
         ensures faults { IfOk result (λ offsets. (definition self.now).faults src.now reading.now style.now offsets.items) }
         ensures mends { IfOk result (λ offsets. (definition self.now).fixable ≡ true
@@ -93,7 +93,7 @@ pub trait Rule: Drop {
     ///
     /// # Errors
     ///
-    /// `Fault::Memory` if a growth of memory is refused.
+    /// `Fault::Memory` if memory is refused.
     fn find(
         &self,
         alloc: Global,
@@ -125,7 +125,7 @@ fn ascend(places: &mut Vec<Position>)
 }
 
 /// Returns the positions of the byte offsets that a rule found, sorted by line and column, each once. Fails with
-/// `Fault::Memory` if a growth of memory is refused.
+/// `Fault::Memory` if memory is refused.
 fn positions_of(alloc: Global, src: &Src, offsets: &[usize]) -> Result<Vec<Position>, Fault>
     ensures refused { IfErr result (λ fault. fault ≡ Fault.Memory) }
     ensures ascending { IfOk result (λ places. Ascending places.items) }

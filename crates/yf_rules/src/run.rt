@@ -35,9 +35,9 @@ pub const INPUT_LIMIT: usize = 1_073_741_824;
 /// - `ReadFailed` if a read fails, or if the reader has more than `INPUT_LIMIT` bytes.
 /// - `NotUtf8` if the bytes are not UTF-8.
 /// - The faults of `read_stream` if it refuses the text.
-/// - `WriteFailed` if a write fails or takes nothing. A prefix of the lines has then been written; after any other
+/// - `WriteFailed` if a write fails or writes no byte. A prefix of the lines has then been written; after any other
 /// fault, nothing.
-/// - `Memory` if a growth of memory is refused.
+/// - `Memory` if memory is refused.
 pub fn run_events<R: Source, W: Sink>(
     alloc: Global,
     reader: &mut R,

@@ -54,7 +54,7 @@ struct Draft<'a> {
 /// tag whose handle is not declared (`UnknownHandle`), an alias without an anchor of its name before it in its document
 /// (`UnknownAlias`), a second YAML directive or a second TAG directive for one handle in a document
 /// (`RepeatedDirective`), a major version other than 1 (`BadVersion`), an escape that is no character (`EscapeValue`).
-/// Fails with `Fault::Memory` if a growth of memory is refused, and always if the text has more than `LONGEST` bytes
+/// Fails with `Fault::Memory` if memory is refused, and always if the text has more than `LONGEST` bytes
 /// (`long`).
 ///
 /// A reading that is returned is the only one of the text, and each fault has its cause (`reads`).

@@ -39,9 +39,9 @@ blank-lines: A blank line too many.
 flow-layout: A collection in brackets that is not written as the house style writes it.
 comment-space: A comment after other text without exactly two spaces before it.
 line-length: A line with more columns than `max_line`.
-repeated-keys: A key that its mapping has already.
+repeated-keys: A key that its mapping already has.
 key-mark: A `?` before a key that doesn't need one.
-hidden-character: A character that people don't see or mistake for another one.
+hidden-character: A character that people don't see, or take for another one.
 not-utf8: The input is not UTF-8 from this byte on.
 syntax: The text is not YAML 1.2.2 from this position on.
 too-deep: More than 1,024 collections are open at once.
@@ -54,7 +54,7 @@ read-failed: A file can't be opened or read, or it has more than 1 GiB.
 write-failed: The output or a file can't be written.
 no-memory: Memory was refused, or the formatting would have more than 1 GiB.
 config: A settings file is not TOML, or one of its keys is unknown or has a wrong value.
-no-data: The text is only plain text over several lines.
+no-data: A document is only plain text over several lines.
 template: The text contains a template such as `{{ x }}`.
 encrypted: The text begins with `$ANSIBLE_VAULT;`, so Ansible Vault has encrypted it.
 ";
