@@ -22,8 +22,8 @@ HEAD = '''# Proved, crate by crate
 
 Made by `bench/proved.py` from the sources. [PROVED](PROVED.md) explains the theorem of the whole program.
 
-The numbers after a crate's name count its functions, those with a contract, and its must-fail edits. Every function is
-proved safe and terminating. Below are the main calls, with the names of their clauses.
+The numbers after a crate's name count its functions, those with a contract, and its must-fail edits. Below are the main
+calls, with the names of their clauses.
 
 '''
 HEADER = re.compile(r'^ *(pub(?:\([^)]*\))? )?(?:const )?fn (\w+)')

@@ -87,8 +87,7 @@ derives it and it breaks no [further rule](GRAMMAR.md#further-rules) (`IsStandar
 memory](DECISIONS.md#the-standards-productions). The line after it names its reading rules and
 [readings](#readings-n1-to-n9). Its clause in `crates/yf_standard/specs` (`Characters`, `Productions`) has the same
 number, and `Notation` explains the signs. `bench/standard_lines.py` compares the two, operator by operator, except for
-the conditions of the reading rules and six clauses. `proofs/Standing.antt` has the relation that holds for each part
-that a production derives.
+the conditions of the reading rules and six clauses.
 
 ## Reading rules
 
@@ -131,24 +130,19 @@ events and documents.
 | | Production | Meaning | Section |
 |---|---|---|---|
 | content | 29, 30, 72: breaks | a line feed, nothing, a space | 5.4, 6.5 |
-| | 63 to 66: indentation and separation | nothing | 6.1, 6.2 |
+| | 63 to 66, 162, 169: indentation, separation, a header, comments after a block scalar | nothing | 6.1, 6.2, 8.1.1 |
 | | 62: an escape | the number that it writes; two halves of a surrogate pair are one character (N4) | 5.7 |
 | | 109, 120: quoted scalars | the text between the quotes | 7.3 |
 | | 112: an escaped break | its white space and empty lines, without the backslash | 7.3.1 |
 | | 117: two single quotes | one quote | 7.3.2 |
-| | 162, 169: a header, comments after a block scalar | nothing | 8.1.1 |
 | | 170, 174: block scalars | the text after the sign and the header | 8.1.2, 8.1.3 |
-| tokens | 28, 63, 66: breaks, indentation, separation | nothing | 5.4, 6.1, 6.2 |
+| tokens | 28, 63 to 66, 70, 165, 171, 172, 181: breaks, indentation, separation, empty lines, lines of block scalars | nothing | 5.4, 6.1, 6.2, 6.4, 8.1 |
 | | 75: a comment | its offset and its text | 6.6 |
 | | 82 to 88, 93: directives | the offset and the words of each, then its comments | 6.8 |
 | | 89, 98 to 100: handles and tags | the tag's name and offset | 6.8.2, 6.9.1 |
 | | 101, 104: anchors and aliases | the name, and an alias's offset | 6.9.2, 7.1 |
-| | 64, 65, 70: fewer spaces, empty lines | nothing | 6.1, 6.4 |
-| | 105, 109, 120, 131: scalars in flow style | a scalar of that style with its content | 7.2, 7.3 |
-| | 137, 140, 150: flow collections, a single pair | the start and the end of a sequence or a mapping | 7.4 |
-| | 165, 171, 172, 181: lines of block scalars and their end | nothing | 8.1 |
-| | 170, 174: block scalars | a scalar of that style with its content, then its comments | 8.1 |
-| | 183, 186, 187, 195: block collections | the start and the end of a sequence or a mapping | 8.2 |
+| | 105, 109, 120, 131, 170, 174: scalars | a scalar of that style with its content, then a block scalar's comments | 7.2, 7.3, 8.1 |
+| | 137, 140, 150, 183, 186, 187, 195: collections, a single pair | the start and the end of a sequence or a mapping | 7.4, 8.2 |
 | | 207, 208: documents | a document with its node's tokens, and whether `---` is written | 9.1 |
 | both | all others | the meanings of their parts, in order | |
 
