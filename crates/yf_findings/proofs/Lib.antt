@@ -1,5 +1,6 @@
 pub mod StartLemmas
 pub mod ListLemmas
 pub mod FoundPlaces
+pub mod DetailLemmas
 pub mod TextLemmas
 pub mod FileLemmas

@@ -20,7 +20,7 @@ use Rattle.yf_stream.specs.StreamReader.{TheReading}
 pub text_problems : {t : List ℕ} (without : List (List ℕ)) (style : Style) (src : Table) (reading : Lists) (findings : List Finding)
     (ps : List OwnedProblem) → src.text ≡ t → AreLines t src.lines → IsStream DEPTH (events_of reading) → TheReading t reading
     → FoundWithout without style src reading findings → (IsFormatted src reading style → NoneFixable findings)
-    → EachProblem (FindingProblem src style) findings ps → TextProblems without style t ps
+    → EachProblem (FindingProblem src reading style) findings ps → TextProblems without style t ps
 text_problems without style src reading findings ps same lines nested reads checked mended each =
     let of_text = subst (λ u. AreLines u src.lines) (sym same) lines in record {
       findings = findings;

@@ -1,6 +1,7 @@
 -- The problem that a report lists for a finding.
 use Rattle.std.specs.Prelude.{◌≡◌, ℕ, ◌+◌, ◌≤◌, List, [], ◌∷◌, ◌++◌, length, slice_get, slice_range, Some}
 use Rattle.std.specs.Str.{IsCharBoundary}
+use Rattle.yf_events.specs.declared.lists.Lists.{Lists}
 use Rattle.yf_findings.specs.Ranges.{IsLocated}
 use Rattle.yf_findings.specs.declared.owned.OwnedProblem.{OwnedProblem}
 use Rattle.yf_findings.specs.declared.owned.TheConstants.{FRONT}
@@ -36,9 +37,9 @@ pub record SaysProblem (src : Table) (f : Finding) (d : Detail) (p : OwnedProble
   pub line : LineText src f.place.line p.line_text
 
 -- the problem of a finding
-pub record FindingProblem (src : Table) (style : Style) (f : Finding) (p : OwnedProblem) : Type 0 where
+pub record FindingProblem (src : Table) (reading : Lists) (style : Style) (f : Finding) (p : OwnedProblem) : Type 0 where
   pub detail : Detail
-  pub located : IsLocated src style f detail p.range
+  pub located : IsLocated src reading style f detail p.range
   pub says : SaysProblem src f detail p
 
 -- a problem for each finding, in the order of the findings

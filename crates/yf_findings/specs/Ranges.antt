@@ -1,11 +1,13 @@
 -- The start and the end of the fault of a finding, and its detail.
-use Rattle.std.specs.Prelude.{◌≡◌, ◌&&◌, ℕ, ◌+◌, ◌==◌, Bool, true, false, if◌then◌else◌, List, length, slice_get, Some}
+use Rattle.std.specs.Prelude.{◌≡◌, ◌&&◌, ℕ, ◌+◌, ◌==◌, Bool, true, false, if◌then◌else◌, List, length, slice_get, Some, None}
 use Rattle.std.specs.Str.{IsCharBoundary}
+use Rattle.yf_events.specs.declared.lists.Lists.{Lists}
 use Rattle.yf_forms.specs.declared.style.Style.{Style}
 use Rattle.yf_lines.specs.Lines.{PlaceOf, Table}
 use Rattle.yf_lines.specs.declared.line.Line.{Line}
 use Rattle.yf_lines.specs.declared.place.Position.{Position}
 use Rattle.yf_ranges.specs.Details.{DetailAt, DetailOf}
+use Rattle.yf_ranges.specs.Known.{IsRuleDetail}
 use Rattle.yf_ranges.specs.declared.detail.Detail.{Detail}
 use Rattle.yf_report.specs.declared.problem.Range.{Range}
 use Rattle.yf_rule_sets.specs.RuleSets.Places.{HasColumn}
@@ -52,8 +54,15 @@ pub record RangeOf (t : List ℕ) (place : Position) (end : ℕ) (r : Range) : T
   pub column : r.column ≡ place.column
   pub last : IsCharBoundary t end → PlaceOf t end r.end_line r.end_column
 
+-- the detail of a finding of a rule at an offset: the one with values from the reading, if there is one at the offset,
+-- and otherwise the one of the text
+pub data FindingDetail (rule : StyleRule) (src : Table) (reading : Lists) (style : Style) (offset : ℕ) (d : Detail) : Type 0 where
+  of_reading : IsRuleDetail rule src reading style offset (Some d) → FindingDetail rule src reading style offset d
+  of_text : IsRuleDetail rule src reading style offset None → DetailAt (DetailOf rule src.text style) src.text offset d
+      → FindingDetail rule src reading style offset d
+
 -- the detail of a finding, and its range
-pub record IsLocated (src : Table) (style : Style) (f : Finding) (d : Detail) (r : Range) : Type 0 where
+pub record IsLocated (src : Table) (reading : Lists) (style : Style) (f : Finding) (d : Detail) (r : Range) : Type 0 where
   pub start : StartOf src (rule_of f.number) f.place d.span.start
-  pub detail : DetailAt (DetailOf (rule_of f.number) src.text style) src.text d.span.start d
+  pub detail : FindingDetail (rule_of f.number) src reading style d.span.start d
   pub range : RangeOf src.text f.place d.span.end r

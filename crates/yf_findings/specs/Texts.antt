@@ -12,4 +12,4 @@ use Rattle.yf_rules.specs.declared.finding.Finding.{Finding}
 pub record TextProblems (without : List (List ℕ)) (style : Style) (t : List ℕ) (ps : List OwnedProblem) : Type 0 where
   pub findings : List Finding
   pub found : FoundIn (FoundWithout without style) style t findings
-  pub problems : EachProblem (FindingProblem found.src style) findings ps
+  pub problems : EachProblem (FindingProblem found.src found.reading style) findings ps

@@ -1,8 +1,11 @@
 //! The detail of a finding, and its range.
 ghost use Rattle.std.specs.Prelude.{◌≡◌, ◌≤◌, length};
 ghost use Rattle.std.specs.Str.{IsCharBoundary};
-ghost use Rattle.yf_findings.specs.Ranges.{IsLocated, RangeOf, rule_of};
+ghost use Rattle.yf_events.specs.declared.lists.Lists.{Lists};
+ghost use Rattle.yf_findings.specs.Ranges.{FindingDetail, IsLocated, RangeOf, rule_of};
 ghost use Rattle.yf_lines.specs.FaultPlaces.{InText};
+ghost use Rattle.yf_lines.specs.Lines.{Table};
+ghost use Rattle.yf_ranges.specs.Known.{AreKnown};
 ghost use Rattle.yf_rule_sets.specs.RuleSets.Places.{IsCursor};
 
 use crate::ends::end_place;
@@ -12,6 +15,7 @@ use yf_lines::place::Position;
 use yf_lines::source_text::Src;
 use yf_ranges::detail::Detail;
 use yf_ranges::details::detail_at;
+use yf_ranges::known::KnownDetails;
 use yf_report::problem::Range;
 use yf_rule_sets::facts::cursor::Cursor;
 use yf_rule_sets::rules::StyleRule;
@@ -26,19 +30,44 @@ pub(crate) struct Located {
 }
 
 /// Returns the detail of a finding, and its range.
-pub(crate) fn locate(src: &Src, style: &Style, cursor: Cursor, finding: &Finding) -> Located
+pub(crate) fn locate(
+    src: &Src,
+    style: &Style,
+    known: &KnownDetails,
+    cursor: Cursor,
+    finding: &Finding,
+) -> Located
     requires cursor { IsCursor src.now.text src.now.lines cursor }
     requires place { InText src.now.text finding.now.place }
-    ensures located { IsLocated src.now style.now finding.now result.detail result.range }
+    ensures located { (reading : Lists) → AreKnown src.now reading style.now known.now
+        → IsLocated src.now reading style.now finding.now result.detail result.range }
     ensures cursor { IsCursor src.now.text src.now.lines result.cursor }
 {
     let rule = rule_of(finding.number);
     let start = start_of(src, rule, cursor, finding.place);
-    let detail = detail_at(rule, src.text(), style, start.offset);
+    let detail = finding_detail(rule, src.text(), style, known, start.offset);
     Located {
         detail,
         range: range_of(src, start.cursor, finding.place, detail.span.end),
         cursor: start.cursor,
+    }
+}
+
+// Returns the detail of a finding of a rule at an offset.
+fn finding_detail(
+    rule: StyleRule,
+    text: &str,
+    style: &Style,
+    known: &KnownDetails,
+    offset: usize,
+) -> Detail
+    requires { IsCharBoundary text.now offset }
+    ensures { (src : Table) (reading : Lists) → src.text ≡ text.now → AreKnown src reading style.now known.now
+        → FindingDetail rule src reading style.now offset result }
+{
+    match known.at(rule, offset) {
+        Some(detail) => detail,
+        None => detail_at(rule, text, style, offset),
     }
 }
 

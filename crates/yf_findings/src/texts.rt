@@ -36,7 +36,7 @@ pub fn problems_in(
     };
     let reading = read_stream(alloc, text)?;
     let findings = check_all(alloc, without, &src, &reading, style)?;
-    match problems_of(alloc, &src, style, findings.as_slice()) {
+    match problems_of(alloc, &src, &reading, style, findings.as_slice()) {
         Ok(problems) => Ok(problems),
         Err(AllocError) => Err(Fault::Memory),
     }

@@ -22,12 +22,12 @@ use Rattle.yf_lines.proofs.TableLemmas.{table_line}
 use Rattle.yf_ranges.specs.Details.{DetailOf, HiddenDetail, MarkerDetail, is_missing}
 use Rattle.yf_ranges.specs.Details.HiddenDetail.{one as hidden_one, none as hidden_none}
 use Rattle.yf_ranges.specs.Details.MarkerDetail.{text_after, no_marker}
-use Rattle.yf_ranges.specs.Spans.{BlankSpan, BreakSpan, CharacterSpan, LineRest, WhiteSpan}
+use Rattle.yf_ranges.specs.Spans.{BlankSpan, BreakSpan, LineRest, WhiteSpan}
 use Rattle.yf_ranges.specs.Spans.BlankSpan.{blank as blank_span}
 use Rattle.yf_ranges.specs.Spans.BreakSpan.{one as one_break, none as no_break}
-use Rattle.yf_ranges.specs.Spans.CharacterSpan.{one as one_character, none as no_character}
 use Rattle.yf_ranges.specs.declared.detail.Detail.{Detail}
 use Rattle.yf_ranges.specs.declared.detail.Message.{Message}
+use Rattle.yf_ranges.proofs.SpanLemmas.{character_filled}
 use Rattle.yf_rule_sets.specs.RuleOf.{definition_of}
 use Rattle.yf_rule_sets.specs.RuleSets.BlankLines.{MisplacedBlank}
 use Rattle.yf_rule_sets.specs.RuleSets.BlankLines.MisplacedBlank.{misplaced}
@@ -40,10 +40,6 @@ use Rattle.yf_rule_sets.specs.Sets.{first_return}
 use Rattle.yf_rule_sets.specs.declared.rules.StyleRule.{StyleRule}
 use Rattle.yf_rule_sets.specs.declared.rules.StyleRule.TheVariants.{TrailingBlanks, Indentation, Quoting, DocumentStart, FinalBreak, LineBreaks, ByteOrderMark, BlankLines, FlowLayout, CommentSpace, LineLength, RepeatedKeys, KeyMark, HiddenCharacter}
 use Rattle.yf_rule_sets.proofs.Texts.WhitesLemmas.{white_within}
-
-character_filled : {t : List ℕ} {s e : ℕ} → IsUtf8 t → IsCharBoundary t s → s < length t → CharacterSpan t s e → s < e
-character_filled u b l (one_character r) = r.later
-character_filled {t} {s} u b l (no_character n) = let h = code_at_boundary t s u b l in absurd (omega (arith, h, n))
 
 hidden_filled : {t : List ℕ} {d : Detail} → IsUtf8 t → IsCharBoundary t d.span.start → d.span.start < length t → HiddenDetail t d → d.span.start < d.span.end
 hidden_filled u b l (hidden_one r m) = r.later

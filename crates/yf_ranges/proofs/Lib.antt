@@ -2,3 +2,5 @@ pub mod SpanLemmas
 pub mod FilledLemmas
 pub mod GatherLemmas
 pub mod NodeLemmas
+pub mod IndentLemmas
+pub mod KnownLemmas

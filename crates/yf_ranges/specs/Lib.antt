@@ -1,4 +1,7 @@
 pub mod Spans
 pub mod Details
 pub mod NodeDetails
+pub mod Indents
+pub mod IndentPass
+pub mod Known
 pub mod Words

@@ -42,8 +42,13 @@ IsDetailAt P Exact t result =
     MatchOption result ((o : ℕ) → P o → IsCharBoundary t o → ⊥)
     (λ d. P d.span.start × ((o : ℕ) → P o → o ≡ d.span.start) × Exact d × IsInside t d)
 
--- the details of all events: one for each offset at fault that has a position, and no other; P i says which offset is
--- at fault by the event of the index i
-pub record NodeDetails (P : ℕ → ℕ → Type 0) (Exact : ℕ → Detail → Type 0) (t : List ℕ) (ds : List Detail) : Type 0 where
-  pub only : (d : Detail) → Contains ds d → (i : ℕ) × P i d.span.start × Exact i d × IsInside t d
-  pub all : (i o : ℕ) → P i o → IsCharBoundary t o → (d : Detail) × Contains ds d × (d.span.start ≡ o) × Exact i d
+-- the details of all nodes x: one for each offset at fault that has a position, and no other; P x says which offset is
+-- at fault by the node
+pub record NodeDetails {A : Type 0} (P : A → ℕ → Type 0) (Exact : A → Detail → Type 0) (t : List ℕ) (ds : List Detail) : Type 0 where
+  pub only : (d : Detail) → Contains ds d → (x : A) × P x d.span.start × Exact x d × IsInside t d
+  pub all : (x : A) (o : ℕ) → P x o → IsCharBoundary t o → (d : Detail) × Contains ds d × (d.span.start ≡ o) × Exact x d
+
+-- the detail at an offset, which has a position, or `None` if no node is at fault there
+abbrev pub IsKnown : {A : Type 0} → (A → ℕ → Type 0) → (A → Detail → Type 0) → List ℕ → ℕ → Option Detail → Type 0
+IsKnown {A} P Exact t o result =
+    MatchOption result ((x : A) → P x o → ⊥) (λ d. (d.span.start ≡ o) × IsInside t d × ((x : A) × P x o × Exact x d))

@@ -15,6 +15,12 @@ style_words Folded = codes "folded style"
 abbrev pub quote_words : ScalarStyle → ScalarStyle → List ℕ
 quote_words found expected = style_words found ++ codes ", expected " ++ style_words expected
 
+abbrev pub expected_words : ℕ → List ℕ
+expected_words expected = codes ", expected " ++ decimal expected
+
+abbrev pub indent_words : ℕ → ℕ → List ℕ
+indent_words found expected = codes "indented by " ++ decimal found ++ expected_words expected
+
 abbrev pub space_words : ℕ → List ℕ
 space_words n = if n == 0 then codes "no space" else (if n == 1 then codes "one space" else decimal n ++ codes " spaces")
 
@@ -69,6 +75,7 @@ fixed_words _ = []
 -- the words of a message
 abbrev pub message_words : Message → List ℕ
 message_words (Says.Quotes found expected) = quote_words found expected
+message_words (Says.Indented found expected) = indent_words found expected
 message_words (Says.CarriageReturn has_feed) = break_words has_feed
 message_words (Says.CommentSpace found has_tab) = comment_words found has_tab
 message_words (Says.LineLength limit over) = length_words limit over

@@ -9,6 +9,12 @@ pub enum Message {
     TrailingBlanks,
     /// The entries, or the lines of a block scalar, are at another column than the house style's.
     Indentation,
+    /// The entries, or the lines of a block scalar, are at the column `found`, from 0, and the house style has them at
+    /// the column `expected`.
+    Indented {
+        found: usize,
+        expected: usize,
+    },
     /// The scalar has another style than the house style's.
     Quoting,
     /// The scalar has that style, and the house style gives it the other one.

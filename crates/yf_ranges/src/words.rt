@@ -18,6 +18,7 @@ pub fn write_message(out: &mut String, message: &Message) -> Result<(), AllocErr
         Message::CommentSpace { found, has_tab } => write_comment(out, found, has_tab),
         Message::LineLength { limit, over } => write_length(out, limit, over),
         Message::Quotes { found, expected } => write_quotes(out, found, expected),
+        Message::Indented { found, expected } => write_indented(out, found, expected),
         Message::CarriageReturn { has_feed } => out.push_str(break_words(has_feed)),
         Message::HiddenCharacter { character } => write_hidden(out, character),
         _ => out.push_str(fixed_words(message)),
@@ -97,6 +98,21 @@ fn write_quotes(
     out.push_str(style_words(found))?;
     out.push_str(", expected ")?;
     out.push_str(style_words(expected))
+}
+
+fn write_indented(out: &mut String, found: usize, expected: usize) -> Result<(), AllocError>
+    ensures { OnOk result (string_bytes out.new ≡ string_bytes out.old ++ spec.indent_words found expected) }
+{
+    out.push_str("indented by ")?;
+    write_number(out, found)?;
+    write_expected(out, expected)
+}
+
+fn write_expected(out: &mut String, expected: usize) -> Result<(), AllocError>
+    ensures { OnOk result (string_bytes out.new ≡ string_bytes out.old ++ spec.expected_words expected) }
+{
+    out.push_str(", expected ")?;
+    write_number(out, expected)
 }
 
 fn style_words(style: ScalarStyle) -> &'static str

@@ -1,8 +1,8 @@
 //! Reports of texts that are no data. The reports are as the formats' standards write them.
 
-use crate::tests::left_alone_rows::{ANY, BLOCK, PLAIN, Row, TEMPLATE, TWO, VAULT};
+use crate::tests::left_alone_rows::{ANY, BLOCK, DEEP, PLAIN, Row, TEMPLATE, TWO, VAULT};
 
-pub static REPORT_ROWS: [Row; 13] = [
+pub static REPORT_ROWS: [Row; 14] = [
     (
         &[VAULT],
         "check --format json vault.yaml",
@@ -106,5 +106,14 @@ pub static REPORT_ROWS: [Row; 13] = [
         "<?xml version=\"1.0\" encoding=\"UTF-8\"?>\n<checkstyle version=\"4.3\">\n<file name=\"two.yaml\">\n<error line=\"4\" column=\"1\" severity=\"warning\" message=\"plain text over several lines, which fmt would join into one\" source=\"no-data\"/>\n</file>\n</checkstyle>\n",
         "",
         "---\na: 1\n---\nb\nc\n",
+    ),
+    // messages with the columns that are found and expected
+    (
+        &[DEEP],
+        "check --format json --without document-start deep.yaml",
+        1,
+        "[{\"file\":\"deep.yaml\",\"line\":2,\"column\":5,\"end_line\":2,\"end_column\":6,\"rule\":\"indentation\",\"severity\":\"warning\",\"message\":\"indented by 4, expected 2\",\"fixable\":true},{\"file\":\"deep.yaml\",\"line\":2,\"column\":8,\"end_line\":2,\"end_column\":9,\"rule\":\"indentation\",\"severity\":\"warning\",\"message\":\"indented by 9, expected 6\",\"fixable\":true}]",
+        "",
+        "a:\n    b: |\n         x\n",
     ),
 ];

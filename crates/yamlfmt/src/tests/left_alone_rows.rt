@@ -31,6 +31,12 @@ const DATA: Stored = Stored {
     bytes: b"---\n? a: b\n:\n",
 };
 
+/// A mapping and a block scalar that are indented too far.
+pub const DEEP: Stored = Stored {
+    name: "deep.yaml",
+    bytes: b"a:\n    b: |\n         x\n",
+};
+
 /// Two documents. The second one is no data.
 pub const TWO: Stored = Stored {
     name: "two.yaml",

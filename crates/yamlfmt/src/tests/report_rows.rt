@@ -23,7 +23,7 @@ pub static REPORT_ROWS: [Row; 12] = [
     (
         "check --format json --without document-start",
         1,
-        "[{\"file\":null,\"line\":1,\"column\":3,\"end_line\":1,\"end_column\":4,\"rule\":\"quoting\",\"severity\":\"warning\",\"message\":\"scalar style differs from the house style\",\"fixable\":true}]",
+        "[{\"file\":null,\"line\":1,\"column\":3,\"end_line\":1,\"end_column\":6,\"rule\":\"quoting\",\"severity\":\"warning\",\"message\":\"single quotes, expected double quotes\",\"fixable\":true}]",
         "",
         "- ",
         BEFORE,

@@ -30,7 +30,7 @@ returns-in-Ok-problems_of-clause-found c =
     text_problems c.args.without.now c.args.style.now c.in-Ok.src c.in_ok-reading.reading c.in_ok-findings.findings.items _
     c.in-Ok.ensures.text c.in-Ok.ensures.lines (nested_same c.reading.view_is c.reading.invariant.stream) c.in_ok-reading.ensures.reads
     c.in_ok-findings.ensures.findings c.in_ok-findings.ensures.mends
-    (subst (λ (z : List Finding). EachProblem (FindingProblem c.in-Ok.src c.args.style.now) z c.in-Ok-problems_of.problems.items) c.as_slice.ensures.value c.in-Ok-problems_of.ensures)
+    (subst (λ (z : List Finding). EachProblem (FindingProblem c.in-Ok.src c.in_ok-reading.reading c.args.style.now) z c.in-Ok-problems_of.problems.items) c.as_slice.ensures.value c.in-Ok-problems_of.ensures)
 
 pub returns-clause-refuses : goal.returns-clause-refuses
 returns-clause-refuses c = for_memory
