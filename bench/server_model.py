@@ -8,6 +8,7 @@ CAPABILITIES = {
     'textDocumentSync': {'openClose': True, 'change': 2},
     'documentFormattingProvider': True,
     'documentRangeFormattingProvider': True,
+    'foldingRangeProvider': True,
     'codeActionProvider': {'codeActionKinds': ['source.fixAll.yamlfmt']},
     'diagnosticProvider': {'interFileDependencies': False, 'workspaceDiagnostics': False},
 }

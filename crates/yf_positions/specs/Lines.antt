@@ -1,5 +1,5 @@
 -- The lines of a text, which is the list of its bytes. A line ends with LF, with CR LF, or with CR.
-use Rattle.std.specs.Prelude.{◌≡◌, ℕ, zero, suc, ◌<◌, ◌≤◌, Bool, true, false, not, ◌==◌, ◌||◌, ◌&&◌, List, [], ◌∷◌, length, slice_index, if◌then◌else◌}
+use Rattle.std.specs.Prelude.{◌≡◌, ℕ, zero, suc, ◌<◌, ◌≤◌, Bool, true, false, not, ◌==◌, ◌||◌, ◌&&◌, List, [], ◌∷◌, length, min, slice_index, if◌then◌else◌}
 use Rattle.yf_positions.specs.Units.{is_break}
 
 -- a line ends after the byte c, which the bytes t follow: CR LF ends one line, after its LF
@@ -17,6 +17,14 @@ abbrev pub line_start : List ℕ → ℕ → ℕ
 line_start [] n = 0
 line_start (c ∷ t) zero = 0
 line_start (c ∷ t) (suc n) = suc (if ends_line c t then line_start t n else line_start t (suc n))
+
+-- the number of lines; the text after the last line break is one, even if it is empty
+abbrev pub line_count : List ℕ → ℕ
+line_count t = suc (lines_before t (length t))
+
+-- the line of an offset, from 0; an offset after the end of the text has the line of the end
+abbrev pub line_of : List ℕ → ℕ → ℕ
+line_of t i = lines_before t (min i (length t))
 
 -- the offset is between the CR and the LF of a CR LF
 abbrev pub inside_break : List ℕ → ℕ → Bool

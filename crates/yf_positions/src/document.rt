@@ -1,7 +1,8 @@
 //! A document of an editor: its text, and the starts of its lines.
-ghost use Rattle.std.specs.Prelude.{◌≡◌, ◌↔◌, ◌≤◌, ◌++◌, length, take, drop, IfOk, IsErrOf, string_bytes};
+ghost use Rattle.std.specs.Prelude.{◌≡◌, ◌↔◌, ◌<◌, ◌≤◌, ◌++◌, length, take, drop, IfOk, IsErrOf, string_bytes};
 ghost use Rattle.std.specs.Str.{IsCharBoundary};
 ghost use Rattle.yf_positions.specs.Changes.{all_changed, changed, changed_in};
+ghost use Rattle.yf_positions.specs.Lines.{line_count, line_of};
 ghost use Rattle.yf_positions.specs.Offsets.{offset_of, position_of};
 
 use crate::change::{ChangeError, ContentChange};
@@ -69,6 +70,22 @@ impl Document {
         ensures { result.now ≡ self.now }
     {
         self.text.as_str()
+    }
+
+    /// Returns the number of lines. The text after the last line break is a line, even if it is empty.
+    pub fn line_count(&self) -> usize
+        ensures { result ≡ line_count self.now }
+    {
+        self.starts.len()
+    }
+
+    /// Returns the line of a byte offset, from 0. An offset after the end of the text has the line of the end.
+    pub fn line_of(&self, offset: usize) -> usize
+        ensures exact { result ≡ line_of self.now offset }
+        ensures bound { result < line_count self.now }
+    {
+        let bytes = self.text.as_bytes();
+        line_at(self.starts.as_slice(), bytes, offset.min(bytes.len()))
     }
 
     /// Returns the byte offset of a position.

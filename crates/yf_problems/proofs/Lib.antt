@@ -2,3 +2,6 @@
 
 -- `add_rule`, `found_by_rules`
 pub mod ProblemLemmas
+-- `node_parts`
+pub mod FoldRuns
+pub mod FoldSteps

@@ -16,10 +16,11 @@ use yf_lines::fault::Fault;
 use yf_lines::output::write_text;
 use yf_lines::watched::{Sink, Source};
 use yf_parts::run::with_lines_formatted;
+use yf_problems::folds::foldable_parts;
 use yf_problems::problems::problems_in;
 use yf_rules::format::format;
 use yf_rules::run::INPUT_LIMIT;
-use yf_server::analysis::{Analysis, Problem};
+use yf_server::analysis::{Analysis, Foldable, Problem};
 use yf_server_loop::ended::Ended;
 use yf_server_loop::serve::serve;
 
@@ -148,6 +149,10 @@ impl Analysis for StyleAnalysis<'_> {
 
     fn problems(&self, alloc: Global, text: &str) -> Result<Vec<Problem>, AllocError> {
         found_in(alloc, text, self.style)
+    }
+
+    fn foldable(&self, alloc: Global, text: &str) -> Result<Vec<Foldable>, AllocError> {
+        foldable_parts(alloc, text)
     }
 }
 

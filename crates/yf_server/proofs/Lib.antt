@@ -10,3 +10,5 @@ pub mod ParameterLemmas
 pub mod StepLemmas
 -- responses to requests
 pub mod RespondLemmas
+-- the folds of a text, by a table of its lines
+pub mod FoldLemmas

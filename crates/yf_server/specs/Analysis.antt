@@ -1,5 +1,6 @@
 -- The claims of a server about texts.
 use Rattle.std.specs.Prelude.{ℕ, List, Option, string_bytes}
+use Rattle.yf_server.specs.declared.analysis.Foldable.{Foldable}
 use Rattle.yf_server.specs.declared.analysis.Problem.{Problem}
 use Rattle.yf_server.specs.declared.analysis.Severity.{Severity}
 use Rattle.yf_server.specs.declared.analysis.Severity.TheVariants.{Error, Warning, Information, Hint}
@@ -35,3 +36,5 @@ pub record TextClaim : Type 1 where
   pub FormatsLines : List ℕ → ℕ → ℕ → Option (List ℕ) → Type 0
   -- the problems of a text, in order
   pub Finds : List ℕ → List Found → Type 0
+  -- the parts of a text that may be folded
+  pub Folds : List ℕ → List Foldable → Type 0

@@ -9,6 +9,7 @@ pub mod Edits
 pub mod Queries
 pub mod Actions
 pub mod Diagnostics
+pub mod Folds
 pub mod Responses
 pub mod Publish
 pub mod Losses

@@ -6,7 +6,7 @@ use Rattle.yf_json_rpc.specs.declared.error_code.ErrorCode.{ErrorCode}
 use Rattle.yf_json_rpc.specs.declared.error_code.ErrorCode.TheVariants.{InvalidParams, MethodNotFound}
 use Rattle.yf_positions.specs.declared.position.LspRange.{LspRange}
 use Rattle.yf_server.specs.declared.query.Query.{Query}
-use Rattle.yf_server.specs.declared.query.Query.TheVariants.{Formatting, Lines, Actions, Problems}
+use Rattle.yf_server.specs.declared.query.Query.TheVariants.{Formatting, Lines, Actions, Problems, Folds}
 use Rattle.yf_server.specs.Parameters.{range_of}
 
 -- the kinds of code actions that `source.fixAll.yamlfmt` is one of: this kind, and those above it
@@ -47,4 +47,5 @@ query_of method d =
     else (if bytes_eq method (codes "textDocument/willSaveWaitUntil") then Ok Formatting
     else (if bytes_eq method (codes "textDocument/rangeFormatting") then lines_by (asked_range d)
     else (if bytes_eq method (codes "textDocument/codeAction") then Ok (Actions (wants (only_of d)))
-    else (if bytes_eq method (codes "textDocument/diagnostic") then Ok Problems else Err MethodNotFound))))
+    else (if bytes_eq method (codes "textDocument/diagnostic") then Ok Problems
+    else (if bytes_eq method (codes "textDocument/foldingRange") then Ok Folds else Err MethodNotFound)))))

@@ -6,12 +6,13 @@ use Rattle.yf_json_rpc.specs.declared.error_code.ErrorCode.TheVariants.{InvalidP
 use Rattle.yf_positions.specs.declared.encoding.Encoding.{Encoding}
 use Rattle.yf_server.specs.declared.documents.OpenDocument.{OpenDocument}
 use Rattle.yf_server.specs.declared.query.Query.{Query}
-use Rattle.yf_server.specs.declared.query.Query.TheVariants.{Formatting, Lines, Actions, Problems}
+use Rattle.yf_server.specs.declared.query.Query.TheVariants.{Formatting, Lines, Actions, Problems, Folds}
 use Rattle.yf_server.specs.Actions.{AreActions}
 use Rattle.yf_server.specs.Analysis.{TextClaim}
 use Rattle.yf_server.specs.Diagnostics.{IsReport}
 use Rattle.yf_server.specs.Documents.{OpenText, find}
 use Rattle.yf_server.specs.Edits.{FailsWith, IsFormatting, IsLineFormatting, Replies, named_uri}
+use Rattle.yf_server.specs.Folds.{AreFoldsOf}
 use Rattle.yf_server.specs.Queries.{query_of}
 
 -- what a request gets that asks for something of the document with a URI and a text
@@ -20,6 +21,7 @@ IsResult claim e Formatting uri text value = IsFormatting claim e text value
 IsResult claim e (Lines range) uri text value = IsLineFormatting claim e range text value
 IsResult claim e (Actions wanted) uri text value = AreActions claim e wanted uri text value
 IsResult claim e Problems uri text value = IsReport claim e text value
+IsResult claim e Folds uri text value = AreFoldsOf claim text value
 
 -- the answer for an open document, or an error if its text is lost
 abbrev pub AnswersText : TextClaim → Encoding → Data → Query → List ℕ → Option (List ℕ) → Option Data → Type 0

@@ -41,7 +41,18 @@ pub struct Problem {
     pub message: String,
 }
 
-/// An analysis of texts: their formattings and their problems.
+/// A part of a text that may be folded, if it has several lines.
+#[derive(Clone, Copy)]
+pub struct Foldable {
+    /// A byte offset in its first line.
+    pub start: usize,
+    /// A byte offset in its last line.
+    pub last: usize,
+    /// Whether it consists of comments.
+    pub is_comment: bool,
+}
+
+/// An analysis of texts: their formattings, their problems, and their parts.
 pub trait Analysis {
     /// The claim about texts.
     ghost claim: { Self → TextClaim };
@@ -77,4 +88,12 @@ pub trait Analysis {
     /// `AllocError` if memory is refused.
     fn problems(&self, alloc: Global, text: &str) -> Result<Vec<Problem>, AllocError>
         ensures { IfOk result (λ problems. (claim self.now).Finds text.now (map problem_read problems.items)) };
+
+    /// Returns the parts of a text that may be folded.
+    ///
+    /// # Errors
+    ///
+    /// `AllocError` if memory is refused.
+    fn foldable(&self, alloc: Global, text: &str) -> Result<Vec<Foldable>, AllocError>
+        ensures { IfOk result (λ parts. (claim self.now).Folds text.now parts.items) };
 }

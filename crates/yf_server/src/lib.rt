@@ -10,6 +10,7 @@ pub mod analysis;
 pub mod diagnostics;
 pub mod documents;
 pub mod edits;
+pub mod folds;
 pub mod handshake;
 pub mod laws;
 pub mod lifecycle;

@@ -25,6 +25,8 @@ pub enum Query {
     },
     /// Its problems (`textDocument/diagnostic`).
     Problems,
+    /// Its folds (`textDocument/foldingRange`).
+    Folds,
 }
 
 /// Returns whether a kind of code actions is `source.fixAll.yamlfmt` or above it.
@@ -114,6 +116,9 @@ pub fn query_of(method: &str, value: &Value) -> Result<Query, ErrorCode>
     }
     if method == "textDocument/diagnostic" {
         return Ok(Query::Problems);
+    }
+    if method == "textDocument/foldingRange" {
+        return Ok(Query::Folds);
     }
     Err(ErrorCode::MethodNotFound)
 }

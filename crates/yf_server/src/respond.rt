@@ -12,6 +12,7 @@ use crate::analysis::Analysis;
 use crate::diagnostics::report;
 use crate::documents::{OpenDocument, place_of};
 use crate::edits::edits_to;
+use crate::folds::folds;
 use crate::parameters::string_in;
 use crate::query::{Query, query_of};
 use serde_json::Value;
@@ -131,6 +132,7 @@ fn result_of<A: Analysis>(
             actions(alloc, analysis, is_wanted, uri, document, encoding)
         }
         Query::Problems => report(alloc, analysis, document, encoding),
+        Query::Folds => folds(alloc, analysis, document),
     }
 }
 
@@ -189,9 +191,9 @@ fn answer_for<A: Analysis>(
 ///
 /// `textDocument/formatting` and `textDocument/willSaveWaitUntil` get the edits that format an open document, or null
 /// if it cannot be formatted, and `textDocument/rangeFormatting` those that format some lines.
-/// `textDocument/codeAction` gets the action with the edits that format the document, and `textDocument/diagnostic` its
-/// problems. Any other method gets the error -32601, a document that is not open the error -32602, and one whose text
-/// is lost the error -32803.
+/// `textDocument/codeAction` gets the action with the edits that format the document, `textDocument/diagnostic` its
+/// problems, and `textDocument/foldingRange` its folds. Any other method gets the error -32601, a document that is not
+/// open the error -32602, and one whose text is lost the error -32803.
 ///
 /// # Errors
 ///

@@ -104,6 +104,7 @@ fn initialize_result(alloc: Global, encoding: Encoding) -> Result<Value, AllocEr
         "textDocumentSync": {"openClose": true, "change": 2},
         "documentFormattingProvider": true,
         "documentRangeFormattingProvider": true,
+        "foldingRangeProvider": true,
         "codeActionProvider": {"codeActionKinds": ["source.fixAll.yamlfmt"]},
         "diagnosticProvider": {"interFileDependencies": false, "workspaceDiagnostics": false}
     }})

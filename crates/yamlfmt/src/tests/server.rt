@@ -5,13 +5,14 @@ use std::alloc::{AllocError, Global};
 use yf_forms::style::Style;
 
 /// What a client sends.
-static RECEIVED: [&str; 11] = [
+static RECEIVED: [&str; 12] = [
     r#"{"jsonrpc":"2.0","id":1,"method":"initialize","params":{"capabilities":{}}}"#,
     r#"{"jsonrpc":"2.0","method":"initialized","params":{}}"#,
     r#"{"jsonrpc":"2.0","method":"textDocument/didOpen","params":{"textDocument":{"uri":"u","languageId":"yaml","version":7,"text":"a: 1\n"}}}"#,
     r#"{"jsonrpc":"2.0","id":"f","method":"textDocument/formatting","params":{"textDocument":{"uri":"u"},"options":{}}}"#,
     r#"{"jsonrpc":"2.0","method":"textDocument/didOpen","params":{"textDocument":{"uri":"w","languageId":"yaml","version":1,"text":"---\na:   1\nx: 1\nb:   2\n"}}}"#,
     r#"{"jsonrpc":"2.0","id":4,"method":"textDocument/rangeFormatting","params":{"textDocument":{"uri":"w"},"range":{"start":{"line":3,"character":0},"end":{"line":3,"character":1}},"options":{}}}"#,
+    r#"{"jsonrpc":"2.0","id":6,"method":"textDocument/foldingRange","params":{"textDocument":{"uri":"w"}}}"#,
     r#"{"jsonrpc":"2.0","method":"textDocument/didOpen","params":{"textDocument":{"uri":"v","languageId":"yaml","version":1,"text":"$ANSIBLE_VAULT;1.1;AES256\n3366\n"}}}"#,
     r#"{"jsonrpc":"2.0","id":5,"method":"textDocument/willSaveWaitUntil","params":{"textDocument":{"uri":"v"},"reason":1}}"#,
     r#"{"jsonrpc":"2.0","method":"textDocument/didChange","params":{"textDocument":{"uri":"u","version":7},"contentChanges":[{"text":""}]}}"#,
@@ -20,12 +21,13 @@ static RECEIVED: [&str; 11] = [
 ];
 
 /// What the server sends.
-static SENT: [&str; 10] = [
-    r#"{"id":1,"jsonrpc":"2.0","result":{"capabilities":{"codeActionProvider":{"codeActionKinds":["source.fixAll.yamlfmt"]},"diagnosticProvider":{"interFileDependencies":false,"workspaceDiagnostics":false},"documentFormattingProvider":true,"documentRangeFormattingProvider":true,"positionEncoding":"utf-16","textDocumentSync":{"change":2,"openClose":true}}}}"#,
+static SENT: [&str; 11] = [
+    r#"{"id":1,"jsonrpc":"2.0","result":{"capabilities":{"codeActionProvider":{"codeActionKinds":["source.fixAll.yamlfmt"]},"diagnosticProvider":{"interFileDependencies":false,"workspaceDiagnostics":false},"documentFormattingProvider":true,"documentRangeFormattingProvider":true,"foldingRangeProvider":true,"positionEncoding":"utf-16","textDocumentSync":{"change":2,"openClose":true}}}}"#,
     r#"{"jsonrpc":"2.0","method":"textDocument/publishDiagnostics","params":{"diagnostics":[{"code":"document-start","message":"no `---` before the document","range":{"end":{"character":0,"line":0},"start":{"character":0,"line":0}},"severity":2,"source":"yamlfmt"}],"uri":"u","version":7}}"#,
     r#"{"id":"f","jsonrpc":"2.0","result":[{"newText":"---\n","range":{"end":{"character":0,"line":0},"start":{"character":0,"line":0}}}]}"#,
     r#"{"jsonrpc":"2.0","method":"textDocument/publishDiagnostics","params":{"diagnostics":[],"uri":"w","version":1}}"#,
     r#"{"id":4,"jsonrpc":"2.0","result":[{"newText":"b: 2\n","range":{"end":{"character":0,"line":4},"start":{"character":0,"line":3}}}]}"#,
+    r#"{"id":6,"jsonrpc":"2.0","result":[{"endLine":3,"startLine":1}]}"#,
     r#"{"jsonrpc":"2.0","method":"textDocument/publishDiagnostics","params":{"diagnostics":[],"uri":"v","version":1}}"#,
     r#"{"id":5,"jsonrpc":"2.0","result":null}"#,
     r#"{"jsonrpc":"2.0","method":"window/logMessage","params":{"message":"the version is not higher than the one before: open the document again, or send the whole text","type":2}}"#,
