@@ -106,8 +106,8 @@ def command(program, name, about):
     if name == 'help':
         return Command(name, about, [], [])
     _, found = parts(said(program, name, '--help'))
-    # An option with a FILE, LINES or a NAME takes any text, and an argument FILE too.
-    taken = [option if option.value in ('', 'FILE', 'LINES', 'NAME')
+    # An option with a FILE, LINES, an N or a NAME takes any text, and an argument FILE too.
+    taken = [option if option.value in ('', 'FILE', 'LINES', 'N', 'NAME')
              else dataclasses.replace(option, values=values(program, name, option.long + '='))
              for option in options(found.get('Options', []))]
     arguments = [Argument(row[1] + (' ...' if row[2] else ''), row[3],
@@ -179,6 +179,8 @@ def names_of(given):
 
 def bash_value(option):
     """The case of an option with a value: what is offered for it."""
+    if option.value in ('LINES', 'N'):
+        return "        %s) offered='' files='' ;;" % option.long
     if not option.values:
         return '        %s) files=yes ;;' % option.long
     front = ' front=${word%"${word##*,}"}' if option.is_list() else ''

@@ -5,6 +5,7 @@ mod answer;
 mod answer_rows;
 mod answers;
 mod check;
+mod check_options;
 mod command_line;
 mod command_rows;
 mod comments;

@@ -207,7 +207,7 @@ module _ (inputs : List Input → Vec Input Global) (inputs_are : (l : List Inpu
   check_way : (rules : List Text) (pages : List Page) (name : Text) (given : List Row) → name ≡ codes "check"
       → Way rules pages name given
   check_way rules pages name given named =
-      elim (check_or_not inputs inputs_are texts texts_are rules given) [
+      elim (check_or_not inputs inputs_are texts texts_are ranges ranges_are rules given) [
         | inl a ↦ inl (command.Check a.0, (named, a.1))
         | inr no_way ↦ inr (inr (no_check named no_way))
       ]

@@ -7,6 +7,7 @@ pub mod WordLemmas
 -- `write_shown`
 pub mod ShownLemmas
 -- `AsksFor` and `RefusesWords`: each line of words asks for one request or is refused
+pub mod PrintingExactness
 pub mod CheckExactness
 pub mod FmtExactness
 pub mod Exactness

@@ -1,22 +1,18 @@
--- How problems are printed, by the value of `--format`.
+-- The outputs by the name of their format.
 use Rattle.std.specs.Prelude.{ℕ, List, Option, Some, None, codes, if◌then◌else◌}
 use Rattle.std.specs.Str.{bytes_eq}
 use Rattle.yf_report.specs.declared.reports.Format.TheVariants.{Json, Github, Sarif, Gitlab, Junit, Checkstyle}
 use Rattle.yf_command_line.specs.declared.command.Output.{Output}
-use Rattle.yf_command_line.specs.declared.command.Output.TheVariants.{Lines, Report}
+use Rattle.yf_command_line.specs.declared.command.Output.TheVariants.{Lines, Full, Report}
 
 -- How problems are printed in the format of this name, or none if no format has the name.
 abbrev pub output_named : List ℕ → Option Output
 output_named name =
     if bytes_eq name (codes "line") then Some Lines else
+    (if bytes_eq name (codes "full") then Some Full else
     (if bytes_eq name (codes "json") then Some (Report Json) else
     (if bytes_eq name (codes "sarif") then Some (Report Sarif) else
     (if bytes_eq name (codes "github") then Some (Report Github) else
     (if bytes_eq name (codes "gitlab") then Some (Report Gitlab) else
     (if bytes_eq name (codes "junit") then Some (Report Junit) else
-    (if bytes_eq name (codes "checkstyle") then Some (Report Checkstyle) else None))))))
-
--- How problems are printed. Without `--format`, a line is printed for each problem.
-abbrev pub output_of : Option (List ℕ) → Option Output
-output_of (Some name) = output_named name
-output_of None = Some Lines
+    (if bytes_eq name (codes "checkstyle") then Some (Report Checkstyle) else None)))))))

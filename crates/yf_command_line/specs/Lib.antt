@@ -4,6 +4,7 @@ pub mod Options
 pub mod Requests
 pub mod Without
 pub mod Formats
+pub mod Printing
 pub mod Lines
 -- how a word is shown in a message
 pub mod Shown

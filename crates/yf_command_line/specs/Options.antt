@@ -58,6 +58,18 @@ without_option =
 abbrev pub format_option : Rule
 format_option = record (new_rule (codes "format")) { long = Some (codes "format"); value_names = 1 }
 
+-- `--statistics`
+abbrev pub statistics_flag : Rule
+statistics_flag = record (new_rule (codes "statistics")) { long = Some (codes "statistics"); action = Some SetTrue }
+
+-- `--max-findings N`
+abbrev pub max_findings_option : Rule
+max_findings_option = record (new_rule (codes "max-findings")) { long = Some (codes "max-findings"); value_names = 1 }
+
+-- `--color WHEN`
+abbrev pub color_option : Rule
+color_option = record (new_rule (codes "color")) { long = Some (codes "color"); value_names = 1 }
+
 -- `--lines LINES`
 abbrev pub lines_option : Rule
 lines_option = record (new_rule (codes "lines")) { long = Some (codes "lines"); value_names = 1; action = Some Append }
@@ -103,10 +115,20 @@ reading_command name = with_rule (configured name) file_word
 abbrev pub naming : Text → App
 naming name = with_rule (configured name) names_flag
 
--- `check SETTINGS READING [--names] [--without RULES] [--format FORMAT] [FILE..]`
+-- `check SETTINGS READING [--names] [--without RULES] [--lines LINES]`
+abbrev pub choosing_command : App
+choosing_command = with_rule (with_rule (naming (codes "check")) without_option) lines_option
+
+-- `check SETTINGS READING [--names] [--without RULES] [--lines LINES] PRINTING`. PRINTING is `[--format FORMAT]
+-- [--statistics] [--max-findings N] [--color WHEN]`.
+abbrev pub printing_command : App
+printing_command =
+    with_rule (with_rule (with_rule (with_rule choosing_command format_option) statistics_flag) max_findings_option)
+    color_option
+
+-- `check SETTINGS READING [--names] [--without RULES] [--lines LINES] PRINTING [FILE..]`
 abbrev pub checking_command : App
-checking_command =
-    with_rule (with_rule (with_rule (naming (codes "check")) without_option) format_option) file_words
+checking_command = with_rule printing_command file_words
 
 -- `fmt SETTINGS READING [--names] [--write] [--check] [--diff]`
 abbrev pub formatting_command : App

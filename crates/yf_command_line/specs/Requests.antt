@@ -1,16 +1,16 @@
 -- The request that the words of a command line ask for, when they ask for a text instead, and when they are refused.
 -- `proofs/Exactness.antt` proves that each line of words asks for one request, asks for a text or is refused. Words that
 -- ask for a request do nothing else, and words for which `explain` prints a text are not refused.
-use Rattle.std.specs.Prelude.{◌≡◌, ◌≢◌, ◌⊎◌, ◌<◌, ⊤, Bool, true, false, ◌||◌, List, [], ◌∷◌, map, length, codes}
-use Rattle.std.specs.Prelude.{Option, Some, None, unwrap_or, if◌then◌else◌, MatchOption}
+use Rattle.std.specs.Prelude.{◌≡◌, ◌≢◌, ◌⊎◌, ◌<◌, ◌≤◌, ⊤, Bool, true, false, ◌||◌, List, [], ◌∷◌, map, length}
+use Rattle.std.specs.Prelude.{Option, Some, None, codes, unwrap_or, if◌then◌else◌, MatchOption}
 use Rattle.std.specs.Str.{bytes_eq}
 use Rattle.std.specs.List.{list_any}
 use Rattle.clap.specs.Words.{Row, Text, all_of, fault_of, first_of, matches_of, subcommand_of, IsAmong}
 use Rattle.clap.specs.declared.error.kind.ErrorKind.{ErrorKind}
 use Rattle.clap.specs.declared.error.kind.ErrorKind.TheVariants.{DisplayHelp, DisplayVersion, OutOfMemory}
-use Rattle.yf_command_line.specs.Formats.{output_of}
 use Rattle.yf_command_line.specs.Lines.{are_lines, lines_in}
 use Rattle.yf_command_line.specs.Options.{yamlfmt}
+use Rattle.yf_command_line.specs.Printing.{IsLimit, IsNoFormat, IsNoLimit, IsOutput, colors_of}
 use Rattle.yf_command_line.specs.Without.{are_rules, names_in}
 use Rattle.yf_command_line.specs.declared.command.Check.{Check}
 use Rattle.yf_command_line.specs.declared.command.Command.{Command}
@@ -21,9 +21,9 @@ use Rattle.yf_command_line.specs.declared.command.Fmt.TheVariants as fmt
 use Rattle.yf_command_line.specs.declared.command.Input.{Input}
 use Rattle.yf_command_line.specs.declared.command.Input.TheVariants.{Standard, File}
 use Rattle.yf_command_line.specs.declared.command.InputList.{InputList}
-use Rattle.yf_command_line.specs.declared.command.Output.{Output}
 use Rattle.yf_command_line.specs.declared.command.Part.{Part}
 use Rattle.yf_command_line.specs.declared.command.Part.TheVariants as part
+use Rattle.yf_command_line.specs.declared.command.Printing.{Printing}
 use Rattle.yf_command_line.specs.declared.command.Request.{Request}
 use Rattle.yf_command_line.specs.declared.command.Settings.{Settings}
 use Rattle.yf_command_line.specs.declared.command.Settings.TheVariants as asked
@@ -83,9 +83,21 @@ names_given given = names_in (all_given (codes "without") given)
 abbrev pub explained_given : List Page → List Row → Option Text
 explained_given pages given = explanation pages (first_of (codes "name") given)
 
--- How problems are printed, or none if the value of `--format` is not the name of a format.
-abbrev pub output_given : List Row → Option Output
-output_given given = output_of (first_of (codes "format") given)
+-- The value of `--format`, if it is given.
+abbrev pub format_given : List Row → Option Text
+format_given given = first_of (codes "format") given
+
+-- Whether `--statistics` is given.
+abbrev pub counts : List Row → Bool
+counts given = is_flag (codes "statistics") given
+
+-- The value of `--color`, if it is given.
+abbrev pub color_given : List Row → Option Text
+color_given given = first_of (codes "color") given
+
+-- The value of `--max-findings`, if it is given.
+abbrev pub limit_given : List Row → Option Text
+limit_given given = first_of (codes "max-findings") given
 
 -- The words of `--lines`, in order.
 abbrev pub lines_given : List Row → List Text
@@ -176,15 +188,27 @@ IsFmt given (fmt.Part lines what) =
     (lines_given given ≢ []) × (are_lines (lines_given given) ≡ true)
     × (lines.items ≡ lines_in (lines_given given)) × DoesPart given what
 
--- The task of `check` with these rows: `check [--without RULES] [--format FORMAT] [FILE..]`.
+-- How `check` prints its findings. PRINTING is `[--format FORMAT] [--statistics] [--max-findings N] [--color WHEN]`.
+pub record IsPrinting (given : List Row) (printing : Printing) : Type 0 where
+  -- FORMAT is the name of a format
+  pub output : IsOutput (counts given) (format_given given) printing.output
+  -- WHEN is `auto`, `always` or `never`
+  pub colors : colors_of (color_given given) ≡ Some printing.colors
+  -- N is a decimal number of 64 bits
+  pub limit : IsLimit (limit_given given) printing.limit
+
+-- The task of `check` with these rows: `check [--without RULES] [--lines LINES] PRINTING [FILE..]`.
 -- (rules: the names of all rules)
 pub record IsCheck (rules : List Text) (given : List Row) (check : Check) : Type 0 where
   pub inputs : inputs_of (files_given given) ≡ all_inputs check.inputs
   -- each name in RULES is the name of a rule
   pub without : check.without.items ≡ names_given given
   pub known : are_rules rules (names_given given) ≡ true
-  -- FORMAT is the name of a format
-  pub output : output_given given ≡ Some check.output
+  -- LINES are ranges of lines, and there is at most one FILE with them
+  pub lines : check.lines.items ≡ lines_in (lines_given given)
+  pub written : are_lines (lines_given given) ≡ true
+  pub alone : lines_given given ≢ [] → length (files_given given) ≤ 1
+  pub printing : IsPrinting given check.printing
 
 -- The command with this name and these rows. (rules: the names of all rules)
 abbrev pub IsCommand : List Text → Text → List Row → Command → Type 0
@@ -247,12 +271,27 @@ pub data IsNoFmt (given : List Row) : Type 0 where
   -- `--lines` with a word that is no range of lines, nor several with commas between
   no_lines : are_lines (lines_given given) ≡ false → IsNoFmt given
 
+-- Why `check` refuses its options for the output.
+pub data IsNoPrinting (given : List Row) : Type 0 where
+  -- `--statistics` with `--format`
+  two_outputs : counts given ≡ true → format_given given ≢ None → IsNoPrinting given
+  -- `--format` with a name that no format has
+  no_format : IsNoFormat (format_given given) → IsNoPrinting given
+  -- `--color` with another word than `auto`, `always` and `never`
+  no_colors : colors_of (color_given given) ≡ None → IsNoPrinting given
+  -- `--max-findings` with a word that is no decimal number of 64 bits
+  no_limit : IsNoLimit (limit_given given) → IsNoPrinting given
+
 -- Why `check` refuses its rows.
 pub data IsNoCheck (rules : List Text) (given : List Row) : Type 0 where
   -- `--without` with a name that no rule has
   no_rule : are_rules rules (names_given given) ≡ false → IsNoCheck rules given
-  -- `--format` with a name that no format has
-  no_format : output_given given ≡ None → IsNoCheck rules given
+  -- `--lines` with a word that is no range of lines, nor several with commas between
+  wrong_lines : are_lines (lines_given given) ≡ false → IsNoCheck rules given
+  -- several FILEs with `--lines`
+  several_checked : lines_given given ≢ [] → 1 < length (files_given given) → IsNoCheck rules given
+  -- it refuses its options for the output
+  no_printing : IsNoPrinting given → IsNoCheck rules given
 
 -- Why a name and the rows after it are not a command. (pages: those that `explain` prints)
 pub data IsNoCommand (rules : List Text) (pages : List Page) (name : Text) (given : List Row) : Type 0 where

@@ -67,10 +67,36 @@ pub enum Part {
 /// How problems are printed.
 #[derive(Clone, Copy)]
 pub enum Output {
-    /// A line for each problem.
+    /// A line for each finding (`--format line`).
     Lines,
+    /// For people: the message, the line of the text, and carets under the range (`--format full`).
+    Full,
+    /// The number of findings of each rule (`--statistics`).
+    Statistics,
     /// One report of all inputs, for programs.
     Report(Format),
+}
+
+/// When the output has colors (`--color`).
+#[derive(Clone, Copy)]
+pub enum Colors {
+    /// If standard output is a terminal, and the environment does not forbid colors.
+    Auto,
+    /// Always.
+    Always,
+    /// Never.
+    Never,
+}
+
+/// How `check` prints its findings.
+#[derive(Clone, Copy)]
+pub struct Printing {
+    /// The form, or `None` if the command line names none.
+    pub output: Option<Output>,
+    /// When the output has colors.
+    pub colors: Colors,
+    /// The greatest number of findings to print (`--max-findings`). Without it there is no limit.
+    pub limit: Option<usize>,
 }
 
 /// The task of `check`.
@@ -80,8 +106,10 @@ pub struct Check {
     pub inputs: InputList,
     /// The names of the rules to leave out, in the order of the command line. Each is the name of a rule.
     pub without: Vec<OwnedText>,
-    /// How the findings are printed (`--format`).
-    pub output: Output,
+    /// The lines to check (`--lines`), in the order of the command line. If there are none, all lines are checked.
+    pub lines: Vec<LineRange>,
+    /// How the findings are printed.
+    pub printing: Printing,
 }
 
 /// A command with its inputs.

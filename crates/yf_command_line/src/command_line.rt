@@ -1,25 +1,24 @@
 //! Parses the words of a command line into a request.
 ghost use Rattle.std.specs.Prelude.{◌≡◌, ◌||◌, codes, map, MatchResult, string_bytes, true, false, []};
 ghost use Rattle.clap.specs.Words.{found_of, rows_of, subcommand_rows_of};
-ghost use Rattle.yf_command_line.specs.Requests.{AsksFor, AsksTwice, IsCheck, IsCommand, IsFmt, IsNoCheck};
-ghost use Rattle.yf_command_line.specs.Requests.{IsNoFmt, IsRequest, IsSettings, MakesNoCommand, MakesNoRequest};
+ghost use Rattle.yf_command_line.specs.Requests.{AsksFor, AsksTwice, IsCommand, IsFmt, IsNoFmt};
+ghost use Rattle.yf_command_line.specs.Requests.{IsRequest, IsSettings, MakesNoCommand, MakesNoRequest};
 ghost use Rattle.yf_command_line.specs.Requests.{RefusedBy, RefusesWords, is_flag, lines_given, writes};
 
-use crate::command::{Check, Command, Fmt, Request, Settings};
+use crate::check::check_met;
+use crate::command::{Command, Fmt, Request, Settings};
 use crate::explained::explained;
-use crate::formats::output_met;
 use crate::inputs::{files_of, first_input, has_standard_input, inputs_of};
 use crate::options::{
-    ANY_TEXT, CHECK, CONFIG, DIFF, EVENTS, EXPLAIN, FILE, FMT, FORMAT, LINES, NAMES, NO_CONFIG,
-    SERVER, SHOW_SETTINGS, STDIN_NAME, WITHOUT, WRITE, yamlfmt_command,
+    ANY_TEXT, CHECK, CONFIG, DIFF, EVENTS, EXPLAIN, FILE, FMT, LINES, NAMES, NO_CONFIG, SERVER,
+    SHOW_SETTINGS, STDIN_NAME, WRITE, yamlfmt_command,
 };
 use crate::part::part_met;
 use crate::refused_words::{
     NO_COMMAND, NO_FILE, NO_STANDARD_INPUT, NOT_SHOWN, NOTHING_WRITTEN, SEVERAL_FILES, TWO_SETTINGS,
 };
 use crate::usage::{Usage, refusal, usage_of};
-use crate::without::{names_in, refusal_of_name, unknown_name};
-use crate::words::{is_given, text_given, value_given, words_given};
+use crate::words::{is_given, text_given, words_given};
 use clap::ArgMatches;
 use std::alloc::Global;
 use yf_rule_pages::page::Page;
@@ -28,18 +27,20 @@ use yf_rule_pages::page::Page;
 /// `explain` prints. `--explain` may also come before the command. The commands are:
 ///
 /// - `events [SETTINGS] [READING] [FILE]`
-/// - `check [SETTINGS] [READING] [--names] [--without RULES] [--format FORMAT] [FILE..]`. RULES are names of rules,
-///   separated by commas. The option may be given more than once. FORMAT is `line`, `json`, `sarif`, `github`,
-///   `gitlab`, `junit` or `checkstyle`.
+/// - `check [SETTINGS] [READING] [--names] [--without RULES] [--lines LINES] [PRINTING] [FILE..]`. RULES are names of
+///   rules, separated by commas. The option may be given more than once.
 /// - `fmt [SETTINGS] [READING] [--names] [--write] [--check] [--diff] [--lines LINES] [FILE..]`. `--write` needs a
 ///   FILE, and no FILE may be `-`. It excludes `--check` and `--diff`. Several FILEs need one of these three options.
-///   `--lines` takes at most one FILE. LINES are numbers of lines and ranges, as in `3-7,12`. The option may be given
-///   more than once.
 /// - `server [SETTINGS] [--stdio]`. It always reads standard input, and `--stdio` changes nothing: editors pass it.
 /// - `explain [NAME]`. It makes no request: what it prints is returned as `Usage::Help`.
 ///
 /// SETTINGS is `--config FILE` or `--no-config`, and `--show-settings`. READING is `--explain`, `--any-text` and
-/// `--stdin-name NAME`.
+/// `--stdin-name NAME`. PRINTING is `--format FORMAT` or `--statistics`, and `--max-findings N` and `--color WHEN`:
+/// FORMAT is `line`, `full`, `json`, `sarif`, `github`, `gitlab`, `junit` or `checkstyle`, N is a decimal number, and
+/// WHEN is `auto`, `always` or `never`.
+///
+/// `--lines` takes at most one FILE. LINES are numbers of lines and ranges, as in `3-7,12`. The option may be given
+/// more than once.
 ///
 /// A FILE `-` is standard input. Without a FILE a command reads standard input.
 ///
@@ -162,27 +163,6 @@ fn command_met(
         return Err(explained(alloc, given, pages));
     }
     Err(refusal(alloc, NO_COMMAND))
-}
-
-// Returns `check` with these matches.
-fn check_met(alloc: Global, given: &ArgMatches<'_>, rules: &[&str]) -> Result<Check, Usage>
-    ensures { MatchResult result (IsCheck (map (λ r. r.now) rules.now) (rows_of (found_of given.now)))
-        (RefusedBy (IsNoCheck (map (λ r. r.now) rules.now) (rows_of (found_of given.now)))) }
-{
-    let without = names_in(alloc, words_given(given, WITHOUT))?;
-    if let Some(name) = unknown_name(without.as_slice(), rules) {
-        return Err(refusal_of_name(alloc, name, rules));
-    }
-    let output = match output_met(alloc, value_given(given, FORMAT)) {
-        Ok(output) => output,
-        Err(usage) => return Err(usage),
-    };
-    let inputs = inputs_of(alloc, words_given(given, FILE))?;
-    Ok(Check {
-        inputs,
-        without,
-        output,
-    })
 }
 
 // Returns `fmt` with these matches.

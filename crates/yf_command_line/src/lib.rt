@@ -3,6 +3,8 @@
 #![tactic(auto)]
 
 pub mod build;
+pub(crate) mod check;
+pub(crate) mod check_options;
 pub mod command;
 pub mod command_line;
 pub(crate) mod explained;
@@ -11,6 +13,7 @@ pub(crate) mod inputs;
 pub(crate) mod lines;
 pub(crate) mod options;
 pub(crate) mod part;
+pub(crate) mod printing;
 pub(crate) mod refused_words;
 pub mod shown;
 pub mod usage;

@@ -1,16 +1,17 @@
 //! The commands of the program and their options, as the library for command lines takes them.
 ghost use Rattle.std.specs.Prelude.{◌≡◌, IfOk};
 ghost use Rattle.clap.specs.Words.{App, Rule, app_of, with_rule, with_subcommand};
-ghost use Rattle.yf_command_line.specs.Options.{any_text_flag, bare_command, check_flag, checking_command};
-ghost use Rattle.yf_command_line.specs.Options.{config_option, configured, explaining_command, name_word, names_flag};
+ghost use Rattle.yf_command_line.specs.Options.{any_text_flag, bare_command, check_flag, config_option};
+ghost use Rattle.yf_command_line.specs.Options.{configured, explaining_command, name_word, names_flag};
 ghost use Rattle.yf_command_line.specs.Options.{diff_flag, explain_flag, file_word, file_words, formatting_command};
-ghost use Rattle.yf_command_line.specs.Options.{format_option, lines_option, no_config_flag, show_settings_flag};
+ghost use Rattle.yf_command_line.specs.Options.{lines_option, no_config_flag, show_settings_flag};
 ghost use Rattle.yf_command_line.specs.Options.{naming, with_config, with_defaults, with_settings, write_flag};
 ghost use Rattle.yf_command_line.specs.Options.{reading_command, serving_command, stdin_name_option, stdio_flag};
-ghost use Rattle.yf_command_line.specs.Options.{without_option, writing_command, yamlfmt};
+ghost use Rattle.yf_command_line.specs.Options.{writing_command, yamlfmt};
 ghost use Rattle.yf_command_line.specs.Options.{IsOption, IsPart};
 
 use crate::build::VERSION;
+use crate::check_options::check_command;
 use clap::{Arg, ArgAction, Command};
 use std::alloc::{AllocError, Global};
 
@@ -39,6 +40,12 @@ pub(crate) const NAMES: &str = "names";
 pub(crate) const WITHOUT: &str = "without";
 
 pub(crate) const FORMAT: &str = "format";
+
+pub(crate) const STATISTICS: &str = "statistics";
+
+pub(crate) const MAX_FINDINGS: &str = "max-findings";
+
+pub(crate) const COLOR: &str = "color";
 
 pub(crate) const WRITE: &str = "write";
 
@@ -109,15 +116,6 @@ fn reading_command<'a>(
     with_arg(configured(alloc, name, about), file_word(alloc))
 }
 
-fn check_command<'a>(alloc: Global) -> Result<Command<'a>, AllocError>
-    ensures { IfOk result (λ c. IsPart c checking_command) }
-{
-    let command = naming(alloc, CHECK, "Report where a file breaks a style rule");
-    let leaving_out = with_arg(command, without_option(alloc));
-    let printing = with_arg(leaving_out, format_option(alloc));
-    with_arg(printing, file_words(alloc))
-}
-
 fn fmt_command<'a>(alloc: Global) -> Result<Command<'a>, AllocError>
     ensures { IfOk result (λ c. IsPart c writing_command) }
 {
@@ -155,7 +153,11 @@ fn explain_command<'a>(alloc: Global) -> Result<Command<'a>, AllocError>
 }
 
 // A command with the options of `configured`, and `--names`.
-fn naming<'a>(alloc: Global, name: &'a str, about: &'a str) -> Result<Command<'a>, AllocError>
+pub(crate) fn naming<'a>(
+    alloc: Global,
+    name: &'a str,
+    about: &'a str,
+) -> Result<Command<'a>, AllocError>
     ensures { IfOk result (λ c. IsPart c (naming name.entry.now)) }
 {
     with_arg(configured(alloc, name, about), names_flag(alloc))
@@ -201,7 +203,7 @@ fn with_config<'a>(alloc: Global, name: &'a str, about: &'a str) -> Result<Comma
 }
 
 // The command with one more option, if it was made.
-fn with_arg<'a>(
+pub(crate) fn with_arg<'a>(
     command: Result<Command<'a>, AllocError>,
     arg: Arg<'a>,
 ) -> Result<Command<'a>, AllocError>
@@ -277,25 +279,6 @@ fn names_flag<'a>(alloc: Global) -> Arg<'a>
         .help("Print the name of the input before each line, also for a single input")
 }
 
-fn without_option<'a>(alloc: Global) -> Arg<'a>
-    ensures { IsOption result without_option }
-{
-    Arg::new(alloc, WITHOUT)
-        .long(WITHOUT)
-        .value_name("RULES")
-        .action(ArgAction::Append)
-        .help("Skip the rules with these ids (comma-separated)")
-}
-
-fn format_option<'a>(alloc: Global) -> Arg<'a>
-    ensures { IsOption result format_option }
-{
-    Arg::new(alloc, FORMAT)
-        .long(FORMAT)
-        .value_name("FORMAT")
-        .help("Print the findings as line, json, sarif, github, gitlab, junit or checkstyle")
-}
-
 fn write_flag<'a>(alloc: Global) -> Arg<'a>
     ensures { IsOption result write_flag }
 {
@@ -323,7 +306,7 @@ fn diff_flag<'a>(alloc: Global) -> Arg<'a>
         .help("Print the changes as a unified diff, and exit with 1 if there are any")
 }
 
-fn lines_option<'a>(alloc: Global, help: &'a str) -> Arg<'a>
+pub(crate) fn lines_option<'a>(alloc: Global, help: &'a str) -> Arg<'a>
     ensures { IsOption result lines_option }
 {
     Arg::new(alloc, LINES)
@@ -358,7 +341,7 @@ fn file_word<'a>(alloc: Global) -> Arg<'a>
     )
 }
 
-fn file_words<'a>(alloc: Global) -> Arg<'a>
+pub(crate) fn file_words<'a>(alloc: Global) -> Arg<'a>
     ensures { IsOption result file_words }
 {
     Arg::new(alloc, FILE)

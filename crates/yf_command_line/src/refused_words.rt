@@ -67,3 +67,20 @@ Usage: yamlfmt fmt [OPTIONS] [FILE]...
 
 For more information, try '--help'.
 ";
+
+/// The message for several files with `check --lines`.
+pub(crate) const SEVERAL_CHECKED: &str = "error: the argument '--lines' takes one FILE
+
+Usage: yamlfmt check [OPTIONS] [FILE]...
+
+For more information, try '--help'.
+";
+
+/// The message for `--statistics` with `--format`.
+pub(crate) const TWO_OUTPUTS: &str =
+    "error: the argument '--statistics' cannot be used with '--format'
+
+Usage: yamlfmt check [OPTIONS] [FILE]...
+
+For more information, try '--help'.
+";

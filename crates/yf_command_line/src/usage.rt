@@ -63,6 +63,32 @@ pub(crate) fn refusal(alloc: Global, text: &str) -> Usage
     }
 }
 
+// Returns the refusal of a value of an option. `reason` ends the message.
+pub(crate) fn refusal_of_value(alloc: Global, value: &str, option: &str, reason: &str) -> Usage
+    ensures { RefusedBy ⊤ result }
+{
+    match value_text(alloc, value, option, reason) {
+        Ok(text) => Usage::Wrong(text),
+        Err(_) => Usage::Memory,
+    }
+}
+
+// Returns the message for such a value.
+fn value_text(
+    alloc: Global,
+    value: &str,
+    option: &str,
+    reason: &str,
+) -> Result<OwnedText, AllocError> {
+    let value = shown_text(alloc, value)?;
+    Ok(OwnedText::new(format!(in alloc;
+        "error: invalid value '{value}' for '{option}'{reason}
+
+For more information, try '--help'.
+"
+    )?))
+}
+
 fn text_of(alloc: Global, error: &Error) -> Result<OwnedText, AllocError> {
     Ok(OwnedText::new(format!(in alloc; "{error}")?))
 }

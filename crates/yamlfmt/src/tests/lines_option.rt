@@ -1,4 +1,4 @@
-//! Command lines with `--lines`.
+//! Command lines of `fmt` with `--lines`.
 
 use crate::tests::answers::words_of;
 use std::alloc::Global;
@@ -87,7 +87,7 @@ For more information, try '--help'.
 ];
 
 /// Returns whether these are the ranges.
-fn are_lines(found: &[LineRange], wanted: &[[usize; 2]]) -> bool {
+pub fn are_lines(found: &[LineRange], wanted: &[[usize; 2]]) -> bool {
     found.len() == wanted.len()
         && found.iter().zip(wanted).all(|(range, ends)| range.first == ends[0]
             && range.last == ends[1])

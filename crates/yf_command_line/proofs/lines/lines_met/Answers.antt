@@ -8,7 +8,7 @@ use Rattle.yf_command_line.proofs.lines.lines_met.Goals as goal
 pub returns-then-not-branch : goal.returns-then-not-branch
 returns-then-not-branch c =
     let wrong = sym c.in_ok-add_ranges.ensures.written ∙ c.if-not-branch.true in
-    refused_for _ c.refusal_of_lines.ensures (sym (one_fails are_ranges c.args.words.now c.loop-word.word-index _ _
+    refused_for _ c.refusal_of_value.ensures (sym (one_fails are_ranges c.args.words.now c.loop-word.word-index _ _
     c.loop-word-test.true c.loop-word.invariant.decided wrong))
 
 pub loop-word-preserved : goal.loop-word-preserved

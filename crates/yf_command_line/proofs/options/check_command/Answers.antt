@@ -1,7 +1,0 @@
-use Rattle.yf_command_line.proofs.options.check_command.Goals as goal
-
-pub returns : goal.returns
-returns c =
-    let leaving_out = c.with_arg-leaving_out.ensures _ _ c.naming-command.ensures c.without_option.ensures in
-    let printing = c.with_arg-printing.ensures _ _ leaving_out c.format_option.ensures in
-    c.with_arg.ensures _ _ printing c.file_words.ensures
