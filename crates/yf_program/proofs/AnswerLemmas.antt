@@ -15,10 +15,9 @@ use Rattle.yf_command_line.specs.declared.command.Part.TheVariants as part
 use Rattle.yf_parts.specs.PartRun.{IsPart}
 use Rattle.yf_parts.specs.declared.show.Show.TheVariants as show
 use Rattle.yf_command_line.specs.declared.command.Input.TheVariants.{Standard, File}
-use Rattle.yf_command_line.specs.declared.command.Output.{Output}
-use Rattle.yf_command_line.specs.declared.command.Output.TheVariants.{Lines, Report}
 use Rattle.yf_files.specs.Tree.{FilesState}
 use Rattle.yf_files.specs.declared.rewriting.RewriteError.{RewriteError}
+use Rattle.yf_findings.specs.declared.printed.Form.{Form}
 use Rattle.yf_forms.specs.declared.style.Style.{Style}
 use Rattle.yf_rules.specs.Runs.ByteStream.{ByteStream}
 use Rattle.yf_program.specs.Answer.{CopiesInput, DoesAll, DoesCheck, DoesEach, DoesIn, DoesInput, DoesNamed, DoesOpened, DoesRewrite}
@@ -26,7 +25,8 @@ use Rattle.yf_program.specs.Answer.{EndsRewriting, Ran, RanLeftOut, RewritesInpu
 use Rattle.yf_host.specs.Memory.{ToldMemory, empty_memory}
 use Rattle.yf_program.specs.Answer.{host_in, name_of, task_of}
 use Rattle.yf_program.specs.Answer.DoesEach.{one_done, one_more}
-use Rattle.yf_program.specs.Reports.{report_task}
+use Rattle.yf_program.specs.Forms.{check_form, explains_in, writes_at_once}
+use Rattle.yf_program.specs.Reports.{DoesReport, report_task}
 use Rattle.yf_program.specs.Run.{DoesWith}
 use Rattle.yf_program.specs.Run.DoesWith.{other_version, without_memory, are_taken}
 use Rattle.yf_program.specs.Guarded.{ReaderClaim, is_standard, prints_text}
@@ -43,6 +43,11 @@ use Rattle.yf_host.specs.declared.sources.Sources.{Sources}
 use Rattle.yf_program.specs.declared.task.Flags.{Flags}
 use Rattle.yf_program.specs.declared.task.Task.{Task}
 use Rattle.yf_program.specs.declared.task.Work.TheVariants as work
+
+-- each of the two ways in which a check is done is a way of before
+pub either_check : (at_once : Bool) {P Q R S : Type 0} → (P → R) → (Q → S) → MatchBool at_once P Q → MatchBool at_once R S
+either_check true first second d = first d
+either_check false first second d = second d
 
 -- what was known is still known after two steps
 pub known_on : {a b c : InputClaim} → StillKnown a b → StillKnown b c → StillKnown a c
@@ -146,17 +151,18 @@ module _ {F : Type 0} (earlier later : Host F) (known : StillKnown earlier.input
   all_before scope task inputs status before after d =
       all_by (ScopedInput later scope task) (ScopedInput earlier scope task) (scoped_input_before earlier later known scope task) scope inputs status before after d
 
-  check_before : (check : Check) (scope : Scope) (explain : Bool) (style : Style) (output : Output) (status : ℕ) (before after : World F)
-      → DoesCheck later check scope explain style output status before after → DoesCheck earlier check scope explain style output status before after
-  check_before check scope explain style Lines status before after d = all_before scope (task_of (work.Check check.without) explain style) (all_inputs check.inputs) status before after d
-  check_before check scope explain style (Report format) status before after d =
-      report_before earlier later known scope (report_task check explain style format) (all_inputs check.inputs) status before after d
+  check_before : (check : Check) (scope : Scope) (explain : Bool) (style : Style) (form : Form) (status : ℕ) (before after : World F)
+      → DoesCheck later check scope explain style form status before after → DoesCheck earlier check scope explain style form status before after
+  check_before check scope explain style form status before after d =
+      either_check (writes_at_once form check.lines.items check.printing.limit)
+      (all_before scope (task_of (work.Check check.without) explain style) (all_inputs check.inputs) status before after)
+      (report_before earlier later known scope (report_task check explain style form) (all_inputs check.inputs) status before after) d
 
   pub does_in_before : (what : Command) (scope : Scope) (explain : Bool) (style : Style) (status : ℕ) (before after : World F) → DoesIn later what scope explain style status before after
       → DoesIn earlier what scope explain style status before after
   does_in_before (command.Events input) scope explain style status before after d = scoped_input_before earlier later known scope (task_of work.Events explain style) input status before after d
   does_in_before command.Server scope explain style status before after d = scoped_input_before earlier later known scope (task_of work.Serve explain style) Standard status before after d
-  does_in_before (command.Check check) scope explain style status before after d = check_before check scope explain style check.output status before after d
+  does_in_before (command.Check check) scope explain style status before after d = check_before check scope explain style (check_form check scope) status before after d
   does_in_before (command.Fmt (fmt.Print input)) scope explain style status before after d = scoped_input_before earlier later known scope (task_of work.Print explain style) input status before after d
   does_in_before (command.Fmt (fmt.Check inputs)) scope explain style status before after d = all_before scope (task_of work.Compare explain style) (all_inputs inputs) status before after d
   does_in_before (command.Fmt (fmt.Diff inputs)) scope explain style status before after d = all_before scope (task_of work.Diff explain style) (all_inputs inputs) status before after d
@@ -176,6 +182,28 @@ module _ {F : Type 0} (earlier later : Host F) (known : StillKnown earlier.input
   does_with_before in_force settings flags what status before after (without_memory n r) = without_memory (nothing_before earlier later known before after n) r
   does_with_before in_force settings flags what status before after (are_taken d) =
       are_taken (does_in_before what (scope_of in_force settings flags) flags.explain settings.style status before after d)
+
+-- the check in its form: each finding was written at once, or one report of all was written
+module _ {F : Type 0} (host : Host F) (check : Check) (scope : Scope) (explain : Bool) (style : Style) (form : Form) (same : form ≡ check_form check scope) (status : ℕ) (before after : World F) where
+  in_form : DoesCheck host check scope explain style form status before after → DoesIn host (command.Check check) scope explain style status before after
+  in_form d = subst (λ (f : Form). DoesCheck host check scope explain style f status before after) same d
+
+  pub checked_at_once : writes_at_once form check.lines.items check.printing.limit ≡ true
+      → DoesAll scope (ScopedInput host scope (task_of (work.Check check.without) explain style)) (all_inputs check.inputs) status before after
+      → DoesIn host (command.Check check) scope explain style status before after
+  checked_at_once at_once d =
+      let Each = DoesAll scope (ScopedInput host scope (task_of (work.Check check.without) explain style)) (all_inputs check.inputs) status before after in
+      let Report = DoesReport host scope (report_task check explain style form) (all_inputs check.inputs) status before after in
+      in_form (subst (λ (b : Bool). MatchBool b Each Report) (sym at_once) d)
+
+  pub checked_in_report : (told : Bool) → told ≡ explains_in form explain → writes_at_once form check.lines.items check.printing.limit ≡ false
+      → DoesReport host scope (record (report_task check explain style form) { explain = told }) (all_inputs check.inputs) status before after
+      → DoesIn host (command.Check check) scope explain style status before after
+  checked_in_report told explains later d =
+      let Each = DoesAll scope (ScopedInput host scope (task_of (work.Check check.without) explain style)) (all_inputs check.inputs) status before after in
+      let Report = DoesReport host scope (report_task check explain style form) (all_inputs check.inputs) status before after in
+      let reported = subst (λ (b : Bool). DoesReport host scope (record (report_task check explain style form) { explain = b }) (all_inputs check.inputs) status before after) explains d in
+      in_form (subst (λ (b : Bool). MatchBool b Each Report) (sym later) reported)
 
 -- the work was done as if for the only file, and then the contents of memory were written
 module _ {F : Type 0} (Does : WorkClaim F) (before after : World F) where

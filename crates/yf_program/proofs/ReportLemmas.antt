@@ -15,6 +15,7 @@ use Rattle.yf_guard.specs.declared.guarded.Guarded.TheVariants.{Vault}
 use Rattle.yf_guarded.specs.Judged.{GivesJudged}
 use Rattle.yf_guarded.specs.declared.read.Verdict.{Verdict}
 use Rattle.yf_guarded.specs.declared.read.Verdict.TheVariants as verdict
+use Rattle.yf_line_ranges.specs.declared.range.LineRange.{LineRange}
 use Rattle.yf_lines.specs.declared.fault.Fault.{Fault}
 use Rattle.yf_lines.specs.declared.fault.Fault.TheVariants as fault
 use Rattle.yf_rules.specs.Runs.ByteStream.{ByteStream, NoFailure, NothingWritten, WrittenOrFailed}
@@ -23,9 +24,8 @@ use Rattle.yf_rules.specs.declared.finding.Finding.{Finding}
 use Rattle.yf_host.specs.Ends.{AnyLines, EndsTold, InputsOpened, IsFile, Opens, name_of}
 use Rattle.yf_program.specs.Guarded.{held, is_judged}
 use Rattle.yf_host.specs.LeftAlone.{left_line, left_status}
-use Rattle.yf_host.specs.Report.{check_status}
-use Rattle.yf_program.specs.Reports.{AddsFile, DoesReport, GaveUp, GivesAll, GivesAsJudged, GivesEach, GivesInput, GivesJudgedText, GivesNamed, GivesOver, GivesRead, GivesScoped, GivesUnopened}
-use Rattle.yf_program.specs.Reports.{IsOnly, OpensReader, ReadClaim, ReportState, StopsAt, empty_report, file_name, has_problem}
+use Rattle.yf_program.specs.Reports.{AddsFile, AreAsked, DoesReport, GaveUp, GivesAll, GivesAsJudged, GivesEach, GivesInput, GivesJudgedText, GivesNamed, GivesOver, GivesRead, GivesScoped, GivesUnopened}
+use Rattle.yf_program.specs.Reports.{IsOnly, OpensReader, ReadClaim, ReportState, StopsAt, empty_report, file_name}
 use Rattle.yf_host.specs.Memory.{ToldErrors, empty_stream}
 use Rattle.yf_program.specs.Reports.GivesScoped.{left_out, included}
 use Rattle.yf_program.specs.Reports.GivesEach.{none_given, one_more}
@@ -164,15 +164,14 @@ module _ (claim : InputClaim) (scope : Scope) (task : ReportTask) (before after 
 
 -- the problems of a text that was checked, and the problem of one that was refused
 module _ (task : ReportTask) (name : Option (List ℕ)) (status : ℕ) (reader left before after : ByteStream) (old new : List FileProblems) where
-  pub found_over : (without : List (List ℕ)) (problems : List OwnedProblem) → without ≡ task.without.items
-      → ReadProblems without task.style reader.contents problems → NoFailure reader left → status ≡ check_status (has_problem problems)
-      → NothingWritten before after → AddsFile name (λ added. added ≡ problems) old new
+  pub found_over : (without : List (List ℕ)) (asked : List LineRange) (all : List OwnedProblem) → without ≡ task.without.items
+      → asked ≡ task.lines.items → ReadProblems without task.style reader.contents all → NoFailure reader left
+      → NothingWritten before after → AddsFile name (λ added. AreAsked asked all added status) old new
       → AddsFile name (λ added. GivesOver task added status reader left before after) old new
-  found_over without problems same read works ends nothing d =
-      let found = subst (λ (w : List (List ℕ)). ReadProblems w task.style reader.contents problems) same read in
-      let added = subst (λ (ps : List OwnedProblem). ReadProblems task.without.items task.style reader.contents ps) (sym d.2) found in
-      let ended : status ≡ check_status (has_problem d.0.problems.items) = ends ∙ ap (λ ps. check_status (has_problem ps)) (sym d.2) in
-      (d.0, d.1, inl (added, works, ended, nothing), d.3)
+  found_over without asked all same lines read works nothing d =
+      let found = subst (λ (w : List (List ℕ)). ReadProblems w task.style reader.contents all) same read in
+      let kept = subst (λ (a : List LineRange). AreAsked a all d.0.problems.items status) lines d.2 in
+      (d.0, d.1, inl (all, found, kept, works, nothing), d.3)
 
   pub refused_over : (f : Fault) (bytes : List ℕ) → Runs.RefusedText reader left f → Runs.Keeps reader.contents bytes f
       → EndsTold task.explain (Explains bytes f) f status before after → AddsFile name (IsOnly (RefusalProblem bytes f)) old new
@@ -200,13 +199,14 @@ module _ (task : ReportTask) (name : Option (List ℕ)) (status : ℕ) (before a
       → AddsFile name (λ added. GivesAsJudged task verdict.Encrypted t added status before after) old new
   encrypted_given problems none ends told d = (d.0, d.1, (d.2 ∙ none, ends, told), d.3)
 
-  pub no_data_given : (f : Finding) (without : List (List ℕ)) (found : List OwnedProblem) → without ≡ task.without.items
-      → ReadProblems without task.style (Some t) found → NothingWritten before after → status ≡ 1
-      → AddsFile name (WithGuard t f found) old new
+  pub no_data_given : (f : Finding) (without : List (List ℕ)) (asked : List LineRange) (found all : List OwnedProblem)
+      → without ≡ task.without.items → asked ≡ task.lines.items → ReadProblems without task.style (Some t) found
+      → WithGuard t f found all → NothingWritten before after → AddsFile name (λ added. AreAsked asked all added status) old new
       → AddsFile name (λ added. GivesAsJudged task (verdict.NoData f) t added status before after) old new
-  no_data_given f without found same read nothing one d =
+  no_data_given f without asked found all same lines read guarded nothing d =
       let checked = subst (λ (w : List (List ℕ)). ReadProblems w task.style (Some t) found) same read in
-      (d.0, d.1, inl (found, checked, d.2, one, nothing), d.3)
+      let kept = subst (λ (a : List LineRange). AreAsked a all d.0.problems.items status) lines d.2 in
+      (d.0, d.1, inl (found, all, checked, guarded, kept, nothing), d.3)
 
   pub no_data_refused : (f : Finding) (rest : List ℕ) (g : Fault) (bytes : List ℕ) → Runs.RefusedText (held t) (held rest) g
       → Runs.Keeps (Some t) bytes g → EndsTold task.explain (Explains bytes g) g status before after

@@ -15,14 +15,13 @@ use Rattle.yf_command_line.specs.declared.command.Fmt.TheVariants as fmt
 use Rattle.yf_command_line.specs.declared.command.Input.{Input}
 use Rattle.yf_command_line.specs.declared.command.Input.TheVariants.{Standard, File}
 use Rattle.yf_command_line.specs.declared.command.InputList.{InputList}
-use Rattle.yf_command_line.specs.declared.command.Output.{Output}
-use Rattle.yf_command_line.specs.declared.command.Output.TheVariants.{Lines, Report}
 use Rattle.yf_command_line.specs.declared.command.Part.TheVariants as part
 use Rattle.yf_command_line.specs.declared.command.Request.{Request}
 use Rattle.yf_command_line.specs.declared.usage.Usage.{Usage}
 use Rattle.yf_command_line.specs.declared.usage.Usage.TheVariants as usage
 use Rattle.yf_files.specs.Tree.{FilesState}
 use Rattle.yf_files.specs.declared.rewriting.RewriteError.{RewriteError}
+use Rattle.yf_findings.specs.declared.printed.Form.{Form}
 use Rattle.yf_forms.specs.declared.style.Style.{Style}
 use Rattle.yf_lines.specs.declared.fault.Fault.{Fault}
 use Rattle.yf_lines.specs.declared.fault.Fault.TheVariants as fault
@@ -41,6 +40,7 @@ use Rattle.yf_rules.specs.Runs.Run.{Gave, NotationWritten, RefusedEvents, Refuse
 pub use Rattle.yf_host.specs.Ends.{AnyLines, AreTold, EndsBy, EndsOver, EndsTold, EndsWell, InputsOpened, IsFile, Opens}
 pub use Rattle.yf_host.specs.Ends.{TellsMore, name_of}
 use Rattle.yf_rules.specs.Quoted.{quoted}
+use Rattle.yf_program.specs.Forms.{check_form, writes_at_once}
 use Rattle.yf_program.specs.Reports.{DoesReport, report_task}
 use Rattle.yf_guard.specs.declared.guarded.Guarded.TheVariants.{Vault}
 use Rattle.yf_guarded.specs.Checked.{CheckedBroke, CheckedRun}
@@ -314,21 +314,22 @@ abbrev pub ScopedRewrite : {F : Type 0} → Host F → Scope → Bool → TextCl
 ScopedRewrite host scope explain Text =
     Scoped host scope (record { Does = RewritesInput host explain Text; Skips = PassesBy host explain })
 
--- `check` was done with the inputs that are not left out: a line was written for each finding, or one report of all
--- inputs.
-abbrev pub DoesCheck : {F : Type 0} → Host F → Check → Scope → Bool → Style → Output → WorkClaim F
-DoesCheck host check scope explain style Lines =
-    DoesAll scope (ScopedInput host scope (task_of (work.Check check.without) explain style))
-    (all_inputs check.inputs)
-DoesCheck host check scope explain style (Report format) =
-    DoesReport host scope (report_task check explain style format) (all_inputs check.inputs)
+-- `check` was done in this form with the inputs that are not left out: each finding was written as soon as its input
+-- was checked, or one report of all inputs was written.
+abbrev pub DoesCheck : {F : Type 0} → Host F → Check → Scope → Bool → Style → Form → WorkClaim F
+DoesCheck host check scope explain style form status before after =
+    MatchBool (writes_at_once form check.lines.items check.printing.limit)
+    (DoesAll scope (ScopedInput host scope (task_of (work.Check check.without) explain style)) (all_inputs check.inputs)
+    status before after)
+    (DoesReport host scope (report_task check explain style form) (all_inputs check.inputs) status before after)
 
 -- The command was done in a style, with the inputs that are not left out.
 abbrev pub DoesIn : {F : Type 0} → Host F → Command → Scope → Bool → Style → WorkClaim F
 DoesIn host (command.Events input) scope explain style =
     ScopedInput host scope (task_of work.Events explain style) input
 DoesIn host command.Server scope explain style = ScopedInput host scope (task_of work.Serve explain style) Standard
-DoesIn host (command.Check check) scope explain style = DoesCheck host check scope explain style check.output
+DoesIn host (command.Check check) scope explain style =
+    DoesCheck host check scope explain style (check_form check scope)
 DoesIn host (command.Fmt (fmt.Print input)) scope explain style =
     ScopedInput host scope (task_of work.Print explain style) input
 DoesIn host (command.Fmt (fmt.Check inputs)) scope explain style =

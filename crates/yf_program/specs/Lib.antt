@@ -1,4 +1,5 @@
 -- what the program does, from its arguments to its exit status
+pub mod Forms
 pub mod Reports
 pub mod Settings
 pub mod Guarded

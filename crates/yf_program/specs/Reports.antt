@@ -1,31 +1,37 @@
--- What `check` does with a `--format` for programs: all problems of all inputs are in one report, which is written last.
+-- What `check` does if it doesn't write each finding at once: the problems of all inputs are in one report, which is
+-- written last.
 -- (before, after: the states, the streams or one stream before and after a step;
 -- reader, left: a reader before and after it was read; problems: those of one input)
-use Rattle.std.specs.Prelude.{◌≡◌, ◌⊎◌, ◌++◌, ◌∷◌, ℕ, max, List, [], Bool, true, false, Option, Some, None}
-use Rattle.std.specs.Prelude.{MatchBool}
+use Rattle.std.specs.Prelude.{◌≡◌, ◌⊎◌, ◌++◌, ◌∷◌, ◌-◌, ◌==◌, ℕ, max, List, [], map, Bool, true, false}
+use Rattle.std.specs.Prelude.{Option, Some, None}
+use Rattle.std.specs.List.{concat}
+use Rattle.std.specs.Prelude.{MatchBool, codes, decimal, if◌then◌else◌}
 use Rattle.yf_command_line.specs.declared.command.Check.{Check}
 use Rattle.yf_command_line.specs.declared.command.Input.{Input}
 use Rattle.yf_command_line.specs.declared.command.Input.TheVariants.{Standard, File}
 use Rattle.yf_explain.specs.Explained.{Explains}
-use Rattle.yf_findings.specs.Files.{ReportOf}
+use Rattle.yf_findings.specs.Printed.{Printed}
 use Rattle.yf_findings.specs.Guards.{WithGuard}
 use Rattle.yf_findings.specs.Reading.{ReadProblems}
 use Rattle.yf_findings.specs.Refusals.{RefusalProblem}
+use Rattle.yf_findings.specs.Selection.{count_problems, first_problems, listed_in, on_lines}
 use Rattle.yf_findings.specs.declared.files.FileProblems.{FileProblems}
+use Rattle.yf_findings.specs.declared.printed.Form.{Form}
 use Rattle.yf_findings.specs.declared.owned.OwnedProblem.{OwnedProblem}
 use Rattle.yf_forms.specs.declared.style.Style.{Style}
 use Rattle.yf_guard.specs.declared.guarded.Guarded.TheVariants.{Vault}
 use Rattle.yf_guarded.specs.Judged.{GivesJudged}
 use Rattle.yf_guarded.specs.declared.read.Verdict.{Verdict}
 use Rattle.yf_guarded.specs.declared.read.Verdict.TheVariants as verdict
+use Rattle.yf_line_ranges.specs.declared.range.LineRange.{LineRange}
 use Rattle.yf_lines.specs.declared.fault.Fault.{Fault}
 use Rattle.yf_lines.specs.declared.fault.Fault.TheVariants as fault
-use Rattle.yf_report.specs.declared.reports.Format.{Format}
 use Rattle.yf_rules.specs.Runs.ByteStream.{ByteStream, NoFailure, NothingWritten, Writes, BreaksOff, WrittenOrFailed}
 use Rattle.yf_rules.specs.Runs.Run as Runs
 use Rattle.yf_rules.specs.declared.finding.Finding.{Finding}
 use Rattle.yf_host.specs.Ends.{AnyLines, EndsBy, EndsTold, InputsOpened, IsFile, Opens, name_of}
 use Rattle.yf_host.specs.Memory.{ToldErrors, empty_stream}
+use Rattle.yf_program.specs.Forms.{explains_in}
 use Rattle.yf_program.specs.Guarded.{held, is_judged}
 use Rattle.yf_host.specs.LeftAlone.{left_line, left_status}
 use Rattle.yf_host.specs.Report.{check_status}
@@ -34,9 +40,15 @@ use Rattle.yf_host.specs.World.{Host, InputClaim, OutputStreams, WorkClaim, Worl
 use Rattle.yf_program.specs.declared.report_inputs.ReportTask.{ReportTask}
 use Rattle.yf_program.specs.declared.scope.Scope.{Scope}
 
-abbrev pub report_task : Check → Bool → Style → Format → ReportTask
-report_task check explain style format =
-    record { without = check.without; style = style; format = format; explain = explain }
+abbrev pub report_task : Check → Bool → Style → Form → ReportTask
+report_task check explain style form = record {
+  without = check.without;
+  style = style;
+  lines = check.lines;
+  form = form;
+  limit = check.printing.limit;
+  explain = explains_in form explain;
+}
 
 -- ---- The problems of an input
 
@@ -57,19 +69,24 @@ GivesFault task problems status reader left before after =
     (f : Fault) × (bytes : List ℕ) × Runs.RefusedText reader left f × Runs.Keeps reader.contents bytes f
     × IsOnly (RefusalProblem bytes f) problems × EndsTold task.explain (Explains bytes f) f status before after
 
--- The text that a reader has was checked, and these are its problems; or it was refused.
+-- These problems of all are on the lines that are asked for, and the status is that of a check that found them.
+abbrev pub AreAsked : List LineRange → List OwnedProblem → List OwnedProblem → ℕ → Type 0
+AreAsked lines all problems status = (problems ≡ on_lines lines all) × (status ≡ check_status (has_problem problems))
+
+-- The text that a reader has was checked, and these of its problems are asked for; or it was refused.
 abbrev pub GivesOver : ReportTask → List OwnedProblem → ℕ → ByteStream → ByteStream → ByteStream → ByteStream → Type 0
 GivesOver task problems status reader left before after =
-    (ReadProblems task.without.items task.style reader.contents problems × NoFailure reader left
-    × (status ≡ check_status (has_problem problems)) × NothingWritten before after)
+    ((all : List OwnedProblem) × ReadProblems task.without.items task.style reader.contents all
+    × AreAsked task.lines.items all problems status × NoFailure reader left × NothingWritten before after)
     ⊎ GivesFault task problems status reader left before after
 
 -- The text t is no data, as the finding f says. Its problems are those that the rules find, and among them that of the
--- finding; or it was refused.
+-- finding, as far as they are asked for; or it was refused.
 abbrev pub GivesNoData : ReportTask → Finding → List ℕ → List OwnedProblem → ℕ → ByteStream → ByteStream → Type 0
 GivesNoData task f t problems status before after =
-    ((found : List OwnedProblem) × ReadProblems task.without.items task.style (Some t) found
-    × WithGuard t f found problems × (status ≡ 1) × NothingWritten before after)
+    ((found : List OwnedProblem) × (all : List OwnedProblem)
+    × ReadProblems task.without.items task.style (Some t) found × WithGuard t f found all
+    × AreAsked task.lines.items all problems status × NothingWritten before after)
     ⊎ ((rest : List ℕ) × GivesFault task problems status (held t) (held rest) before after)
 
 -- What the check of a text gives, by the verdict on the text. An encrypted text has no problem, and a line says that it
@@ -195,13 +212,39 @@ GaveUp claim scope task inputs before after =
 
 -- ---- The report
 
--- The report of these files was written, and nothing else, and the status is that of the run. Or the writer failed. Or
--- there was no memory for the report.
-abbrev pub ReportWritten : Format → List FileProblems → ℕ → ℕ → OutputStreams → OutputStreams → Type 0
-ReportWritten format files run status before after =
-    ((report : List ℕ) × ReportOf format files report
-    × (((status ≡ run) × Writes before.output after.output report × NothingWritten before.errors after.errors)
-    ⊎ (BreaksOff before.output after.output report × EndsBy fault.WriteFailed status before.errors after.errors)))
+-- The files with the problems that are printed. If there is a limit, these are the first ones of all files together.
+abbrev pub AreShown : Option ℕ → List FileProblems → List FileProblems → Type 0
+AreShown None files shown = shown ≡ files
+AreShown (Some limit) files shown = map listed_in shown ≡ first_problems limit (map listed_in files)
+
+-- How many problems the limit leaves out.
+abbrev pub left_over : Option ℕ → List FileProblems → ℕ
+left_over None files = 0
+left_over (Some limit) files = count_problems files - limit
+
+-- The words after the number of findings that are left out.
+abbrev pub more_findings : ℕ → List ℕ
+more_findings count = if count == 1 then codes " more finding\n" else codes " more findings\n"
+
+-- If problems are left out, a line says how many.
+abbrev pub TellsLeftOver : ℕ → ByteStream → ByteStream → Type 0
+TellsLeftOver count before after =
+    MatchBool (count == 0) (NothingWritten before after)
+    (WrittenOrFailed before after (concat (decimal count ∷ more_findings count ∷ [])))
+
+-- The report was written, and nothing else, and the status is that of the run. Or the writer failed.
+abbrev pub EndsReport : List ℕ → ℕ → ℕ → OutputStreams → OutputStreams → Type 0
+EndsReport report run status before after =
+    ((status ≡ run) × Writes before.output after.output report × NothingWritten before.errors after.errors)
+    ⊎ (BreaksOff before.output after.output report × EndsBy fault.WriteFailed status before.errors after.errors)
+
+-- The problems of these files that the limit doesn't leave out were printed in the task's form, and a line before it
+-- says how many are left out. Or there was no memory for that.
+abbrev pub ReportWritten : ReportTask → List FileProblems → ℕ → ℕ → OutputStreams → OutputStreams → Type 0
+ReportWritten task files run status before after =
+    ((shown : List FileProblems) × (report : List ℕ) × (told : ByteStream) × AreShown task.limit files shown
+    × Printed task.form shown report × TellsLeftOver (left_over task.limit files) before.errors told
+    × EndsReport report run status (record before { errors = told }) after)
     ⊎ (NothingWritten before.output after.output × EndsBy fault.Memory status before.errors after.errors)
 
 -- The state before the first input is checked.
@@ -214,7 +257,7 @@ ReportsAll host scope task inputs errors status before after =
     (run : ℕ) × (files : List FileProblems)
     × GivesAll host.inputs scope task inputs run (empty_report before)
     (record { opened = after.opened; files = files; errors = errors })
-    × ReportWritten task.format files run status (streams_of before.streams.output errors) after.streams
+    × ReportWritten task files run status (streams_of before.streams.output errors) after.streams
 
 -- There was no memory for the problems of an input, and no report was written.
 abbrev pub ReportsNone : {F : Type 0} → Host F → Scope → ReportTask → List Input → ByteStream → WorkClaim F

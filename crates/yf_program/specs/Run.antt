@@ -19,6 +19,7 @@ use Rattle.yf_program.specs.declared.search.InForce.{InForce}
 use Rattle.yf_program.specs.declared.search.Unfound.{Unfound}
 use Rattle.yf_program.specs.declared.search.Unfound.TheVariants as unfound
 use Rattle.yf_program.specs.declared.task.Flags.{Flags}
+use Rattle.yf_program.specs.declared.terminal.Terminal.{Terminal}
 use Rattle.yf_rule_pages.specs.declared.page.Page.{Page}
 use Rattle.yf_rules.specs.AllRules.{rule_names}
 use Rattle.yf_rules.specs.Runs.ByteStream.{ByteStream, NothingWritten, WrittenOrFailed}
@@ -61,13 +62,14 @@ SettingsTaken host in_force flags what status before after =
     × InputsOpened host.inputs before.opened opened (settings_of in_force.config)
     × DoesWith host in_force settings flags what status (record before { opened = opened }) after)
 
--- What the command line says about the whole run.
-abbrev pub flags_of : Request → Flags
-flags_of request = record {
+-- What the command line and the terminal say about the whole run.
+abbrev pub flags_of : Request → Terminal → Flags
+flags_of request terminal = record {
   explain = request.explain;
   any_text = request.any_text;
   names = request.names;
   stdin_name = request.stdin_name;
+  terminal = terminal;
 }
 
 -- The first line of a page of settings: a comment with the name of the settings file.
@@ -95,27 +97,27 @@ SettingsShown host in_force explain status before after =
     × PageShown in_force.config settings status before.streams after.streams))
 
 -- It isn't known which settings file is in force, and no input was opened; or its settings were shown or taken.
-abbrev pub RequestDone : {F : Type 0} → Host F → Request → WorkClaim F
-RequestDone host request status before after =
+abbrev pub RequestDone : {F : Type 0} → Host F → Request → Terminal → WorkClaim F
+RequestDone host request terminal status before after =
     ((why : Unfound) × IsUnfound host.inputs request.settings why × NothingDone host before after
     × TellsUnfound request.explain why status before.streams.errors after.streams.errors)
     ⊎ ((in_force : InForce) × IsInForce host.inputs request.settings in_force
     × MatchBool request.shows_settings (SettingsShown host in_force request.explain status before after)
-    (SettingsTaken host in_force (flags_of request) request.command status before after))
+    (SettingsTaken host in_force (flags_of request terminal) request.command status before after))
 
 -- What the words ask for was done; or they ask for help or for what `explain` prints, or are wrong, and nothing was
 -- opened. (pages: those that `explain` prints)
-abbrev pub Follows : {F : Type 0} → Host F → List Page → List (List ℕ) → WorkClaim F
-Follows host pages words status before after =
-    ((request : Request) × AsksFor rule_names words request × RequestDone host request status before after)
+abbrev pub Follows : {F : Type 0} → Host F → List Page → List (List ℕ) → Terminal → WorkClaim F
+Follows host pages words terminal status before after =
+    ((request : Request) × AsksFor rule_names words request × RequestDone host request terminal status before after)
     ⊎ ((usage : Usage) × RefusesWords rule_names pages words usage × (after.files ≡ before.files)
     × (host.inputs.notes → after.opened ≡ before.opened) × UsageWritten usage status before.streams after.streams)
 
 -- The program did what the words ask for, and then wrote out what the writer held back. The status is the one that
 -- `main` ends with, unless the reader of standard output has left: then `main` ends with 141 instead.
-pub record ProgramRuns {F : Type 0} (host : Host F) (pages : List Page) (words : List (List ℕ)) (status : ℕ)
-    (before after : World F) : Type 0 where
+pub record ProgramRuns {F : Type 0} (host : Host F) (pages : List Page) (words : List (List ℕ)) (terminal : Terminal)
+    (status : ℕ) (before after : World F) : Type 0 where
   pub run : ℕ
   pub streams : OutputStreams
-  pub follows : Follows host pages words run before (record after { streams = streams })
+  pub follows : Follows host pages words terminal run before (record after { streams = streams })
   pub out : WrittenOut run status streams after.streams

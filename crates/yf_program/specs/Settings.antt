@@ -95,7 +95,8 @@ RefusesVersion (required.Versions r) status before after =
 
 -- ---- Which files it leaves out
 
--- What decides which inputs the settings leave out, which texts are skipped, and which names the lines have.
+-- What decides which inputs the settings leave out, which texts are skipped, which names the lines have, and the form of
+-- findings.
 abbrev pub scope_of : InForce → FileSettings → Flags → Scope
 scope_of f settings flags = record {
   patterns = settings.exclude;
@@ -104,6 +105,7 @@ scope_of f settings flags = record {
   any_text = flags.any_text || settings.any_text;
   names = flags.names;
   stdin_name = flags.stdin_name;
+  terminal = flags.terminal;
 }
 
 -- The patterns of the settings file exclude the file with this name.

@@ -12,9 +12,10 @@ use crate::reports::report_inputs;
 use crate::rewrites::rewrite_files;
 use crate::scope::Scope;
 use crate::task::{Task, Work};
+use crate::terminal::{Terminal, explains_in, form_of, is_named, writes_at_once};
 use crate::with_settings::do_request;
 use std::alloc::Global;
-use yf_command_line::command::{Check, Command, Fmt, Input, Output};
+use yf_command_line::command::{Check, Command, Fmt, Input};
 use yf_command_line::command_line::parse_line;
 use yf_forms::style::Style;
 use yf_host::files::{Links, NewText};
@@ -27,7 +28,7 @@ use yf_rule_pages::page::Page;
 use yf_rules::asked::RULE_NAMES;
 
 /// Does what the words after the program's name ask for, and returns the exit status. `explain` prints one of `pages`,
-/// or their list.
+/// or their list. `terminal` decides the form of findings if the command line doesn't.
 ///
 /// The settings are read first, and an input is opened only if they are accepted. `explain` reads no settings and opens
 /// nothing. At the end the writer writes out what it holds back. `main` ends with this status, unless the reader of
@@ -36,15 +37,16 @@ pub fn answer<I: Inputs, S: Links, W: Sink, E: Sink>(
     alloc: Global,
     words: &[String],
     pages: &[Page],
+    terminal: Terminal,
     sources: &mut Sources<I, S>,
     streams: &mut Streams<W, E>,
 ) -> u8
     ensures { ProgramRuns (host_in I.claim S.tells S.state S.leads sources.old) pages.now (map string_bytes words.now)
-        result (world_in I.opened sources.old streams.old) (world_in I.opened sources.new streams.new) }
+        terminal result (world_in I.opened sources.old streams.old) (world_in I.opened sources.new streams.new) }
 {
     match parse_line(alloc, words, &RULE_NAMES, pages) {
         Ok(request) => {
-            let status = do_request(alloc, request, sources, streams);
+            let status = do_request(alloc, request, terminal, sources, streams);
             written_out(status, streams)
         }
         Err(usage) => {
@@ -105,27 +107,29 @@ fn do_check<I: Inputs, S: Links, W: Sink, E: Sink>(
     let Check {
         inputs,
         without,
-        output,
+        lines,
+        printing,
     } = check;
-    match output {
-        Output::Lines => {
-            let task = Task {
-                work: Work::Check(without),
-                style,
-                explain,
-            };
-            do_inputs(alloc, &task, scope, &inputs, sources, streams)
-        }
-        Output::Report(format) => {
-            let task = ReportTask {
-                without,
-                style,
-                format,
-                explain,
-            };
-            report_inputs(alloc, &task, scope, &inputs, sources, streams)
-        }
+    let named = is_named(scope.names, &inputs);
+    let form = form_of(printing, scope.terminal, named);
+    let at_once = writes_at_once(form, lines.as_slice(), printing.limit);
+    if at_once {
+        let task = Task {
+            work: Work::Check(without),
+            style,
+            explain,
+        };
+        return do_inputs(alloc, &task, scope, &inputs, sources, streams);
     }
+    let task = ReportTask {
+        without,
+        style,
+        lines,
+        form,
+        limit: printing.limit,
+        explain: explains_in(form, explain),
+    };
+    report_inputs(alloc, &task, scope, &inputs, sources, streams)
 }
 
 // Formats in a style.

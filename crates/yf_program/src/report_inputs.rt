@@ -14,13 +14,14 @@ use crate::scope::{Scope, is_left_out, tell_left_out};
 use std::alloc::{AllocError, Global};
 use yf_command_line::command::Input;
 use yf_findings::files::FileProblems;
+use yf_findings::printed::Form;
 use yf_forms::style::Style;
 use yf_host::inputs::Inputs;
 use yf_host::report::GOOD;
+use yf_line_ranges::range::LineRange;
 use yf_lines::fault::Fault;
 use yf_lines::text::OwnedText;
 use yf_lines::watched::Sink;
-use yf_report::reports::Format;
 
 /// How inputs are checked for a report.
 #[derive(Drop)]
@@ -29,8 +30,12 @@ pub struct ReportTask {
     pub without: Vec<OwnedText>,
     /// The style in which the inputs are checked.
     pub style: Style,
-    /// The format of the report.
-    pub format: Format,
+    /// The lines to check, or no lines if all are checked.
+    pub lines: Vec<LineRange>,
+    /// The form of the report.
+    pub form: Form,
+    /// The greatest number of problems in the report. Without it there is no limit.
+    pub limit: Option<usize>,
     /// Whether each fault is explained.
     pub explain: bool,
 }

@@ -1,12 +1,14 @@
 //! The problems of the text of an input, for a report.
-ghost use Rattle.std.specs.Prelude.{◌≡◌, IfOk, MatchBool, OnErr, option_map};
+ghost use Rattle.std.specs.Prelude.{◌≡◌, IfOk, List, MatchBool, OnErr, option_map};
 ghost use Rattle.yf_explain.specs.Explained.{Explains};
 ghost use Rattle.yf_findings.specs.Guards.{WithGuard};
 ghost use Rattle.yf_findings.specs.Refusals.{RefusalProblem};
+ghost use Rattle.yf_findings.specs.declared.owned.OwnedProblem.{OwnedProblem};
 ghost use Rattle.yf_guarded.specs.declared.read.Verdict.TheVariants as verdict;
 ghost use Rattle.yf_host.specs.Ends.{EndsTold};
 ghost use Rattle.yf_host.specs.Report.{check_status};
-ghost use Rattle.yf_program.specs.Reports.{AddsFile, GivesAsJudged, GivesJudgedText, GivesOver, IsOnly, has_problem};
+ghost use Rattle.yf_program.specs.Reports.{AddsFile, AreAsked, GivesAsJudged, GivesJudgedText, GivesOver, IsOnly};
+ghost use Rattle.yf_program.specs.Reports.{has_problem};
 ghost use Rattle.yf_rules.specs.Runs.ByteStream.{NothingWritten, stream_of};
 
 use crate::further::report_input;
@@ -17,11 +19,13 @@ use yf_findings::guards::with_guard;
 use yf_findings::owned::OwnedProblem;
 use yf_findings::reading::read_problems;
 use yf_findings::refusals::refusal;
+use yf_findings::selection::on_lines;
 use yf_guard::guarded::Guarded;
 use yf_guarded::held::Held;
 use yf_guarded::read::{Verdict, read_judged};
 use yf_host::left_alone::report_left;
 use yf_host::report::{FINDINGS, GOOD};
+use yf_line_ranges::range::LineRange;
 use yf_lines::fault::Fault;
 use yf_lines::text::OwnedText;
 use yf_lines::watched::{Sink, Source};
@@ -163,7 +167,10 @@ fn give_no_data<E: Sink>(
         &mut held,
         &mut kept,
     ) {
-        Ok(problems) => add_guarded(alloc, name, finding, bytes, problems, files),
+        Ok(problems) => {
+            let asked = task.lines.as_slice();
+            add_guarded(alloc, asked, name, finding, bytes, problems, files)
+        }
         Err(fault) => {
             let read = kept.as_slice();
             give_refusal(alloc, task.explain, name, read, fault, files, error_stream)
@@ -171,24 +178,23 @@ fn give_no_data<E: Sink>(
     }
 }
 
-// Adds the problems of these bytes, and among them that of a finding that says why they are no data. Returns the
-// status.
+// Adds the problems of these bytes on some lines, and among them that of a finding that says why the bytes are no data.
+// Returns the status.
 fn add_guarded(
     alloc: Global,
+    asked: &[LineRange],
     name: Option<&str>,
     finding: &Finding,
     bytes: &[u8],
     problems: Vec<OwnedProblem>,
     files: &mut Vec<FileProblems>,
 ) -> Result<u8, AllocError>
-    ensures { IfOk result (λ status. (status ≡ 1) × AddsFile (option_map (λ n. n.now) name.entry)
-        (WithGuard bytes.now finding.now problems.items) files.old.items files.new.items) }
+    ensures { IfOk result (λ status. (all : List OwnedProblem) × WithGuard bytes.now finding.now problems.items all
+        × AddsFile (option_map (λ n. n.now) name.entry) (λ added. AreAsked asked.now all added status)
+        files.old.items files.new.items) }
 {
     let all = with_guard(alloc, bytes, finding, problems)?;
-    match add(alloc, name, all, files) {
-        Ok(()) => Ok(FINDINGS),
-        Err(AllocError) => Err(AllocError),
-    }
+    add_found(alloc, asked, name, all, files)
 }
 
 // Adds the problems of what a reader has, and returns the status.
@@ -216,7 +222,10 @@ fn give_text<R: Source, E: Sink>(
         reader,
         &mut kept,
     ) {
-        Ok(problems) => add_found(alloc, name, problems, files),
+        Ok(problems) => {
+            let asked = task.lines.as_slice();
+            add_found(alloc, asked, name, problems, files)
+        }
         Err(fault) => {
             let bytes = kept.as_slice();
             give_refusal(alloc, task.explain, name, bytes, fault, files, error_stream)
@@ -224,19 +233,20 @@ fn give_text<R: Source, E: Sink>(
     }
 }
 
-// Adds the problems of a text, and returns the status of its check.
+// Adds the problems of a text on some lines, and returns the status of a check that found them.
 fn add_found(
     alloc: Global,
+    asked: &[LineRange],
     name: Option<&str>,
     problems: Vec<OwnedProblem>,
     files: &mut Vec<FileProblems>,
 ) -> Result<u8, AllocError>
-    ensures { IfOk result (λ status. (status ≡ check_status (has_problem problems.items))
-        × AddsFile (option_map (λ n. n.now) name.entry) (λ added. added ≡ problems.items)
-        files.old.items files.new.items) }
+    ensures { IfOk result (λ status. AddsFile (option_map (λ n. n.now) name.entry)
+        (λ added. AreAsked asked.now problems.items added status) files.old.items files.new.items) }
 {
-    let status = status_of(problems.as_slice());
-    match add(alloc, name, problems, files) {
+    let kept = on_lines(asked, problems);
+    let status = status_of(kept.as_slice());
+    match add(alloc, name, kept, files) {
         Ok(()) => Ok(status),
         Err(AllocError) => Err(AllocError),
     }

@@ -1,18 +1,20 @@
 //! A check whose problems are printed as one report of all inputs.
 ghost use Rattle.yf_command_line.specs.Requests.{all_inputs};
 ghost use Rattle.yf_program.specs.Answer.{host_in};
-ghost use Rattle.yf_program.specs.Reports.{DoesReport, GaveUp, GivesAll, GivesEach, GivesNamed, ReportWritten};
-ghost use Rattle.yf_program.specs.Reports.{StopsAt, state_in};
+ghost use Rattle.yf_program.specs.Reports.{DoesReport, EndsReport, GaveUp, GivesAll, GivesEach, GivesNamed};
+ghost use Rattle.yf_program.specs.Reports.{ReportWritten, StopsAt, state_in};
 ghost use Rattle.yf_host.specs.World.{StillKnown, world_in};
 ghost use Rattle.yf_rules.specs.Runs.ByteStream.{stream_of};
 ghost use Rattle.std.specs.Prelude.{IfOk, OnErr};
 
 use crate::each::name_of;
+use crate::left_over::{cut_to_limit, tell_left_over};
 use crate::report_inputs::{ReportTask, give_scoped};
 use crate::scope::Scope;
 use std::alloc::{AllocError, Global};
 use yf_command_line::command::{Input, InputList};
-use yf_findings::files::{FileProblems, report_of};
+use yf_findings::files::FileProblems;
+use yf_findings::printed::printed;
 use yf_host::files::Links;
 use yf_host::inputs::Inputs;
 use yf_host::memory::tell_errors;
@@ -22,7 +24,6 @@ use yf_host::streams::{Streams, stream_in_memory};
 use yf_lines::fault::Fault;
 use yf_lines::output::write_text;
 use yf_lines::watched::Sink;
-use yf_report::reports::Format;
 
 /// Checks all inputs that are not left out, writes one report of their problems, and returns the greatest status.
 ///
@@ -48,27 +49,42 @@ pub fn report_inputs<I: Inputs, S: Links, W: Sink, E: Sink>(
         &mut files,
         &mut streams.errors,
     ) {
-        Ok(status) => write_report(alloc, task.format, files.as_slice(), status, streams),
+        Ok(status) => write_report(alloc, task, files, status, streams),
         Err(AllocError) => report(&Fault::Memory, &mut streams.errors),
     }
 }
 
-// Writes the report of these files, and returns the status.
+// Writes the report of these files, and before it how many problems the limit leaves out. Returns the status.
 fn write_report<W: Sink, E: Sink>(
     alloc: Global,
-    format: Format,
-    files: &[FileProblems],
+    task: &ReportTask,
+    files: Vec<FileProblems>,
     status: u8,
     streams: &mut Streams<W, E>,
 ) -> u8
-    ensures { ReportWritten format files.now status result streams.old streams.new }
+    ensures { ReportWritten task.now files.items status result streams.old streams.new }
 {
-    match report_of(alloc, format, files) {
-        Ok(bytes) => match write_text(&mut streams.output, bytes.as_slice()) {
-            Ok(()) => status,
-            Err(fault) => report(&fault, &mut streams.errors),
-        },
+    let mut shown = files;
+    let count = match cut_to_limit(task.limit, &mut shown) {
+        Ok(count) => count,
+        Err(AllocError) => return report(&Fault::Memory, &mut streams.errors),
+    };
+    match printed(alloc, task.form, shown.as_slice()) {
+        Ok(bytes) => {
+            tell_left_over(count, &mut streams.errors);
+            end_report(bytes.as_slice(), status, streams)
+        }
         Err(AllocError) => report(&Fault::Memory, &mut streams.errors),
+    }
+}
+
+// Writes a report, and returns the status.
+fn end_report<W: Sink, E: Sink>(bytes: &[u8], status: u8, streams: &mut Streams<W, E>) -> u8
+    ensures { EndsReport bytes.now status result streams.old streams.new }
+{
+    match write_text(&mut streams.output, bytes) {
+        Ok(()) => status,
+        Err(fault) => report(&fault, &mut streams.errors),
     }
 }
 

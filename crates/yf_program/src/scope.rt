@@ -1,9 +1,11 @@
-//! What a run knows of its inputs: which the settings leave out, which texts are skipped, and their names.
+//! What a run knows of its inputs and its output: which inputs the settings leave out, which texts are skipped, their
+//! names, and the terminal.
 ghost use Rattle.std.specs.Prelude.{◌≡◌, ◌↔◌, IfOk, IsTrue};
 ghost use Rattle.yf_command_line.specs.declared.command.Input.TheVariants.{Standard};
 ghost use Rattle.yf_rules.specs.Runs.ByteStream.{stream_of};
 ghost use Rattle.yf_program.specs.Settings.{Excludes, IsLeftOut, TellsLeftOut, left_out_line};
 
+use crate::terminal::Terminal;
 use std::alloc::{AllocError, Global};
 use yf_command_line::command::Input;
 use yf_excludes::located::excludes_file;
@@ -12,7 +14,8 @@ use yf_lines::output::write_text;
 use yf_lines::text::OwnedText;
 use yf_lines::watched::Sink;
 
-/// What decides which inputs are left out, which texts are skipped, and which names the lines have.
+/// What decides which inputs are left out, which texts are skipped, which names the lines have, and the form of
+/// findings.
 #[derive(Drop)]
 pub struct Scope {
     /// The patterns of the settings file. Without a settings file there are none.
@@ -27,6 +30,8 @@ pub struct Scope {
     pub names: bool,
     /// The name of standard input.
     pub stdin_name: Option<OwnedText>,
+    /// What is known of standard output and the environment.
+    pub terminal: Terminal,
 }
 
 const LEFT_OUT: &str = "left out: the settings exclude it\n";

@@ -1,5 +1,6 @@
 //! The work on an input.
 
+use crate::terminal::Terminal;
 use yf_forms::style::Style;
 use yf_lines::text::OwnedText;
 use yf_parts::run::PartTask;
@@ -45,4 +46,6 @@ pub struct Flags {
     pub names: bool,
     /// The name of standard input.
     pub stdin_name: Option<OwnedText>,
+    /// What is known of standard output and the environment.
+    pub terminal: Terminal,
 }

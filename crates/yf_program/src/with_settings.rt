@@ -15,6 +15,7 @@ use crate::scope::Scope;
 use crate::search::{InForce, Unfound, report_unfound, settings_in_force};
 use crate::settings_shown::show_settings;
 use crate::task::Flags;
+use crate::terminal::Terminal;
 use crate::version::report_version;
 use std::alloc::Global;
 use yf_command_line::build::VERSION;
@@ -34,10 +35,11 @@ use yf_settings::texts::allows;
 pub fn do_request<I: Inputs, S: Links, W: Sink, E: Sink>(
     alloc: Global,
     request: Request,
+    terminal: Terminal,
     sources: &mut Sources<I, S>,
     streams: &mut Streams<W, E>,
 ) -> u8
-    ensures { RequestDone (host_in I.claim S.tells S.state S.leads sources.old) request result
+    ensures { RequestDone (host_in I.claim S.tells S.state S.leads sources.old) request terminal result
         (world_in I.opened sources.old streams.old) (world_in I.opened sources.new streams.new) }
 {
     let Request {
@@ -54,6 +56,7 @@ pub fn do_request<I: Inputs, S: Links, W: Sink, E: Sink>(
         any_text,
         names,
         stdin_name,
+        terminal,
     };
     match settings_in_force(alloc, settings, &sources.inputs) {
         Ok(in_force) => {
@@ -253,6 +256,7 @@ fn do_taken<I: Inputs, S: Links, W: Sink, E: Sink>(
         any_text: either(flags.any_text, any_text),
         names: flags.names,
         stdin_name: flags.stdin_name,
+        terminal: flags.terminal,
     };
     do_command(alloc, command, &scope, explain, style, sources, streams)
 }

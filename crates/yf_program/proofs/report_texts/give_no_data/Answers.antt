@@ -12,8 +12,8 @@ returns-in-Ok-clause-gives g c =
     IfOk-weaker c.add_guarded.result _ _
     (λ status d. no_data_given c.args.task.now (option_map (λ n. n.now) c.args.name) status stream stream
     c.args.files.now.items c.add_guarded.new.files.items c.args.bytes.now c.args.finding.now
-    c.as_slice.result.now c.in-Ok.problems.items c.as_slice.ensures.value c.in-Ok.ensures.problems
-    (record { contents = refl; same = refl }) d.0 d.1)
+    c.as_slice.result.now c.as_slice-asked.result.now c.in-Ok.problems.items d.0 c.as_slice.ensures.value
+    c.as_slice-asked.ensures.value c.in-Ok.ensures.problems d.1 (record { contents = refl; same = refl }) d.2)
     c.add_guarded.ensures
 
 pub returns-clause-gives : goal.returns-clause-gives

@@ -13,9 +13,9 @@ returns-in-Ok-clause-gives g c =
     (λ status d. found_over c.args.task.now (option_map (λ n. n.now) c.args.name) status
     (stream_of g.R.Read.remaining g.R.Source.has_failed c.args.reader.now)
     (stream_of g.R.Read.remaining g.R.Source.has_failed c.read_problems.new.reader) stream stream
-    c.args.files.now.items c.add_found.new.files.items c.as_slice.result.now c.in-Ok.problems.items
-    c.as_slice.ensures.value c.in-Ok.ensures.problems c.in-Ok.ensures.reader d.0
-    (record { contents = refl; same = refl }) d.1)
+    c.args.files.now.items c.add_found.new.files.items c.as_slice.result.now c.as_slice-asked.result.now c.in-Ok.problems.items
+    c.as_slice.ensures.value c.as_slice-asked.ensures.value c.in-Ok.ensures.problems c.in-Ok.ensures.reader
+    (record { contents = refl; same = refl }) d)
     c.add_found.ensures
 
 pub returns-clause-gives : goal.returns-clause-gives

@@ -1,0 +1,66 @@
+-- The form of the findings that `check` prints, by its options, the terminal and the environment.
+-- (named: whether each line has the name of its input)
+use Rattle.std.specs.Prelude.{◌==◌, ◌&&◌, ◌||◌, ℕ, Bool, true, false, not, List, length}
+use Rattle.std.specs.Prelude.{Option, is_some, unwrap_or, vec_len}
+use Rattle.yf_command_line.specs.declared.command.Check.{Check}
+use Rattle.yf_command_line.specs.declared.command.Colors.{Colors}
+use Rattle.yf_command_line.specs.declared.command.Colors.TheVariants.{Auto, Always, Never}
+use Rattle.yf_command_line.specs.declared.command.InputList.{InputList}
+use Rattle.yf_command_line.specs.declared.command.Output.{Output}
+use Rattle.yf_command_line.specs.declared.command.Output.TheVariants as output
+use Rattle.yf_command_line.specs.declared.command.Printing.{Printing}
+use Rattle.yf_findings.specs.declared.printed.Form.{Form}
+use Rattle.yf_findings.specs.declared.printed.Form.TheVariants as form
+use Rattle.yf_line_ranges.specs.declared.range.LineRange.{LineRange}
+use Rattle.yf_program.specs.declared.scope.Scope.{Scope}
+use Rattle.yf_program.specs.declared.terminal.Terminal.{Terminal}
+
+-- Without `--format` and `--statistics` the findings are for people if standard output is a terminal. Otherwise each
+-- is a line.
+abbrev pub default_output : Bool → Output
+default_output true = output.Full
+default_output false = output.Lines
+
+-- Whether the output has colors. `NO_COLOR` counts only if `--color` says nothing else.
+abbrev pub has_colors : Colors → Terminal → Bool
+has_colors Always terminal = true
+has_colors Never terminal = false
+has_colors Auto terminal = terminal.output && not terminal.no_color
+
+abbrev pub form_in : Output → Bool → Bool → Form
+form_in output.Lines colored named = form.Lines named
+form_in output.Full colored named = form.Full colored
+form_in output.Statistics colored named = form.Statistics
+form_in (output.Report format) colored named = form.Report format
+
+-- The form of the findings:
+--
+-- | Option          | Standard output | Form                                            |
+-- |-----------------|-----------------|-------------------------------------------------|
+-- | `--format line` | any             | a line for each finding, with names if `named`  |
+-- | `--format full` | any             | for people, with colors if `has_colors`         |
+-- | `--format NAME` | any             | a report for programs                           |
+-- | `--statistics`  | any             | the number of findings of each rule             |
+-- | none            | a terminal      | as with `--format full`                         |
+-- | none            | no terminal     | as with `--format line`                         |
+abbrev pub form_of : Printing → Terminal → Bool → Form
+form_of p terminal named =
+    form_in (unwrap_or p.output (default_output terminal.output)) (has_colors p.colors terminal) named
+
+-- Whether there is more than one input.
+abbrev pub has_several : InputList → Bool
+has_several inputs = not (vec_len inputs.rest == 0)
+
+-- The form of the findings of a check. With `--names`, or for several inputs, each line has the name of its input.
+abbrev pub check_form : Check → Scope → Form
+check_form check scope = form_of check.printing scope.terminal (scope.names || has_several check.inputs)
+
+-- Whether each finding is written as soon as its input is checked: each is a line, and none is left out.
+abbrev pub writes_at_once : Form → List LineRange → Option ℕ → Bool
+writes_at_once (form.Lines named) lines limit = (length lines == 0) && not (is_some limit)
+writes_at_once _ lines limit = false
+
+-- Whether the refusals are explained: with `--explain`, and always for people.
+abbrev pub explains_in : Form → Bool → Bool
+explains_in (form.Full colored) explain = true
+explains_in _ explain = explain

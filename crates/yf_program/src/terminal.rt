@@ -1,0 +1,87 @@
+//! The form of the findings that `check` prints, by its options, the terminal and the environment.
+ghost use Rattle.std.specs.Prelude.{◌≡◌, ◌||◌, unwrap_or};
+ghost use Rattle.yf_program.specs.Forms.{default_output, explains_in, form_of, has_colors, has_several, writes_at_once};
+
+use yf_command_line::command::{Colors, InputList, Output, Printing};
+use yf_findings::printed::Form;
+use yf_line_ranges::range::LineRange;
+
+/// What is known of standard output and the environment.
+#[derive(Clone, Copy)]
+pub struct Terminal {
+    /// Whether standard output is a terminal.
+    pub output: bool,
+    /// Whether the environment has `NO_COLOR` with a value that is not empty.
+    pub no_color: bool,
+}
+
+/// Returns the form of the findings that `check` prints. If `named`, each line has the name of its input.
+pub fn form_of(printing: Printing, terminal: Terminal, named: bool) -> Form
+    ensures { result ≡ form_of printing terminal named }
+{
+    let colored = has_colors(printing.colors, terminal);
+    match output_of(printing.output, terminal.output) {
+        Output::Lines => Form::Lines { named },
+        Output::Full => Form::Full { colored },
+        Output::Statistics => Form::Statistics,
+        Output::Report(format) => Form::Report(format),
+    }
+}
+
+// Returns what the command line asks for. If it says nothing, the terminal decides.
+fn output_of(output: Option<Output>, is_terminal: bool) -> Output
+    ensures { result ≡ unwrap_or output (default_output is_terminal) }
+{
+    match output {
+        Some(output) => output,
+        None => default_output(is_terminal),
+    }
+}
+
+// Returns how findings are printed if the command line doesn't say it.
+fn default_output(is_terminal: bool) -> Output
+    ensures { result ≡ default_output is_terminal }
+{
+    if is_terminal {
+        return Output::Full;
+    }
+    Output::Lines
+}
+
+// Returns whether the output has colors.
+fn has_colors(colors: Colors, terminal: Terminal) -> bool
+    ensures { result ≡ has_colors colors terminal }
+{
+    match colors {
+        Colors::Always => true,
+        Colors::Never => false,
+        Colors::Auto => terminal.output && !terminal.no_color,
+    }
+}
+
+/// Returns whether each line has the name of its input: with `--names`, or for several inputs.
+pub fn is_named(names: bool, inputs: &InputList) -> bool
+    ensures { result ≡ names || has_several inputs.now }
+{
+    names || !inputs.rest.is_empty()
+}
+
+/// Returns whether each finding is written as soon as its input is checked: each is a line, and none is left out.
+pub fn writes_at_once(form: Form, lines: &[LineRange], limit: Option<usize>) -> bool
+    ensures { result ≡ writes_at_once form lines.now limit }
+{
+    match form {
+        Form::Lines { .. } => lines.is_empty() && limit.is_none(),
+        Form::Full { .. } | Form::Statistics | Form::Report(_) => false,
+    }
+}
+
+/// Returns whether the refusals are explained.
+pub fn explains_in(form: Form, explain: bool) -> bool
+    ensures { result ≡ explains_in form explain }
+{
+    match form {
+        Form::Full { .. } => true,
+        Form::Lines { .. } | Form::Statistics | Form::Report(_) => explain,
+    }
+}
