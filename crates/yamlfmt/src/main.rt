@@ -9,8 +9,9 @@ mod tests;
 
 use std::alloc::{AllocError, Global};
 use std::cell::Cell;
+use std::env::VarError;
 use std::fs::{File, OpenFile};
-use std::io::{BufWriter, Input};
+use std::io::{BufWriter, Input, IsTerminal};
 use std::process::ExitCode;
 use std::rt::Env;
 use std::{env, fs, io};
@@ -26,6 +27,7 @@ use yf_lines::fault::Fault;
 use yf_lines::watched::Watched;
 use yf_program::answer::answer;
 use yf_program::left::{LEFT, Noting, Silenced};
+use yf_program::terminal::Terminal;
 use yf_rule_pages::pages::PAGES;
 use yf_rules::input::read_all;
 use yf_rules::run::INPUT_LIMIT;
@@ -86,7 +88,40 @@ fn answer_words(rt: &HostRuntime, words: &[String], has_left: &Cell<bool>) -> u8
         output: Watched::new(output),
         errors,
     };
-    answer(rt.alloc(), words, &PAGES, &mut sources, &mut streams)
+    let terminal = terminal_of(rt);
+    answer(
+        rt.alloc(),
+        words,
+        &PAGES,
+        terminal,
+        &mut sources,
+        &mut streams,
+    )
+}
+
+/// Returns what is known of standard output and the environment. `TERM=dumb` counts as `NO_COLOR`.
+fn terminal_of(rt: &HostRuntime) -> Terminal {
+    Terminal {
+        output: rt.stdout().is_terminal(),
+        no_color: has_value(rt, "NO_COLOR") || is_dumb(rt),
+    }
+}
+
+/// Returns whether a variable of the environment has a value that is not empty. A value that can't be read is one.
+fn has_value(rt: &HostRuntime, name: &str) -> bool {
+    match env::var(rt, name) {
+        Ok(value) => !value.is_empty(),
+        Err(VarError::NotPresent) => false,
+        Err(_) => true,
+    }
+}
+
+/// Returns whether the environment says that the terminal shows only text.
+fn is_dumb(rt: &HostRuntime) -> bool {
+    match env::var(rt, "TERM") {
+        Ok(value) => value.as_str() == "dumb",
+        Err(_) => false,
+    }
 }
 
 /// The explanation of a file that can be opened, but not read or not read completely.

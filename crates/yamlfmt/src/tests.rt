@@ -16,6 +16,7 @@ mod explanations;
 mod failing_files;
 mod faulty;
 mod files;
+mod findings_for_people;
 mod fmt;
 mod fmt_check;
 mod formatted_rows;

@@ -1,7 +1,7 @@
 //! The whole program over inputs in memory: its exit status, what it writes, and the inputs that it opens, in order.
 
 use crate::tests::answer_rows::{BEFORE, ROWS, Row};
-use crate::tests::answers::words_of;
+use crate::tests::answers::{NO_TERMINAL, words_of};
 use crate::tests::report_rows::REPORT_ROWS;
 use std::alloc::{AllocError, Global};
 use yf_files::{FileSystem, MemoryFiles};
@@ -9,6 +9,7 @@ use yf_host::memory_inputs::{MemoryInputs, Stored};
 use yf_host::sources::Sources;
 use yf_host::streams::in_memory;
 use yf_program::answer::answer;
+use yf_program::terminal::Terminal;
 use yf_rule_pages::pages::PAGES;
 
 /// The files and their contents.
@@ -88,8 +89,8 @@ fn ends_with(files: &MemoryFiles, text: &str) -> bool {
     files.found(FILE, now.changes, now.contents) == Some(text.as_bytes())
 }
 
-/// Returns whether a run with these words has the results of the row.
-fn is_answered(alloc: Global, words: &[String], row: &Row) -> bool {
+/// Returns whether a run with these words, on this terminal, has the results of the row.
+fn is_answered(alloc: Global, words: &[String], row: &Row, terminal: Terminal) -> bool {
     let inputs = MemoryInputs {
         files: &FILES,
         standard: STANDARD,
@@ -101,7 +102,7 @@ fn is_answered(alloc: Global, words: &[String], row: &Row) -> bool {
     };
     let mut sources = Sources { inputs, files };
     let mut streams = in_memory(alloc);
-    let status = answer(alloc, words, &PAGES, &mut sources, &mut streams);
+    let status = answer(alloc, words, &PAGES, terminal, &mut sources, &mut streams);
     status == row.1
         && streams.output.get_ref().as_slice() == row.2.as_bytes()
         && streams.errors.get_ref().as_slice() == row.3.as_bytes()
@@ -109,10 +110,15 @@ fn is_answered(alloc: Global, words: &[String], row: &Row) -> bool {
         && ends_with(&sources.files, row.5)
 }
 
-/// Returns whether the command line of a row has the results of the row.
+/// Returns whether the command line of a row has the results of the row if standard output is no terminal.
 pub fn answers_line(alloc: Global, row: &Row) -> bool {
+    answers_on(alloc, row, NO_TERMINAL)
+}
+
+/// Returns whether the command line of a row has the results of the row on this terminal.
+pub fn answers_on(alloc: Global, row: &Row, terminal: Terminal) -> bool {
     match &words_of(alloc, row.0) {
-        Ok(words) => is_answered(alloc, words.as_slice(), row),
+        Ok(words) => is_answered(alloc, words.as_slice(), row, terminal),
         Err(AllocError) => false,
     }
 }

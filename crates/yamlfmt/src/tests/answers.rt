@@ -12,9 +12,16 @@ use yf_lines::fault::Fault;
 use yf_lines::watched::{Sink, Source, Watched};
 use yf_program::program::run;
 use yf_program::task::{Task, Work};
+use yf_program::terminal::Terminal;
 use yf_rules::format::format;
 use yf_settings::settings::style_from_toml;
 use yf_stream::stream::read_stream;
+
+/// Standard output is no terminal.
+pub const NO_TERMINAL: Terminal = Terminal {
+    output: false,
+    no_color: false,
+};
 
 /// A command over standard input.
 #[derive(Clone, Copy)]

@@ -1,7 +1,7 @@
 //! The whole program with settings files in memory: which one is in force, and which files it leaves out.
 
 use crate::tests::answer_rows::BEFORE;
-use crate::tests::answers::words_of;
+use crate::tests::answers::{NO_TERMINAL, words_of};
 use crate::tests::excluded_rows;
 use crate::tests::in_force_rows::{ROWS, Row};
 use std::alloc::{AllocError, Global};
@@ -35,7 +35,14 @@ fn is_answered(alloc: Global, words: &[String], row: &Row) -> bool {
     }
     let mut sources = Sources { inputs, files };
     let mut streams = in_memory(alloc);
-    let status = answer(alloc, words, &PAGES, &mut sources, &mut streams);
+    let status = answer(
+        alloc,
+        words,
+        &PAGES,
+        NO_TERMINAL,
+        &mut sources,
+        &mut streams,
+    );
     status == row.3
         && streams.output.get_ref().as_slice() == row.4.as_bytes()
         && streams.errors.get_ref().as_slice() == row.5.as_bytes()

@@ -1,6 +1,6 @@
 //! The whole program over files in memory: texts that are no data, texts that are, and inputs with names.
 
-use crate::tests::answers::words_of;
+use crate::tests::answers::{NO_TERMINAL, words_of};
 use crate::tests::left_alone_reports::REPORT_ROWS;
 use crate::tests::left_alone_rows::{ROWS, Row};
 use crate::tests::{formatted_rows, named_rows};
@@ -32,7 +32,14 @@ fn is_answered(alloc: Global, words: &[String], row: &Row, first: &Stored) -> bo
     }
     let mut sources = Sources { inputs, files };
     let mut streams = in_memory(alloc);
-    let status = answer(alloc, words, &PAGES, &mut sources, &mut streams);
+    let status = answer(
+        alloc,
+        words,
+        &PAGES,
+        NO_TERMINAL,
+        &mut sources,
+        &mut streams,
+    );
     status == row.2
         && streams.output.get_ref().as_slice() == row.3.as_bytes()
         && streams.errors.get_ref().as_slice() == row.4.as_bytes()
