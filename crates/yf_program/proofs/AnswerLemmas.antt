@@ -25,7 +25,7 @@ use Rattle.yf_program.specs.Answer.{EndsRewriting, Ran, RanLeftOut, RewritesInpu
 use Rattle.yf_host.specs.Memory.{ToldMemory, empty_memory}
 use Rattle.yf_program.specs.Answer.{host_in, name_of, task_of}
 use Rattle.yf_program.specs.Answer.DoesEach.{one_done, one_more}
-use Rattle.yf_program.specs.Forms.{check_form, explains_in, writes_at_once}
+use Rattle.yf_program.specs.Forms.{check_form, explains_in, limit_in, writes_at_once}
 use Rattle.yf_program.specs.Reports.{DoesReport, report_task}
 use Rattle.yf_program.specs.Run.{DoesWith}
 use Rattle.yf_program.specs.Run.DoesWith.{other_version, without_memory, are_taken}
@@ -196,13 +196,15 @@ module _ {F : Type 0} (host : Host F) (check : Check) (scope : Scope) (explain :
       let Report = DoesReport host scope (report_task check explain style form) (all_inputs check.inputs) status before after in
       in_form (subst (λ (b : Bool). MatchBool b Each Report) (sym at_once) d)
 
-  pub checked_in_report : (told : Bool) → told ≡ explains_in form explain → writes_at_once form check.lines.items check.printing.limit ≡ false
-      → DoesReport host scope (record (report_task check explain style form) { explain = told }) (all_inputs check.inputs) status before after
+  pub checked_in_report : (told : Bool) → told ≡ explains_in form explain → (cut : Option ℕ) → cut ≡ limit_in form check.printing.limit
+      → writes_at_once form check.lines.items check.printing.limit ≡ false
+      → DoesReport host scope (record (report_task check explain style form) { explain = told; limit = cut }) (all_inputs check.inputs) status before after
       → DoesIn host (command.Check check) scope explain style status before after
-  checked_in_report told explains later d =
+  checked_in_report told explains cut limits later d =
       let Each = DoesAll scope (ScopedInput host scope (task_of (work.Check check.without) explain style)) (all_inputs check.inputs) status before after in
       let Report = DoesReport host scope (report_task check explain style form) (all_inputs check.inputs) status before after in
-      let reported = subst (λ (b : Bool). DoesReport host scope (record (report_task check explain style form) { explain = b }) (all_inputs check.inputs) status before after) explains d in
+      let with_limit = subst (λ (l : Option ℕ). DoesReport host scope (record (report_task check explain style form) { explain = told; limit = l }) (all_inputs check.inputs) status before after) limits d in
+      let reported = subst (λ (b : Bool). DoesReport host scope (record (report_task check explain style form) { explain = b }) (all_inputs check.inputs) status before after) explains with_limit in
       in_form (subst (λ (b : Bool). MatchBool b Each Report) (sym later) reported)
 
 -- the work was done as if for the only file, and then the contents of memory were written

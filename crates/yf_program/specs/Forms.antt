@@ -1,7 +1,7 @@
 -- The form of the findings that `check` prints, by its options, the terminal and the environment.
 -- (named: whether each line has the name of its input)
 use Rattle.std.specs.Prelude.{◌==◌, ◌&&◌, ◌||◌, ℕ, Bool, true, false, not, List, length}
-use Rattle.std.specs.Prelude.{Option, is_some, unwrap_or, vec_len}
+use Rattle.std.specs.Prelude.{Option, None, is_some, unwrap_or, vec_len}
 use Rattle.yf_command_line.specs.declared.command.Check.{Check}
 use Rattle.yf_command_line.specs.declared.command.Colors.{Colors}
 use Rattle.yf_command_line.specs.declared.command.Colors.TheVariants.{Auto, Always, Never}
@@ -59,6 +59,11 @@ check_form check scope = form_of check.printing scope.terminal (scope.names || h
 abbrev pub writes_at_once : Form → List LineRange → Option ℕ → Bool
 writes_at_once (form.Lines named) lines limit = (length lines == 0) && not (is_some limit)
 writes_at_once _ lines limit = false
+
+-- The limit of findings to print. It doesn't count for the numbers of findings.
+abbrev pub limit_in : Form → Option ℕ → Option ℕ
+limit_in form.Statistics limit = None
+limit_in _ limit = limit
 
 -- Whether the refusals are explained: with `--explain`, and always for people.
 abbrev pub explains_in : Form → Bool → Bool

@@ -31,7 +31,7 @@ use Rattle.yf_rules.specs.Runs.Run as Runs
 use Rattle.yf_rules.specs.declared.finding.Finding.{Finding}
 use Rattle.yf_host.specs.Ends.{AnyLines, EndsBy, EndsTold, InputsOpened, IsFile, Opens, name_of}
 use Rattle.yf_host.specs.Memory.{ToldErrors, empty_stream}
-use Rattle.yf_program.specs.Forms.{explains_in}
+use Rattle.yf_program.specs.Forms.{explains_in, limit_in}
 use Rattle.yf_program.specs.Guarded.{held, is_judged}
 use Rattle.yf_host.specs.LeftAlone.{left_line, left_status}
 use Rattle.yf_host.specs.Report.{check_status}
@@ -46,7 +46,7 @@ report_task check explain style form = record {
   style = style;
   lines = check.lines;
   form = form;
-  limit = check.printing.limit;
+  limit = limit_in form check.printing.limit;
   explain = explains_in form explain;
 }
 

@@ -12,7 +12,7 @@ use crate::reports::report_inputs;
 use crate::rewrites::rewrite_files;
 use crate::scope::Scope;
 use crate::task::{Task, Work};
-use crate::terminal::{Terminal, explains_in, form_of, is_named, writes_at_once};
+use crate::terminal::{Terminal, explains_in, form_of, is_named, limit_in, writes_at_once};
 use crate::with_settings::do_request;
 use std::alloc::Global;
 use yf_command_line::command::{Check, Command, Fmt, Input};
@@ -126,7 +126,7 @@ fn do_check<I: Inputs, S: Links, W: Sink, E: Sink>(
         style,
         lines,
         form,
-        limit: printing.limit,
+        limit: limit_in(form, printing.limit),
         explain: explains_in(form, explain),
     };
     report_inputs(alloc, &task, scope, &inputs, sources, streams)

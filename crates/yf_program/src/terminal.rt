@@ -1,6 +1,7 @@
 //! The form of the findings that `check` prints, by its options, the terminal and the environment.
 ghost use Rattle.std.specs.Prelude.{◌≡◌, ◌||◌, unwrap_or};
-ghost use Rattle.yf_program.specs.Forms.{default_output, explains_in, form_of, has_colors, has_several, writes_at_once};
+ghost use Rattle.yf_program.specs.Forms.{default_output, explains_in, form_of, has_colors, has_several, limit_in};
+ghost use Rattle.yf_program.specs.Forms.{writes_at_once};
 
 use yf_command_line::command::{Colors, InputList, Output, Printing};
 use yf_findings::printed::Form;
@@ -73,6 +74,16 @@ pub fn writes_at_once(form: Form, lines: &[LineRange], limit: Option<usize>) -> 
     match form {
         Form::Lines { .. } => lines.is_empty() && limit.is_none(),
         Form::Full { .. } | Form::Statistics | Form::Report(_) => false,
+    }
+}
+
+/// Returns the limit of findings to print. The numbers of findings count all.
+pub fn limit_in(form: Form, limit: Option<usize>) -> Option<usize>
+    ensures { result ≡ limit_in form limit }
+{
+    match form {
+        Form::Statistics => None,
+        Form::Lines { .. } | Form::Full { .. } | Form::Report(_) => limit,
     }
 }
 

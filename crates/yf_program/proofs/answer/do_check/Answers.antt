@@ -15,5 +15,5 @@ returns g c =
     let form = c.form_of-form.result in
     let same = c.form_of-form.ensures ∙ ap (λ named. form_of c.args.check.printing c.args.scope.now.terminal named) c.is_named-named.ensures in
     let whether = c.writes_at_once-at_once.ensures ∙ ap (λ lines. writes_at_once form lines c.args.check.printing.limit) c.as_slice.ensures.value in
-    checked_in_report _ c.args.check c.args.scope.now c.args.explain c.args.style form same _ _ _ c.explains_in.result c.explains_in.ensures
+    checked_in_report _ c.args.check c.args.scope.now c.args.explain c.args.style form same _ _ _ c.explains_in.result c.explains_in.ensures c.limit_in.result c.limit_in.ensures
     (sym whether ∙ c.if-at_once.false) c.report_inputs.ensures
