@@ -4,3 +4,4 @@ pub mod FoundPlaces
 pub mod DetailLemmas
 pub mod TextLemmas
 pub mod FileLemmas
+pub mod SelectionLemmas

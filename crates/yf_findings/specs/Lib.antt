@@ -5,3 +5,4 @@ pub mod Reading
 pub mod Refusals
 pub mod Problems
 pub mod Texts
+pub mod Selection

@@ -15,5 +15,6 @@ pub mod owned;
 pub mod reading;
 pub mod refusals;
 pub mod rule_words;
+pub mod selection;
 mod starts;
 pub mod texts;

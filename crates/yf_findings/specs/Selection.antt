@@ -1,0 +1,50 @@
+-- The problems on some lines of a text, and the first problems of several inputs.
+use Rattle.std.specs.Prelude.{ℕ, ◌-◌, ◌≤◌, ◌==◌, ◌&&◌, Bool, nat_le, nat_lt, List, [], ◌∷◌, length, take, sum_by, Option, if◌then◌else◌}
+use Rattle.std.specs.List.{filter, list_any}
+use Rattle.yf_findings.specs.declared.files.FileProblems.{FileProblems}
+use Rattle.yf_findings.specs.declared.owned.OwnedProblem.{OwnedProblem}
+use Rattle.yf_line_ranges.specs.declared.range.LineRange.{LineRange}
+use Rattle.yf_report.specs.declared.problem.Range.{Range}
+
+-- The last line that a range has a part of. A range that ends at the start of a line has no part of that line. An empty
+-- range is on its line.
+abbrev pub last_line : Range → ℕ
+last_line r =
+    if nat_lt r.line r.end_line then (if nat_le r.end_column 1 then r.end_line - 1 else r.end_line)
+    else r.line
+
+-- whether some line is in both ranges
+abbrev pub meets : Range → LineRange → Bool
+meets r asked = nat_le asked.first asked.last && (nat_le asked.first (last_line r) && nat_le r.line asked.last)
+
+-- a line is in both ranges
+pub record SomeLine (r : Range) (asked : LineRange) : Type 0 where
+  pub line : ℕ
+  pub from : asked.first ≤ line
+  pub to : line ≤ asked.last
+  pub after : r.line ≤ line
+  pub before : line ≤ last_line r
+
+-- whether a range of lines meets a problem
+abbrev pub is_on : List LineRange → OwnedProblem → Bool
+is_on asked p = list_any (meets p.range) asked
+
+-- The problems that meet an asked line, in their order. If no lines are asked, these are all.
+abbrev pub on_lines : List LineRange → List OwnedProblem → List OwnedProblem
+on_lines asked ps = if length asked == 0 then ps else filter (is_on asked) ps
+
+-- the problems of an input, with its name
+abbrev pub Listed : Type 0
+Listed = Option (List ℕ) × List OwnedProblem
+
+abbrev pub listed_in : FileProblems → Listed
+listed_in f = (f.file, f.problems.items)
+
+-- the number of problems of several inputs
+abbrev pub count_problems : List FileProblems → ℕ
+count_problems files = sum_by (λ (f : FileProblems). length f.problems.items) files
+
+-- the inputs with only the first problems, n of all inputs together
+abbrev pub first_problems : ℕ → List Listed → List Listed
+first_problems n [] = []
+first_problems n (f ∷ files) = (f.0, take n f.1) ∷ first_problems (n - length f.1) files
