@@ -5,3 +5,4 @@ pub mod DetailLemmas
 pub mod TextLemmas
 pub mod FileLemmas
 pub mod SelectionLemmas
+pub mod StatisticsLemmas

@@ -6,3 +6,6 @@ pub mod Refusals
 pub mod Problems
 pub mod Texts
 pub mod Selection
+pub mod LineForm
+pub mod Statistics
+pub mod Printed

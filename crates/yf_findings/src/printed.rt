@@ -1,0 +1,36 @@
+//! The report of the problems of several inputs, in a form.
+ghost use Rattle.std.specs.Prelude.{IfOk};
+ghost use Rattle.yf_findings.specs.Printed.{Printed};
+
+use crate::files::{FileProblems, report_of};
+use crate::lines::lines_of;
+use crate::statistics::statistics_of;
+use std::alloc::{AllocError, Global};
+use yf_report::reports::Format;
+
+/// The form of a report.
+#[derive(Clone, Copy)]
+pub enum Form {
+    /// A line for each finding: `LINE:COLUMN RULE`, and ` (fixable)` if `fmt` fixes it. If `named`, it begins with
+    /// `NAME:`.
+    Lines { named: bool },
+    /// The number of findings of each rule.
+    Statistics,
+    /// For programs.
+    Report(Format),
+}
+
+/// Returns the report of the problems of several inputs in a form.
+///
+/// # Errors
+///
+/// `AllocError` if memory is refused.
+pub fn printed(alloc: Global, form: Form, files: &[FileProblems]) -> Result<Vec<u8>, AllocError>
+    ensures { IfOk result (λ b. Printed form files.now b.items) }
+{
+    match form {
+        Form::Lines { named } => lines_of(alloc, named, files),
+        Form::Statistics => statistics_of(alloc, files),
+        Form::Report(format) => report_of(alloc, format, files),
+    }
+}
