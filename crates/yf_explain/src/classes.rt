@@ -26,7 +26,7 @@ pub(crate) fn is_visible(c: char) -> bool
 
 /// Returns the number of columns of the character as it is shown.
 #[tactic(auto, unfolding(crate::specs::Shown::columns_of))]
-pub(crate) fn columns_of(c: char) -> usize
+pub fn columns_of(c: char) -> usize
     ensures value { result ≡ Shown.columns_of c }
     ensures bound { result ≤ 10 }
 {

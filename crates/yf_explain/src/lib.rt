@@ -12,5 +12,6 @@ mod page;
 mod position;
 mod source;
 
+pub use classes::columns_of;
 pub use explained::{explain, page_at, page_of_words, push_line};
 pub use page::Page;

@@ -6,3 +6,5 @@ pub mod TextLemmas
 pub mod FileLemmas
 pub mod SelectionLemmas
 pub mod StatisticsLemmas
+pub mod PieceLemmas
+pub mod EscapeLemmas

@@ -8,4 +8,7 @@ pub mod Texts
 pub mod Selection
 pub mod LineForm
 pub mod Statistics
+pub mod Pieces
+pub mod Excerpt
+pub mod Full
 pub mod Printed

@@ -7,12 +7,15 @@
 
 mod columns;
 mod ends;
+mod excerpt;
 pub mod files;
+mod full;
 pub mod guards;
 mod lines;
 pub mod listing;
 mod located;
 pub mod owned;
+mod pieces;
 pub mod printed;
 pub mod reading;
 pub mod refusals;

@@ -3,6 +3,7 @@ ghost use Rattle.std.specs.Prelude.{IfOk};
 ghost use Rattle.yf_findings.specs.Printed.{Printed};
 
 use crate::files::{FileProblems, report_of};
+use crate::full::full_of;
 use crate::lines::lines_of;
 use crate::statistics::statistics_of;
 use std::alloc::{AllocError, Global};
@@ -14,6 +15,8 @@ pub enum Form {
     /// A line for each finding: `LINE:COLUMN RULE`, and ` (fixable)` if `fmt` fixes it. If `named`, it begins with
     /// `NAME:`.
     Lines { named: bool },
+    /// For people: the message, the line of the text, and marks under the range. If `colored`, it has escapes for colors.
+    Full { colored: bool },
     /// The number of findings of each rule.
     Statistics,
     /// For programs.
@@ -30,6 +33,7 @@ pub fn printed(alloc: Global, form: Form, files: &[FileProblems]) -> Result<Vec<
 {
     match form {
         Form::Lines { named } => lines_of(alloc, named, files),
+        Form::Full { colored } => full_of(alloc, colored, files),
         Form::Statistics => statistics_of(alloc, files),
         Form::Report(format) => report_of(alloc, format, files),
     }

@@ -38,8 +38,8 @@ pub(crate) fn statistics_of(alloc: Global, files: &[FileProblems]) -> Result<Vec
     text_of(alloc, rows.as_slice())
 }
 
-// Returns the rules of all findings.
-fn found_in(alloc: Global, files: &[FileProblems]) -> Result<Vec<FoundRule>, AllocError>
+/// Returns the rules of all findings.
+pub(crate) fn found_in(alloc: Global, files: &[FileProblems]) -> Result<Vec<FoundRule>, AllocError>
     ensures { IfOk result (λ found. map found_value found.items ≡ kinds_in files.now) }
 {
     let mut found = Vec::new(alloc);
