@@ -4,8 +4,6 @@
 pub mod RequestLemmas
 -- `names_in`, `add_names`, `is_rule`, `has_standard_input`, `lines_met`
 pub mod WordLemmas
--- `write_shown`
-pub mod ShownLemmas
 -- `AsksFor` and `RefusesWords`: each line of words asks for one request or is refused
 pub mod PrintingExactness
 pub mod CheckExactness

@@ -6,5 +6,3 @@ pub mod Without
 pub mod Formats
 pub mod Printing
 pub mod Lines
--- how a word is shown in a message
-pub mod Shown

@@ -4,11 +4,11 @@ ghost use Rattle.clap.specs.Words.{found_of, rows_of};
 ghost use Rattle.yf_command_line.specs.Requests.{ExplainedBy, RefusedBy};
 
 use crate::options::NAME;
-use crate::shown::shown_text;
 use crate::usage::Usage;
 use crate::words::value_given;
 use clap::ArgMatches;
 use std::alloc::{AllocError, Global};
+use yf_lines::shown::shown_text;
 use yf_lines::text::OwnedText;
 use yf_rule_pages::explanation::explanation;
 use yf_rule_pages::page::Page;

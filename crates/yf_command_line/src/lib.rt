@@ -15,7 +15,6 @@ pub(crate) mod options;
 pub(crate) mod part;
 pub(crate) mod printing;
 pub(crate) mod refused_words;
-pub mod shown;
 pub mod usage;
 pub(crate) mod without;
 pub(crate) mod words;

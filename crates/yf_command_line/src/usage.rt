@@ -5,10 +5,10 @@ ghost use Rattle.yf_command_line.specs.Requests.{IsUsageOf, RefusedBy};
 
 use crate::build::build_lines;
 use crate::options::yamlfmt_command;
-use crate::shown::shown_text;
 use clap::Error;
 use clap::error::ErrorKind;
 use std::alloc::{AllocError, Global};
+use yf_lines::shown::shown_text;
 use yf_lines::text::OwnedText;
 
 /// Why the words of a command line make no request.

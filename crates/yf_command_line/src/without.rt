@@ -3,9 +3,9 @@ ghost use Rattle.std.specs.Prelude.{◌≡◌, ◌++◌, ⊤, true, false, map, 
 ghost use Rattle.yf_command_line.specs.Requests.{RefusedBy};
 ghost use Rattle.yf_command_line.specs.Without.{are_rules, between_commas, is_rule, names_in};
 
-use crate::shown::shown_text;
 use crate::usage::Usage;
 use std::alloc::{AllocError, Global};
+use yf_lines::shown::shown_text;
 use yf_lines::text::OwnedText;
 
 // Returns the names in some words, word by word.

@@ -2,7 +2,7 @@
 use Rattle.std.specs.Prelude.{ℕ, List, [], ◌∷◌, ◌++◌, Bool, true, false, Option, codes, decimal, if◌then◌else◌}
 use Rattle.std.specs.List.{concat, flat_map}
 use Rattle.std.specs.Option.{unwrap_or}
-use Rattle.yf_command_line.specs.Shown.{shown}
+use Rattle.yf_lines.specs.Shown.{shown}
 use Rattle.yf_findings.specs.declared.files.FileProblems.{FileProblems}
 use Rattle.yf_findings.specs.declared.owned.OwnedProblem.{OwnedProblem}
 use Rattle.yf_report.specs.declared.problem.Severity.{Severity}

@@ -1,7 +1,7 @@
 //! The findings of several inputs as lines.
 ghost use Rattle.std.specs.Prelude.{◌≡◌, ◌++◌, ◌∷◌, [], IfOk, OnOk};
 ghost use Rattle.std.specs.List.{flat_map};
-ghost use Rattle.yf_command_line.specs.Shown.{shown};
+ghost use Rattle.yf_lines.specs.Shown.{shown};
 ghost use Rattle.yf_findings.specs.LineForm.{file_lines, is_finding, line_after, lines_text, name_before, name_of, problem_line};
 ghost use Rattle.yf_lines.specs.Output.{texts};
 ghost use Rattle.yf_rules.specs.Runs.Run.{fixable_word};
@@ -10,7 +10,7 @@ use crate::files::FileProblems;
 use crate::owned::OwnedProblem;
 use itoa::Buffer;
 use std::alloc::{AllocError, Global};
-use yf_command_line::shown::write_shown;
+use yf_lines::shown::write_shown;
 use yf_lines::text::OwnedText;
 use yf_lines::watched::Watched;
 use yf_report::problem::Severity;

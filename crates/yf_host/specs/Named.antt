@@ -1,7 +1,7 @@
 -- The output for one file among several. A diff has the file's name in its first lines. Any other line begins with the
 -- name and a colon, and a space follows if the line doesn't begin with a position.
 use Rattle.std.specs.Prelude.{ℕ, nat_eq, nat_lt, Bool, false, List, [], ◌∷◌, ◌++◌, if◌then◌else◌}
-use Rattle.yf_command_line.specs.Shown.{shown}
+use Rattle.yf_lines.specs.Shown.{shown}
 
 -- the first byte of a line: a position begins with a digit, and any other byte gets a space before it
 abbrev pub first_byte : ℕ → List ℕ

@@ -1,6 +1,6 @@
 //! The output for one file among several: a diff, or lines with the file's name before each.
 ghost use Rattle.std.specs.Prelude.{◌≡◌, ◌<◌, ◌^◌, ◌++◌, ◌∷◌, ℕ, [], IfOk, List, false, not};
-ghost use Rattle.yf_command_line.specs.Shown.{shown};
+ghost use Rattle.yf_lines.specs.Shown.{shown};
 ghost use Rattle.yf_diff.specs.Diff.{AddsDiff};
 ghost use Rattle.yf_host.specs.Named.{first_byte, is_diff, named_lines, prefixed, prefixed_byte};
 ghost use Rattle.yf_lines.specs.declared.place.Position.{Position};
@@ -10,7 +10,7 @@ ghost use Rattle.yf_rules.specs.Runs.Run.{finding_line};
 ghost use Rattle.yf_rules.specs.declared.finding.Finding.{Finding};
 
 use std::alloc::{AllocError, Global};
-use yf_command_line::shown::write_shown;
+use yf_lines::shown::write_shown;
 use yf_lines::watched::Watched;
 
 /// Returns whether the output for a file is a diff. Otherwise it is empty, or begins with the position of a line.

@@ -4,10 +4,10 @@ ghost use Rattle.yf_rules.specs.Runs.ByteStream.{WriteEnds, WrittenOrFailed, str
 ghost use Rattle.yf_host.specs.Report.{fault_line, fault_status, named_fault, refusal_line};
 
 use itoa::Buffer;
-use yf_command_line::shown::write_shown;
 use yf_lines::fault::Fault;
 use yf_lines::output::{write_text, write_texts};
 use yf_lines::place::Position;
+use yf_lines::shown::write_shown;
 use yf_lines::watched::Sink;
 
 /// The status of a run that ended well.

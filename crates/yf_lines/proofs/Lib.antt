@@ -17,6 +17,8 @@ pub mod MarkLemmas
 pub mod PlaceLemmas
 -- `write_text` and `write_texts`
 pub mod OutputLemmas
+-- `write_shown`
+pub mod ShownLemmas
 -- written text is derived again (the laws of layouts of yf_laws)
 pub mod RestLemmas
 pub mod CoreSteady

@@ -11,3 +11,5 @@ pub mod LineText
 pub mod Rest
 pub mod Rows
 pub mod Feeds
+-- how a text from elsewhere is shown in a message
+pub mod Shown

@@ -1,5 +1,5 @@
-//! Lines and positions of a text, the faults that all crates return, texts that borrow from their source, and readers
-//! and writers that remember a failure.
+//! Lines and positions of a text, the faults that all crates return, texts that borrow from their source, texts as
+//! messages show them, and readers and writers that remember a failure.
 //!
 //! Positions are exact, counted in characters. The crate reads no nodes.
 #![tactic(auto)]
@@ -15,6 +15,7 @@ pub mod output;
 pub mod packed_lines;
 pub mod place;
 pub mod quotes;
+pub mod shown;
 pub mod slices;
 pub mod source_text;
 pub mod steady;

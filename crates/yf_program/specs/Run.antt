@@ -5,7 +5,7 @@ use Rattle.yf_command_line.specs.Requests.{AsksFor, RefusesWords}
 use Rattle.yf_command_line.specs.declared.command.Command.{Command}
 use Rattle.yf_command_line.specs.declared.command.Input.{Input}
 use Rattle.yf_command_line.specs.declared.command.Request.{Request}
-use Rattle.yf_command_line.specs.Shown.{shown}
+use Rattle.yf_lines.specs.Shown.{shown}
 use Rattle.yf_command_line.specs.declared.usage.Usage.{Usage}
 use Rattle.yf_command_line.specs.declared.usage.Usage.TheVariants as usage
 use Rattle.yf_lines.specs.declared.fault.Fault.{Fault}

@@ -6,12 +6,12 @@ ghost use Rattle.yf_rules.specs.Runs.ByteStream.{WriteEnds, stream_of};
 ghost use Rattle.yf_settings.specs.FileSettings.{AreKept};
 
 use std::alloc::Global;
-use yf_command_line::shown::write_shown;
 use yf_command_line::usage::Usage;
 use yf_host::report::report;
 use yf_host::streams::Streams;
 use yf_lines::fault::Fault;
 use yf_lines::output::write_text;
+use yf_lines::shown::write_shown;
 use yf_lines::text::OwnedText;
 use yf_lines::watched::Sink;
 use yf_settings::file_settings::FileSettings;

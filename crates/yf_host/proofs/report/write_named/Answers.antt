@@ -1,5 +1,5 @@
 use Rattle.std.proofs.Common.{◌++◌, codes}
-use Rattle.yf_command_line.specs.Shown.{shown}
+use Rattle.yf_lines.specs.Shown.{shown}
 use Rattle.yf_lines.proofs.OutputLemmas.{broke_first, broke_second, writes_refused, writes_second}
 use Rattle.yf_host.specs.Report.{fault_line}
 use Rattle.yf_host.proofs.report.write_named.Goals as goal

@@ -1,6 +1,6 @@
 use Rattle.std.proofs.Common.{◌++◌, codes}
 use Rattle.yf_lines.proofs.OutputLemmas.{broke_first, broke_second, writes_refused, writes_second}
-use Rattle.yf_command_line.specs.Shown.{shown}
+use Rattle.yf_lines.specs.Shown.{shown}
 use Rattle.yf_program.proofs.settings_shown.write_file_heading.Goals as goal
 
 pub returns-in_err-write_text : goal.returns-in_err-write_text

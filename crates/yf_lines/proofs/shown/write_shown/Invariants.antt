@@ -1,8 +1,8 @@
 -- The bytes still to be written are those that show the remaining bytes of the text.
 use Rattle.std.proofs.Common.{drop}
 use Rattle.yf_lines.proofs.OutputLemmas.{Progress}
-use Rattle.yf_command_line.specs.Shown.{shown, shown_after}
-use Rattle.yf_command_line.proofs.shown.write_shown.Given as goal
+use Rattle.yf_lines.specs.Shown.{shown, shown_after}
+use Rattle.yf_lines.proofs.shown.write_shown.Given as goal
 
 abbrev pub invariant-loop-byte : goal.invariant-loop-byte
 invariant-loop-byte g l =

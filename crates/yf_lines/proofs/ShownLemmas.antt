@@ -2,7 +2,7 @@
 use Rattle.std.proofs.Common.{◌≡◌, ℕ, ◌+◌, ◌<◌, List, ◌∷◌, ◌++◌, Bool, Option}
 use Rattle.std.proofs.Common.{length, drop, get_or, ap, subst, add-one, drop-cons}
 use Rattle.yf_lines.proofs.OutputLemmas.{Progress}
-use Rattle.yf_command_line.specs.Shown.{shown_after, shown_byte}
+use Rattle.yf_lines.specs.Shown.{shown_after, shown_byte}
 
 pub next_byte : (old new : Option (List ℕ)) (before after : Bool) (text : List ℕ) (last : ℕ) (bytes : List ℕ)
     (i d : ℕ)

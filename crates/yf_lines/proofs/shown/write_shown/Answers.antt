@@ -1,6 +1,6 @@
 use Rattle.yf_lines.proofs.OutputLemmas.{progress_part, progress_part_broke, writes_refused}
-use Rattle.yf_command_line.proofs.ShownLemmas.{next_byte}
-use Rattle.yf_command_line.proofs.shown.write_shown.Goals as goal
+use Rattle.yf_lines.proofs.ShownLemmas.{next_byte}
+use Rattle.yf_lines.proofs.shown.write_shown.Goals as goal
 
 pub returns-in_err-write_byte : goal.returns-in_err-write_byte
 returns-in_err-write_byte g c =

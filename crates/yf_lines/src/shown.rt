@@ -2,12 +2,12 @@
 //! reaches a terminal.
 ghost use Rattle.std.specs.Prelude.{◌≡◌, ◌<◌};
 ghost use Rattle.yf_lines.specs.Output.{TextWritten};
-ghost use Rattle.yf_command_line.specs.Shown.{shown, shown_byte, shown_digit, shown_number};
+ghost use Rattle.yf_lines.specs.Shown.{shown, shown_byte, shown_digit, shown_number};
 
+use crate::fault::Fault;
+use crate::output::write_text;
+use crate::watched::Sink;
 use std::alloc::{AllocError, Global};
-use yf_lines::fault::Fault;
-use yf_lines::output::write_text;
-use yf_lines::watched::Sink;
 
 /// The first byte of a control character of two bytes. The second one is its number.
 const LEAD: u8 = 0xC2;
