@@ -5,7 +5,7 @@ use Rattle.yf_report.specs.declared.reports.Format.TheVariants.{Json, Github, Sa
 use Rattle.yf_command_line.specs.declared.command.Output.{Output}
 use Rattle.yf_command_line.specs.declared.command.Output.TheVariants.{Lines, Full, Report}
 
--- How problems are printed in the format of this name, or none if no format has the name.
+-- How problems are printed in the format with this name, or none if no format has the name.
 abbrev pub output_named : List ℕ → Option Output
 output_named name =
     if bytes_eq name (codes "line") then Some Lines else

@@ -9,7 +9,7 @@ use yf_report::reports::Format;
 pub enum Input {
     /// Standard input.
     Standard,
-    /// The file of this name.
+    /// The file with this name.
     File(OwnedText),
 }
 
@@ -121,7 +121,7 @@ pub enum Command {
     Check(Check),
     /// Formats.
     Fmt(Fmt),
-    /// Serve an editor over standard input and standard output.
+    /// Serves an editor over standard input and standard output.
     Server,
 }
 
@@ -130,7 +130,7 @@ pub enum Command {
 pub enum Settings {
     /// Those of the nearest settings file, or the defaults if there is none.
     Nearest,
-    /// Those of the settings file of this name (`--config FILE`).
+    /// Those of the settings file with this name (`--config FILE`).
     File(OwnedText),
     /// The defaults (`--no-config`).
     Defaults,

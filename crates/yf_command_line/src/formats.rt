@@ -5,7 +5,7 @@ ghost use Rattle.yf_command_line.specs.Formats.{output_named};
 use crate::command::Output;
 use yf_report::reports::Format;
 
-// Returns how problems are printed in the format of this name.
+// Returns how problems are printed in the format with this name.
 pub(crate) fn output_named(name: &str) -> Option<Output>
     ensures { result ≡ output_named name.now }
 {

@@ -6,7 +6,7 @@ use yf_report::sarif::Rule;
 pub const RULES: [Rule<'static>; 14] = [
     Rule {
         id: "trailing-blanks",
-        summary: "White space ends a line.",
+        summary: "A line ends with white space.",
         help: "Remove the white space at the end of the line. `yamlfmt fmt` does.",
     },
     Rule {
@@ -21,7 +21,7 @@ pub const RULES: [Rule<'static>; 14] = [
     },
     Rule {
         id: "document-start",
-        summary: "No `---` is on a line of its own before a document.",
+        summary: "A document has no `---` on its own line before it.",
         help: "Begin each document with a line `---`, or let `yamlfmt fmt` do it.",
     },
     Rule {
@@ -47,31 +47,31 @@ pub const RULES: [Rule<'static>; 14] = [
     Rule {
         id: "flow-layout",
         summary: "A flow collection is not laid out as in the house style.",
-        help: "Write one pair or item on each line, or let `yamlfmt fmt` do it.",
+        help: "Write the collection as the house style does, or let `yamlfmt fmt` do it.",
     },
     Rule {
         id: "comment-space",
-        summary: "Not exactly two spaces are before a comment that is after other text on its line.",
+        summary: "A comment after other text doesn't have exactly two spaces before it.",
         help: "Write two spaces before the comment, or let `yamlfmt fmt` do it.",
     },
     Rule {
         id: "line-length",
         summary: "A line is longer than the limit.",
-        help: "Break the line. `yamlfmt fmt` doesn't.",
+        help: "Use a block scalar, or raise the limit. `yamlfmt fmt` doesn't fix it.",
     },
     Rule {
         id: "repeated-keys",
         summary: "A mapping has a key twice.",
-        help: "Remove one of the two entries. `yamlfmt fmt` doesn't.",
+        help: "Remove one of the two entries. `yamlfmt fmt` doesn't fix it.",
     },
     Rule {
         id: "key-mark",
-        summary: "A key is after a `?` that it doesn't need.",
-        help: "Write the key before a `:` only, or let `yamlfmt fmt` do it.",
+        summary: "A key has a `?` before it that it doesn't need.",
+        help: "Write the key without the `?`, or let `yamlfmt fmt` do it.",
     },
     Rule {
         id: "hidden-character",
         summary: "A character is invisible, or easily taken for another one.",
-        help: "Remove the character, or write it as an escape between double quotes. `yamlfmt fmt` doesn't.",
+        help: "Remove the character, or write it as an escape between double quotes. `yamlfmt fmt` doesn't fix it.",
     },
 ];

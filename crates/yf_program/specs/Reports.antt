@@ -146,7 +146,7 @@ abbrev pub file_name : Option (List ℕ) → Input → Option (List ℕ)
 file_name standard Standard = standard
 file_name standard (File name) = Some name
 
--- The problems of the file of this name were added, and P holds of them.
+-- The problems of the file with this name were added, and P holds of them.
 abbrev pub AddsFile : Option (List ℕ) → (List OwnedProblem → Type 0) → List FileProblems → List FileProblems → Type 0
 AddsFile name P old new =
     (file : FileProblems) × (file.file ≡ name) × P file.problems.items × (new ≡ old ++ file ∷ [])

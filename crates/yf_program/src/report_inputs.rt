@@ -117,7 +117,7 @@ fn standard_name(scope: &Scope) -> Option<&str>
     }
 }
 
-// Checks the file of this name. Adds its problems, and returns its status.
+// Checks the file with this name. Adds its problems, and returns its status.
 fn give_file<I: Inputs, E: Sink>(
     alloc: Global,
     task: &ReportTask,

@@ -31,8 +31,8 @@ use yf_lines::text::OwnedText;
 use yf_lines::watched::{Sink, Source};
 use yf_rules::finding::Finding;
 
-/// Adds the problems of what a reader has, with the name of its file, and returns the status. If it judges, the text is
-/// judged first.
+/// Adds the problems of the text of a reader, with the name of its file, and returns the status. If `judges`, the text
+/// is judged first.
 pub fn give_reader<R: Source, E: Sink>(
     alloc: Global,
     task: &ReportTask,

@@ -43,7 +43,7 @@ pub struct DocumentEvent<'v> {
     pub act: DocumentAct<'v>,
 }
 
-/// The outcome of an event.
+/// The result of an event.
 #[derive(Clone, Copy)]
 pub enum Outcome {
     /// The document was opened, changed or closed.
@@ -237,7 +237,7 @@ fn close(documents: &mut Vec<OpenDocument>, uri: &str) -> Outcome
     }
 }
 
-/// Returns whether the outcome is that all was done.
+/// Returns whether all was done.
 pub fn is_done(outcome: Outcome) -> bool
     ensures { result ≡ is_done outcome }
 {
@@ -286,7 +286,7 @@ fn open(
     )
 }
 
-/// Handles a client's event for a document, and returns the outcome.
+/// Handles a client's event for a document, and returns the result.
 ///
 /// A document that is opened while it is open gets the new version and text. A document that cannot be changed stays as
 /// it was. If its text is lost, only changes that begin with one of the whole text change it.

@@ -1,4 +1,4 @@
-//! What becomes of documents if a notification cannot be acted on.
+//! How documents lose their texts if a notification cannot be acted on.
 ghost use Rattle.std.specs.Prelude.{◌≡◌, ℕ, List, option_map};
 ghost use Rattle.serde_json.specs.View.{view};
 ghost use Rattle.yf_json_rpc.specs.Messages.{kind_read};

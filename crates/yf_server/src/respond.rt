@@ -1,4 +1,4 @@
-//! The answers to requests that are not of the life cycle.
+//! The responses to requests that are not of the life cycle.
 ghost use Rattle.std.specs.Prelude.{◌≡◌, Some, IfOk, option_map, string_bytes};
 ghost use Rattle.serde_json.specs.View.{view};
 ghost use Rattle.yf_json_rpc.specs.Messages.{reply};
@@ -143,7 +143,7 @@ fn lost(alloc: Global, id: &Value) -> Result<Value, AllocError>
     failure(alloc, id, ErrorCode::RequestFailed, LOST)
 }
 
-/// Returns the answer for the text of an open document.
+/// Returns the response for the text of an open document.
 fn answer_text<A: Analysis>(
     alloc: Global,
     analysis: &A,
@@ -165,7 +165,7 @@ fn answer_text<A: Analysis>(
     }
 }
 
-/// Returns the answer for the document of a URI.
+/// Returns the response for the document of a URI.
 fn answer_for<A: Analysis>(
     alloc: Global,
     analysis: &A,

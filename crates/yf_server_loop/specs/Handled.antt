@@ -67,7 +67,7 @@ pub record IsUndone (before : Server) (value : Data) (answer : List ℕ) (after 
     pub fails : FailsWith id RequestFailed (Some sent)
     pub written : IsWritten answer sent
 
--- memory for a notification on a document was refused: the text of the document is lost, and the client hears of it,
+-- memory for a notification on a document was refused: the text of the document is lost, and the client gets a message,
 -- or of nothing
 pub record TellsLoss (claim : TextClaim) (after : Server) (value : Data) (answer : List ℕ) : Type 0 where
   pub note : Option Data
@@ -96,7 +96,7 @@ pub record IsSent (claim : TextClaim) (after : Server) (value : Data) (answer : 
     pub publishes : IsPublished claim after reaction.task value published
     pub written : AreWritten answer (option_map view reaction.message) published
 
--- memory for that was refused: a message that wants an answer gets an error, and another one nothing
+-- memory for that was refused: a request gets an error, and any other message nothing
 abbrev pub IsUnsent : Bool → Data → List ℕ → Type 0
 IsUnsent true id answer = (sent : Data) × FailsWith id RequestFailed (Some sent) × IsWritten answer sent
 IsUnsent false id answer = answer ≡ []

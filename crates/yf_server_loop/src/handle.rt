@@ -114,7 +114,7 @@ fn exit_of(task: Task) -> Option<bool>
     }
 }
 
-/// Returns what the client hears of a document whose text is lost, as it is written.
+/// Returns what the client gets for a document whose text is lost, as it is written.
 fn loss_told<A: Analysis>(
     alloc: Global,
     analysis: &A,
@@ -192,7 +192,7 @@ fn all_sent<A: Analysis>(
     written(alloc, &reaction.message, &published)
 }
 
-/// Returns what is written if memory for what a step sends was refused: an error if the message wants an answer.
+/// Returns what is written if memory for what a step sends was refused: an error if the message is a request.
 fn unsent(alloc: Global, value: &Value) -> Result<Vec<u8>, AllocError>
     ensures { IfOk result (λ answer. IsUnsent (wants_answer (kind_of (view value.now)))
         (id_of (kind_of (view value.now))) answer.items) }
@@ -243,8 +243,8 @@ fn take_step<A: Analysis>(
     })
 }
 
-/// Handles a message. A content that is not JSON gets an error response, and the text of each document is lost, since it
-/// may be a change of any document.
+/// Handles a message. A content that is not JSON gets an error response, and the text of each document is lost, since
+/// it may be a change of any document.
 fn react<A: Analysis>(
     alloc: Global,
     analysis: &A,
@@ -268,7 +268,7 @@ fn react<A: Analysis>(
 ///
 /// # Errors
 ///
-/// `AllocError` if memory was refused to read the message or to answer it with an error; it may be done then.
+/// `AllocError` if memory was refused to read the message or to respond to it with an error; it may be done then.
 pub fn handle<A: Analysis>(
     alloc: Global,
     analysis: &A,
