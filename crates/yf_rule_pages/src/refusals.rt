@@ -74,7 +74,10 @@ pub(crate) const NO_MEMORY: Page = Page {
 pub(crate) const CONFIG: Page = Page {
     name: "config",
     summary: "A settings file is not TOML, or one of its keys is unknown or has a wrong value.",
-    text: "The line names the key, if the file is TOML. `--explain` shows its line in the file, and the values that it may have.\n",
+    text: concat!(
+        "The line names the key, if the file is TOML. `--explain` shows its line in the file, and the values that\n",
+        "it may have.\n",
+    ),
 };
 
 pub(crate) const NO_DATA: Page = Page {

@@ -13,12 +13,7 @@ use yf_rules::asked::RULE_NAMES;
 #[derive(Clone, Copy)]
 enum Wanted {
     /// The lines to check, the form of the output, when it has colors, and the limit.
-    Check(
-        &'static [[usize; 2]],
-        &'static str,
-        &'static str,
-        Option<usize>,
-    ),
+    Check(&'static [[usize; 2]], &'static str, &'static str, Option<usize>),
     /// Wrong words.
     Wrong,
     /// Wrong words, and the reason.
