@@ -11,10 +11,9 @@ and the status is 1.
 
 Run it by hand; it is not part of rt ci.
 """
-import difflib
-import glob
 import os
 import random
+import re
 import subprocess
 import sys
 import tempfile
@@ -23,14 +22,15 @@ SETTINGS = ('', 'document_start = "keep"\n', 'indent = 4\nmax_line = 120\n',
             'document_start = "keep"\nseq_indent = false\ncomments = "block"\n')
 LIMIT = 200_000
 
+# A difference, as `diff` prints it.
+HUNK = re.compile(rb'(?m)^(\d+)(?:,(\d+))?([acd])(\d+)(?:,(\d+))?$')
+
 
 def files():
     """The YAML files below /usr and /opt, in an order that is always the same."""
-    found = set()
-    for folder in ('/usr', '/opt'):
-        for ending in ('yaml', 'yml'):
-            found.update(glob.glob(folder + '/**/*.' + ending, recursive=True))
-    found = sorted(path for path in found if os.path.isfile(path) and os.path.getsize(path) < LIMIT)
+    paths = (os.path.join(folder, name) for top in ('/usr', '/opt') for folder, _, names in os.walk(top)
+             for name in names if name.endswith(('.yaml', '.yml')))
+    found = sorted(path for path in paths if os.path.isfile(path) and os.path.getsize(path) < LIMIT)
     random.Random(1).shuffle(found)
     return found
 
@@ -41,20 +41,23 @@ def run(program, config, text, *words):
     return done.stdout if done.returncode == 0 else None
 
 
-def lines_of(text):
-    return text.split(b'\n')
-
-
 def hunks(old, new):
-    """The differences between two lists of lines: each as the lines of the first, from and to."""
-    matcher = difflib.SequenceMatcher(None, old, new, autojunk=False)
-    return [code[1:3] for code in matcher.get_opcodes() if code[0] != 'equal']
+    """The differences between two texts: for each, the lines of the first and of the second, from and to."""
+    with tempfile.NamedTemporaryFile() as before, tempfile.NamedTemporaryFile() as after:
+        for file, text in ((before, old), (after, new)):
+            file.write(text)
+            file.flush()
+        done = subprocess.run(['diff', '-a', before.name, after.name], stdout=subprocess.PIPE, check=False)
+    found = []
+    for start, stop, kind, to, last in HUNK.findall(done.stdout):
+        start, stop, to, last = int(start), int(stop or start), int(to), int(last or to)
+        found.append((start - (kind != b'a'), stop, to - (kind != b'd'), last))
+    return found
 
 
 def changed(old, new):
     """How many lines of the first text change, and of lines that are only added how many."""
-    matcher = difflib.SequenceMatcher(None, old, new, autojunk=False)
-    return sum(max(code[2] - code[1], code[4] - code[3]) for code in matcher.get_opcodes() if code[0] != 'equal')
+    return sum(max(stop - start, last - to) for start, stop, to, last in hunks(old, new))
 
 
 def one(program, config, path):
@@ -66,7 +69,7 @@ def one(program, config, path):
     whole = run(program, config, text)
     if whole is None or whole == text:
         return None
-    asked = sorted({line for start, end in hunks(lines_of(text), lines_of(whole)) for line in range(start, end)})
+    asked = sorted({line for start, stop, _, _ in hunks(text, whole) for line in range(start, stop)})
     if not asked:
         return None
     line = random.Random(path).choice(asked)
@@ -74,7 +77,7 @@ def one(program, config, path):
     if part is None or run(program, config, part) != whole:
         print('%s: line %d: another formatting' % (path, line + 1))
         sys.exit(1)
-    return changed(lines_of(text), lines_of(part)), changed(lines_of(text), lines_of(whole)), part == whole
+    return changed(text, part), changed(text, whole), part == whole
 
 
 def main():
