@@ -6,8 +6,8 @@
 PROGRAM is the built program (crates/yamlfmt/out/yamlfmt). The script opens documents, edits them at random, formats
 them, and compares each response with a model (bench/server_model.py): the text that the edits must give, and what
 PROGRAM itself prints for that text by `fmt` and `check`. It requests the edits, the code actions, the problems and
-the folding ranges in each possible way. Then it sends what a broken client sends, and runs a session with too little memory. With --times it
-measures how long after an edit its diagnostics come, in documents of 1 MB and of 16 MB.
+the folding ranges in each possible way. Then it sends what a broken client sends, and runs a session with too little
+memory. With --times it measures how long after an edit its diagnostics come, in documents of 1 MB and of 16 MB.
 """
 import argparse
 import os
