@@ -33,7 +33,10 @@ fn choosing_command<'a>(alloc: Global) -> Result<Command<'a>, AllocError>
 {
     let command = naming(alloc, CHECK, "Report where a file breaks a style rule");
     let leaving_out = with_arg(command, without_option(alloc));
-    let lines = lines_option(alloc, "Check only these lines, for example 3-7,12");
+    let lines = lines_option(
+        alloc,
+        "Print only the findings on these lines, for example 3-7,12",
+    );
     with_arg(leaving_out, lines)
 }
 
@@ -80,5 +83,5 @@ fn color_option<'a>(alloc: Global) -> Arg<'a>
     Arg::new(alloc, COLOR)
         .long(COLOR)
         .value_name("WHEN")
-        .help("Use colors in full findings: auto, always or never")
+        .help("When --format full has colors: auto, always or never")
 }

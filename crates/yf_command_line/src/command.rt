@@ -80,7 +80,7 @@ pub enum Output {
 /// When the output has colors (`--color`).
 #[derive(Clone, Copy)]
 pub enum Colors {
-    /// If standard output is a terminal, and the environment does not forbid colors.
+    /// Only if standard output is a terminal and the environment does not forbid colors.
     Auto,
     /// Always.
     Always,

@@ -25,11 +25,11 @@ is_byte_order_mark c = nat_eq c 0xFEFF
 abbrev pub index_of : List ℕ → ℕ → ℕ
 index_of cs column = min (prefix_len is_byte_order_mark cs + (column - 1)) (length cs)
 
--- whether a column is past the end of the line; then only a front of the line is known
+-- whether a column is past the end of the characters; then they are only a front of the line
 abbrev pub is_past : List ℕ → ℕ → Bool
 is_past cs column = nat_lt (length cs) (prefix_len is_byte_order_mark cs + (column - 1))
 
--- the index after a range: the range ends on its first line, or goes on after that line
+-- the index after the part of a range on its first line
 abbrev pub end_of : List ℕ → Range → ℕ
 end_of cs r = if r.end_line == r.line then index_of cs r.end_column else length cs
 
@@ -73,7 +73,7 @@ window_at cs at end past = record {
 abbrev pub window_of : List ℕ → Range → Window
 window_of cs r = window_at cs (index_of cs r.column) (end_of cs r) (is_past cs r.column)
 
--- the line
+-- the shown part as a line of the page, with dots for what is cut off
 abbrev pub excerpt : List ℕ → Window → List ℕ
 excerpt cs w =
     as_shown (codes "  | ") ++ (as_shown (dots (nat_lt 0 w.start)) ++ (all_shown (slice_range cs w.start w.stop)

@@ -27,11 +27,11 @@ head_pieces name p =
 abbrev pub message_text : OwnedProblem → List ℕ
 message_text p = as_shown (codes ": ") ++ (as_shown p.message ++ (as_shown (fixable_word p.fixable) ++ 10 ∷ []))
 
--- this, the line, and the blanks before the marks
+-- the message, the line, and the blanks before the marks
 abbrev pub body_of : OwnedProblem → List ℕ → Window → List ℕ
 body_of p cs w = message_text p ++ (excerpt cs w ++ (as_shown (codes "  | ") ++ all_shown (replicate w.indent 32)))
 
--- these, the marks, and the end of their line
+-- the message, the line, and the marks under it
 abbrev pub marked_pieces : OwnedProblem → List ℕ → Window → List Piece
 marked_pieces p cs w =
     piece Plain (body_of p cs w) ∷ piece Yellow (all_shown (replicate w.marks 94)) ∷ piece Plain (10 ∷ []) ∷ []

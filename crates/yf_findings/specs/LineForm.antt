@@ -9,7 +9,7 @@ use Rattle.yf_report.specs.declared.problem.Severity.{Severity}
 use Rattle.yf_report.specs.declared.problem.Severity.TheVariants.{Error, Warning}
 use Rattle.yf_rules.specs.Runs.Run.{fixable_word}
 
--- whether a problem is a finding, and no refusal
+-- whether a problem is a finding and not a refusal
 abbrev pub is_warning : Severity → Bool
 is_warning Error = false
 is_warning Warning = true

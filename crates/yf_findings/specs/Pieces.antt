@@ -36,7 +36,7 @@ painted false p = p.page
 abbrev pub all_painted : Bool → List Piece → List ℕ
 all_painted colored pieces = flat_map (painted colored) pieces
 
--- a text without its escapes, each of which goes from its first character to the next `m`
+-- a text without its escapes; an escape begins with the character 27 and ends with the next `m`
 abbrev pub without_from : Bool → List ℕ → List ℕ
 without_from inside [] = []
 without_from true (c ∷ cs) = without_from (not (nat_eq c 109)) cs

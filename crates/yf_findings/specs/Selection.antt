@@ -29,7 +29,7 @@ pub record SomeLine (r : Range) (asked : LineRange) : Type 0 where
 abbrev pub is_on : List LineRange → OwnedProblem → Bool
 is_on asked p = list_any (meets p.range) asked
 
--- The problems that meet an asked line, in their order. If no lines are asked, these are all.
+-- The problems on the asked lines, in their order. If no lines are asked, these are all problems.
 abbrev pub on_lines : List LineRange → List OwnedProblem → List OwnedProblem
 on_lines asked ps = if length asked == 0 then ps else filter (is_on asked) ps
 
@@ -44,7 +44,7 @@ listed_in f = (f.file, f.problems.items)
 abbrev pub count_problems : List FileProblems → ℕ
 count_problems files = sum_by (λ (f : FileProblems). length f.problems.items) files
 
--- the inputs with only the first problems, n of all inputs together
+-- the inputs with only their first n problems, counted over all inputs
 abbrev pub first_problems : ℕ → List Listed → List Listed
 first_problems n [] = []
 first_problems n (f ∷ files) = (f.0, take n f.1) ∷ first_problems (n - length f.1) files

@@ -67,7 +67,7 @@ row_cmp a b = ordering_then (nat_cmp b.count a.count) (slice_cmp nat_cmp a.rule.
 abbrev pub comes_before : RuleCount → RuleCount → Bool
 comes_before a b = is_lt (row_cmp a b)
 
--- whether a rule has a finding: the number of its rows
+-- the number of rows of a rule: 1 if it has a finding, and 0 otherwise
 abbrev pub occurs : List ℕ → List FoundRule → ℕ
 occurs id found = if list_any (is_of id) found then 1 else 0
 

@@ -10,9 +10,10 @@ use std::alloc::{AllocError, Global};
 use yf_explain::{Page, columns_of};
 use yf_report::problem::Range;
 
-/// The most columns of the line before the character, and of the line.
+/// The most columns that are shown before the character.
 pub const BEFORE: usize = 34;
 
+/// The most columns of a line that are shown.
 pub const ALL: usize = 68;
 
 /// A front of a line: the number of its characters, and its width in columns.
@@ -46,7 +47,7 @@ fn index_of(line: &[char], column: usize) -> usize
     line.len()
 }
 
-// Returns whether a column is past the end of a line. Then only a front of the line is known.
+// Returns whether a column is past the end of the characters. Then they are only a front of the line.
 fn is_past(line: &[char], column: usize) -> bool
     ensures { result ≡ is_past line.now column }
 {

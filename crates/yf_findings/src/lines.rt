@@ -103,7 +103,7 @@ fn push_line(out: &mut Vec<u8>, before: &[u8], problem: &OwnedProblem) -> Result
     Ok(())
 }
 
-/// Returns whether a problem is a finding, and no refusal.
+/// Returns whether a problem is a finding and not a refusal.
 pub(crate) fn is_finding(problem: &OwnedProblem) -> bool
     ensures { result ≡ is_finding problem.now }
 {

@@ -84,7 +84,7 @@ fn cut_all(files: &mut Vec<FileProblems>, limit: usize)
     }
 }
 
-// Keeps only the first problems of an input, and returns by how many of the limit they are fewer.
+// Keeps only the first `limit` problems of an input, and returns how many more problems the limit allows.
 fn cut(file: &mut FileProblems, limit: usize) -> usize
     ensures name { file.new.file ≡ file.old.file }
     ensures kept { file.new.problems.items ≡ take limit file.old.problems.items }

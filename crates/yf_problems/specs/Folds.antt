@@ -25,8 +25,8 @@ last_content t zero = 0
 last_content t (suc i) =
     if is_white (slice_index t i) || is_break (slice_index t i) then last_content t i else i
 
--- the start of the entry that a node is in: of the entry that it begins, or for a value of that of its key, which is
--- the last entry before it
+-- the start of a node's entry: a node may begin an entry; otherwise it is a value in the entry of its key, which is the
+-- last entry before it
 abbrev pub entry_start : Option ℕ → Option Entry → Option ℕ
 entry_start before None = before
 entry_start before (Some entry) = Some entry.start

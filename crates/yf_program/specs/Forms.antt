@@ -21,7 +21,7 @@ abbrev pub default_output : Bool → Output
 default_output true = output.Full
 default_output false = output.Lines
 
--- Whether the output has colors. `NO_COLOR` counts only if `--color` says nothing else.
+-- Whether the output has colors. `NO_COLOR` and `TERM=dumb` count only without `--color always` and `--color never`.
 abbrev pub has_colors : Colors → Terminal → Bool
 has_colors Always terminal = true
 has_colors Never terminal = false
@@ -55,17 +55,18 @@ has_several inputs = not (vec_len inputs.rest == 0)
 abbrev pub check_form : Check → Scope → Form
 check_form check scope = form_of check.printing scope.terminal (scope.names || has_several check.inputs)
 
--- Whether each finding is written as soon as its input is checked: each is a line, and none is left out.
+-- Whether the findings of an input are written as soon as it is checked: if each is a line, and neither `--lines` nor
+-- `--max-findings` may leave one out.
 abbrev pub writes_at_once : Form → List LineRange → Option ℕ → Bool
 writes_at_once (form.Lines named) lines limit = (length lines == 0) && not (is_some limit)
 writes_at_once _ lines limit = false
 
--- The limit of findings to print. It doesn't count for the numbers of findings.
+-- The limit of findings to print. `--statistics` counts all findings, whatever the limit.
 abbrev pub limit_in : Form → Option ℕ → Option ℕ
 limit_in form.Statistics limit = None
 limit_in _ limit = limit
 
--- Whether the refusals are explained: with `--explain`, and always for people.
+-- Whether refusals are explained: with `--explain`, and always in the form for people.
 abbrev pub explains_in : Form → Bool → Bool
 explains_in (form.Full colored) explain = true
 explains_in _ explain = explain

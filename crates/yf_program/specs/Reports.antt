@@ -69,11 +69,11 @@ GivesFault task problems status reader left before after =
     (f : Fault) × (bytes : List ℕ) × Runs.RefusedText reader left f × Runs.Keeps reader.contents bytes f
     × IsOnly (RefusalProblem bytes f) problems × EndsTold task.explain (Explains bytes f) f status before after
 
--- These problems of all are on the lines that are asked for, and the status is that of a check that found them.
+-- The problems are those of all that are on the asked lines, and the status is that of a check that found them.
 abbrev pub AreAsked : List LineRange → List OwnedProblem → List OwnedProblem → ℕ → Type 0
 AreAsked lines all problems status = (problems ≡ on_lines lines all) × (status ≡ check_status (has_problem problems))
 
--- The text that a reader has was checked, and these of its problems are asked for; or it was refused.
+-- The text that a reader has was checked, and these are its problems on the asked lines; or it was refused.
 abbrev pub GivesOver : ReportTask → List OwnedProblem → ℕ → ByteStream → ByteStream → ByteStream → ByteStream → Type 0
 GivesOver task problems status reader left before after =
     ((all : List OwnedProblem) × ReadProblems task.without.items task.style reader.contents all

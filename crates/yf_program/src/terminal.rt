@@ -12,7 +12,7 @@ use yf_line_ranges::range::LineRange;
 pub struct Terminal {
     /// Whether standard output is a terminal.
     pub output: bool,
-    /// Whether the environment has `NO_COLOR` with a value that is not empty.
+    /// Whether the environment forbids colors: `NO_COLOR` is set and not empty, or `TERM` is `dumb`.
     pub no_color: bool,
 }
 
@@ -29,7 +29,7 @@ pub fn form_of(printing: Printing, terminal: Terminal, named: bool) -> Form
     }
 }
 
-// Returns what the command line asks for. If it says nothing, the terminal decides.
+// Returns the output that the command line names, or else the default one.
 fn output_of(output: Option<Output>, is_terminal: bool) -> Output
     ensures { result ≡ unwrap_or output (default_output is_terminal) }
 {
@@ -39,7 +39,7 @@ fn output_of(output: Option<Output>, is_terminal: bool) -> Output
     }
 }
 
-// Returns how findings are printed if the command line doesn't say it.
+// Returns how findings are printed if the command line names no output.
 fn default_output(is_terminal: bool) -> Output
     ensures { result ≡ default_output is_terminal }
 {
@@ -67,7 +67,8 @@ pub fn is_named(names: bool, inputs: &InputList) -> bool
     names || !inputs.rest.is_empty()
 }
 
-/// Returns whether each finding is written as soon as its input is checked: each is a line, and none is left out.
+/// Returns whether the findings of an input are written as soon as it is checked: if each is a line, and neither
+/// `--lines` nor `--max-findings` may leave one out.
 pub fn writes_at_once(form: Form, lines: &[LineRange], limit: Option<usize>) -> bool
     ensures { result ≡ writes_at_once form lines.now limit }
 {
@@ -77,7 +78,7 @@ pub fn writes_at_once(form: Form, lines: &[LineRange], limit: Option<usize>) -> 
     }
 }
 
-/// Returns the limit of findings to print. The numbers of findings count all.
+/// Returns the limit of findings to print. `--statistics` counts all findings, whatever the limit.
 pub fn limit_in(form: Form, limit: Option<usize>) -> Option<usize>
     ensures { result ≡ limit_in form limit }
 {
@@ -87,7 +88,7 @@ pub fn limit_in(form: Form, limit: Option<usize>) -> Option<usize>
     }
 }
 
-/// Returns whether the refusals are explained.
+/// Returns whether refusals are explained: with `--explain`, and always in the form for people.
 pub fn explains_in(form: Form, explain: bool) -> bool
     ensures { result ≡ explains_in form explain }
 {

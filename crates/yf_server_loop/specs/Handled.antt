@@ -67,8 +67,8 @@ pub record IsUndone (before : Server) (value : Data) (answer : List ℕ) (after 
     pub fails : FailsWith id RequestFailed (Some sent)
     pub written : IsWritten answer sent
 
--- memory for a notification on a document was refused: the text of the document is lost, and the client gets a message,
--- or of nothing
+-- memory for a notification on a document was refused: the text of the document is lost, and the client gets a message
+-- or nothing
 pub record TellsLoss (claim : TextClaim) (after : Server) (value : Data) (answer : List ℕ) : Type 0 where
   pub note : Option Data
   pub logged : IsLogged note

@@ -268,7 +268,8 @@ fn react<A: Analysis>(
 ///
 /// # Errors
 ///
-/// `AllocError` if memory was refused to read the message or to respond to it with an error; it may be done then.
+/// `AllocError` if memory was refused to read the message or to respond to it with an error. The message may have been
+/// handled then.
 pub fn handle<A: Analysis>(
     alloc: Global,
     analysis: &A,

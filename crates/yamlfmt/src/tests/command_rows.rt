@@ -228,11 +228,11 @@ Options:
       --stdin-name <NAME>  Give standard input this name, for messages, excludes and templates
       --names              Print the name of the input before each line, also for a single input
       --without <RULES>    Skip the rules with these ids (comma-separated)
-      --lines <LINES>      Check only these lines, for example 3-7,12
+      --lines <LINES>      Print only the findings on these lines, for example 3-7,12
       --format <FORMAT>    Print the findings as line, full, json, sarif, github, gitlab, junit or checkstyle
       --statistics         Print the number of findings of each rule
       --max-findings <N>   Print at most N findings
-      --color <WHEN>       Use colors in full findings: auto, always or never
+      --color <WHEN>       When --format full has colors: auto, always or never
   -h, --help               Print help
 ",
         ),
