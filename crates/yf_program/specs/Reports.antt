@@ -48,6 +48,7 @@ report_task check explain style form = record {
   form = form;
   limit = limit_in form check.printing.limit;
   explain = explains_in form explain;
+  tells_left_out = explain;
 }
 
 -- ---- The problems of an input
@@ -165,7 +166,7 @@ GivesInput claim scope task input status before after =
 pub data GivesScoped (claim : InputClaim) (scope : Scope) (task : ReportTask) (input : Input) (status : ℕ)
     (before after : ReportState) : Type 0 where
   left_out : IsLeftOut scope input → (claim.notes → after.opened ≡ before.opened) → after.files ≡ before.files
-      → status ≡ 0 → TellsLeftOut task.explain before.errors after.errors
+      → status ≡ 0 → TellsLeftOut task.tells_left_out before.errors after.errors
       → GivesScoped claim scope task input status before after
   included : ¬ (IsLeftOut scope input) → GivesInput claim scope task input status before after
       → GivesScoped claim scope task input status before after

@@ -128,6 +128,7 @@ fn do_check<I: Inputs, S: Links, W: Sink, E: Sink>(
         form,
         limit: limit_in(form, printing.limit),
         explain: explains_in(form, explain),
+        tells_left_out: explain,
     };
     report_inputs(alloc, &task, scope, &inputs, sources, streams)
 }

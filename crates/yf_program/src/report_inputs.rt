@@ -38,6 +38,8 @@ pub struct ReportTask {
     pub limit: Option<usize>,
     /// Whether each fault is explained.
     pub explain: bool,
+    /// Whether a line reports each input that the settings leave out.
+    pub tells_left_out: bool,
 }
 
 /// Checks an input, unless the settings leave it out. Adds its problems, and returns its status.
@@ -60,7 +62,7 @@ pub fn give_scoped<I: Inputs, E: Sink>(
 {
     match is_left_out(alloc, scope, input) {
         Ok(true) => {
-            tell_left_out(task.explain, error_stream);
+            tell_left_out(task.tells_left_out, error_stream);
             Ok(GOOD)
         }
         Ok(false) => give_input(alloc, task, scope, input, inputs, files, error_stream),

@@ -28,7 +28,7 @@ const KEPT: Stored = Stored {
 const LEFT_OUT: &str = "left out: the settings exclude it\n";
 
 /// The rows, as in `in_force_rows`.
-pub static ROWS: [Row; 14] = [
+pub static ROWS: [Row; 15] = [
     // files that are left out
     (&[A, ALL], "/w/d", "fmt a.yaml", 0, "", "", ".yamlfmt.toml "),
     (
@@ -38,6 +38,15 @@ pub static ROWS: [Row; 14] = [
         0,
         "",
         LEFT_OUT,
+        ".yamlfmt.toml ",
+    ),
+    (
+        &[A, ALL],
+        "/w/d",
+        "check --format full a.yaml",
+        0,
+        "",
+        "",
         ".yamlfmt.toml ",
     ),
     (
