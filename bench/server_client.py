@@ -87,16 +87,16 @@ def some_lines(server):
 
 FOLDS = [
     # a collection under its key, an item under its dash, and only the longest of those that begin on a line
-    ('a:\n  b: 1\n  c:\n  - x\n  - - y\n    - z\nd: 1\n', [(0, 6), (2, 5), (4, 5)]),
+    ('a:\n  b: 1\n  c:\n  - x\n  - - y\n    - z\nd: 1\n', [(0, 5), (2, 5), (4, 5)]),
     # block scalars without the empty lines after them, quoted scalars; not plain ones
-    ('a: |+\n  x\n\n  y\n\n\nb: "x\n  y"\nc: x\n  y\n', [(0, 9), (6, 7)]),
+    ('a: |+\n  x\n\n  y\n\n\nb: "x\n  y"\nc: x\n  y\n', [(0, 3), (6, 7)]),
     # flow collections, and documents
     ('--- [a,\n  b]\n---\n{\n  c: [\n  1\n] }\n...\n', [(0, 1), (3, 6), (4, 6)]),
     # explicit keys, and a value that begins on a later line
     ('? - a\n  - b\n: - c\n  - d\n', [(0, 3)]),
-    ('k:\n\n  &a\n  - x\nm:\n', [(0, 4)]),
+    ('k:\n\n  &a\n  - x\nm:\n', [(0, 3)]),
     # comment lines in a row, but not one line, nor a comment after content; a fold ends before the comments after it
-    ('a: 1 # x\n# y\n # z\n\n# u\n\n# v\n# w\nb:\n- c\n# t\n', [(0, 9), (1, 2, 'comment'), (6, 7, 'comment'), (8, 9)]),
+    ('a: 1 # x\n# y\n # z\n\n# u\n\n# v\n# w\nb:\n- c\n# t\n', [(1, 2, 'comment'), (6, 7, 'comment'), (8, 9)]),
     # line breaks of each kind
     ('# a\r# b\r\n# c\nk: [\r\n ]\r', [(0, 2, 'comment'), (3, 4)]),
     ('', []), ('a: 1\n', []), ('a: [\n\n', []), ("'a\n\n b'", [(0, 2)]),

@@ -3,16 +3,18 @@ use Rattle.std.proofs.Common.{◌≡◌, ℕ, zero, suc, ◌-◌, ◌<◌, ◌�
 use Rattle.std.proofs.Common.{⊎_elim}
 use Rattle.std.proofs.lemmas.Bool.{cases_lt}
 use Rattle.std.proofs.Math.Seq.{take-nil}
-use Rattle.std.specs.Prelude.{◌==◌, Bool, false, if◌then◌else◌}
-use Rattle.std.specs.List.{filter, flat_map}
+use Rattle.std.specs.Prelude.{◌==◌, Bool, true, false, if◌then◌else◌}
+use Rattle.std.specs.List.{filter, flat_map, list_all}
 use Rattle.std.proofs.lemmas.List.{length-map, take-map}
 use Rattle.std.proofs.lemmas.List.Concat.{flat_map-cons}
-use Rattle.yf_findings.specs.Files.{entries_of, entry_with}
-use Rattle.yf_findings.specs.Selection.{Listed, SomeLine, first_problems, is_on, last_line, listed_in, on_lines}
-use Rattle.yf_findings.specs.declared.files.FileProblems.{FileProblems}
+use Rattle.std.proofs.lemmas.List.Elements.{All-take}
+use Rattle.std.proofs.lemmas.List.Sums.{AllPass-from_list_all, list_all-from_AllPass}
+use Rattle.yf_findings.specs.Files.{entry_with}
+use Rattle.yf_findings.specs.LineForm.{is_finding}
+use Rattle.yf_findings.specs.Selection.{Listed, SomeLine, at_most, counted, counted_entries, first_problems, is_on}
+use Rattle.yf_findings.specs.Selection.{last_line, on_lines}
 use Rattle.yf_findings.specs.declared.owned.OwnedProblem.{OwnedProblem}
 use Rattle.yf_line_ranges.specs.declared.range.LineRange.{LineRange}
-use Rattle.yf_report.specs.CodeQuality.{Entry}
 use Rattle.yf_report.specs.declared.problem.Range.{Range}
 
 minus_zero : (n : ℕ) → n - 0 ≡ n
@@ -25,31 +27,35 @@ take_both (suc n) (x ∷ xs) ys =
     let e : n - length xs ≡ suc n - length (x ∷ xs) = omega arith in
     ap (λ zs. x ∷ zs) (take_both n xs ys) ∙ ap (λ k. x ∷ (take n xs ++ take k ys)) e
 
-abbrev entries_listed : Listed → List Entry
-entries_listed f = map (entry_with f.0) f.1
+all_taken : (n : ℕ) (ps : List OwnedProblem) → list_all is_finding ps ≡ true → list_all is_finding (take n ps) ≡ true
+all_taken n ps e =
+    list_all-from_AllPass is_finding (take n ps)
+    (All-take (λ p. is_finding p ≡ true) n ps (AllPass-from_list_all is_finding ps e))
 
-listed_entries : (files : List FileProblems) → flat_map entries_of files ≡ flat_map entries_listed (map listed_in files)
-listed_entries [] = refl
-listed_entries (f ∷ files) =
-    flat_map-cons entries_of f files ∙ ap (λ x. entries_of f ++ x) (listed_entries files)
-    ∙ sym (flat_map-cons entries_listed (listed_in f) (map listed_in files))
+counted_by : (n : ℕ) (ps : List OwnedProblem) (b : Bool) → list_all is_finding ps ≡ b
+    → counted (if b then take n ps else ps) ≡ take n (if b then ps else [])
+counted_by n ps true e = rw (all_taken n ps e) refl
+counted_by n ps false e = rw e (sym (take-nil n))
 
-first_entries : (n : ℕ) (files : List Listed) → flat_map entries_listed (first_problems n files) ≡ take n (flat_map entries_listed files)
-first_entries n [] = sym (take-nil n)
-first_entries n (f ∷ files) =
-    let rest = n - length f.1 in
-    flat_map-cons entries_listed (f.0, take n f.1) (first_problems rest files)
-    ∙ ap (λ x. x ++ flat_map entries_listed (first_problems rest files)) (sym (take-map (entry_with f.0) n f.1))
-    ∙ ap (λ x. take n (entries_listed f) ++ x) (first_entries rest files)
-    ∙ ap (λ k. take n (entries_listed f) ++ take (n - k) (flat_map entries_listed files)) (sym (length-map f.1 (entry_with f.0)))
-    ∙ sym (take_both n (entries_listed f) (flat_map entries_listed files))
-    ∙ ap (take n) (sym (flat_map-cons entries_listed f files))
+-- the findings that a limit keeps are the first ones
+counted_first : (n : ℕ) (ps : List OwnedProblem) → counted (at_most n ps) ≡ take n (counted ps)
+counted_first n ps = counted_by n ps (list_all is_finding ps) refl
 
--- the entries of the inputs are the first ones
-pub entries_first : (n : ℕ) (old new : List FileProblems) → map listed_in new ≡ first_problems n (map listed_in old)
-    → flat_map entries_of new ≡ take n (flat_map entries_of old)
-entries_first n old new e =
-    listed_entries new ∙ ap (flat_map entries_listed) e ∙ first_entries n (map listed_in old) ∙ ap (take n) (sym (listed_entries old))
+-- those of all inputs together
+pub first_counted : (n : ℕ) (files : List Listed)
+    → flat_map counted_entries (first_problems n files) ≡ take n (flat_map counted_entries files)
+first_counted n [] = sym (take-nil n)
+first_counted n (f ∷ files) =
+    let rest = n - length (counted f.1) in
+    let later = flat_map counted_entries (first_problems rest files) in
+    flat_map-cons counted_entries (f.0, at_most n f.1) (first_problems rest files)
+    ∙ ap (λ ps. map (entry_with f.0) ps ++ later) (counted_first n f.1)
+    ∙ ap (λ x. x ++ later) (sym (take-map (entry_with f.0) n (counted f.1)))
+    ∙ ap (λ x. take n (counted_entries f) ++ x) (first_counted rest files)
+    ∙ ap (λ k. take n (counted_entries f) ++ take (n - k) (flat_map counted_entries files))
+    (sym (length-map (counted f.1) (entry_with f.0)))
+    ∙ sym (take_both n (counted_entries f) (flat_map counted_entries files))
+    ∙ ap (take n) (sym (flat_map-cons counted_entries f files))
 
 -- two ranges of lines that meet have a line in common
 pub meeting : (r : Range) (asked : LineRange) → asked.first ≤ asked.last → asked.first ≤ last_line r → r.line ≤ asked.last

@@ -1,9 +1,12 @@
 -- The problems on some lines of a text, and the first problems of several inputs.
-use Rattle.std.specs.Prelude.{ℕ, ◌-◌, ◌≤◌, ◌==◌, ◌&&◌, Bool, nat_le, nat_lt, List, [], ◌∷◌, length, take, sum_by, Option, if◌then◌else◌}
-use Rattle.std.specs.List.{filter, list_any}
+use Rattle.std.specs.Prelude.{ℕ, ◌-◌, ◌≤◌, ◌==◌, ◌&&◌, Bool, nat_le, nat_lt, List, [], ◌∷◌, length, map, take, sum_by, Option, if◌then◌else◌}
+use Rattle.std.specs.List.{filter, list_all, list_any}
+use Rattle.yf_findings.specs.Files.{entry_with}
+use Rattle.yf_findings.specs.LineForm.{is_finding}
 use Rattle.yf_findings.specs.declared.files.FileProblems.{FileProblems}
 use Rattle.yf_findings.specs.declared.owned.OwnedProblem.{OwnedProblem}
 use Rattle.yf_line_ranges.specs.declared.range.LineRange.{LineRange}
+use Rattle.yf_report.specs.CodeQuality.{Entry}
 use Rattle.yf_report.specs.declared.problem.Range.{Range}
 
 -- The last line that a range has a part of. A range that ends at the start of a line has no part of that line. An empty
@@ -40,11 +43,23 @@ Listed = Option (List ℕ) × List OwnedProblem
 abbrev pub listed_in : FileProblems → Listed
 listed_in f = (f.file, f.problems.items)
 
--- the number of problems of several inputs
-abbrev pub count_problems : List FileProblems → ℕ
-count_problems files = sum_by (λ (f : FileProblems). length f.problems.items) files
+-- the findings of an input, which a limit counts: an input with a refusal has none
+abbrev pub counted : List OwnedProblem → List OwnedProblem
+counted ps = if list_all is_finding ps then ps else []
 
--- the inputs with only their first n problems, counted over all inputs
+-- the problems of an input that a limit of n findings keeps: a refusal stays
+abbrev pub at_most : ℕ → List OwnedProblem → List OwnedProblem
+at_most n ps = if list_all is_finding ps then take n ps else ps
+
+-- the number of findings of several inputs
+abbrev pub count_findings : List FileProblems → ℕ
+count_findings files = sum_by (λ (f : FileProblems). length (counted f.problems.items)) files
+
+-- the inputs with only the first findings, n of all inputs together
 abbrev pub first_problems : ℕ → List Listed → List Listed
 first_problems n [] = []
-first_problems n (f ∷ files) = (f.0, take n f.1) ∷ first_problems (n - length f.1) files
+first_problems n (f ∷ files) = (f.0, at_most n f.1) ∷ first_problems (n - length (counted f.1)) files
+
+-- the entries of the findings of an input
+abbrev pub counted_entries : Listed → List Entry
+counted_entries f = map (entry_with f.0) (counted f.1)

@@ -1,10 +1,12 @@
 //! The problems on some lines, and the first problems of several inputs.
-ghost use Rattle.std.specs.List.{flat_map};
-ghost use Rattle.std.specs.Prelude.{◌≡◌, ◌≤◌, ◌-◌, true, false, length, map, take};
-ghost use Rattle.yf_findings.specs.Files.{entries_of};
-ghost use Rattle.yf_findings.specs.Selection.{SomeLine, first_problems, is_on, last_line, listed_in, meets, on_lines};
+ghost use Rattle.std.specs.List.{flat_map, list_all};
+ghost use Rattle.std.specs.Prelude.{◌≡◌, ◌≤◌, ◌-◌, true, false, length, map, not, take};
+ghost use Rattle.yf_findings.specs.LineForm.{is_finding};
+ghost use Rattle.yf_findings.specs.Selection.{SomeLine, at_most, counted, counted_entries, first_problems, is_on};
+ghost use Rattle.yf_findings.specs.Selection.{last_line, listed_in, meets, on_lines};
 
 use crate::files::FileProblems;
+use crate::lines::is_finding;
 use crate::owned::OwnedProblem;
 use yf_line_ranges::range::LineRange;
 use yf_report::problem::Range;
@@ -66,15 +68,16 @@ fn last_line(range: Range) -> usize
     range.line
 }
 
-/// Keeps only the first `limit` problems, all inputs counted together.
+/// Keeps only the first `limit` findings, all inputs counted together. Refusals stay.
 pub fn limit(files: &mut Vec<FileProblems>, limit: usize)
     ensures kept { map listed_in files.new.items ≡ first_problems limit (map listed_in files.old.items) }
-    ensures first { flat_map entries_of files.new.items ≡ take limit (flat_map entries_of files.old.items) }
+    ensures first { flat_map counted_entries (map listed_in files.new.items)
+        ≡ take limit (flat_map counted_entries (map listed_in files.old.items)) }
 {
     cut_all(files, limit);
 }
 
-// Keeps only the first problems of several inputs.
+// Keeps only the first findings of several inputs.
 fn cut_all(files: &mut Vec<FileProblems>, limit: usize)
     ensures { map listed_in files.new.items ≡ first_problems limit (map listed_in files.old.items) }
 {
@@ -84,13 +87,38 @@ fn cut_all(files: &mut Vec<FileProblems>, limit: usize)
     }
 }
 
-// Keeps only the first `limit` problems of an input, and returns how many more problems the limit allows.
+// Keeps only the first `limit` findings of an input, and returns how many more findings the limit allows.
 fn cut(file: &mut FileProblems, limit: usize) -> usize
     ensures name { file.new.file ≡ file.old.file }
-    ensures kept { file.new.problems.items ≡ take limit file.old.problems.items }
-    ensures left { result ≡ limit - length file.old.problems.items }
+    ensures kept { file.new.problems.items ≡ at_most limit file.old.problems.items }
+    ensures left { result ≡ limit - length (counted file.old.problems.items) }
 {
+    if has_refusal(file.problems.as_slice()) {
+        return limit;
+    }
     let count = file.problems.len();
     file.problems.truncate(limit);
     limit.saturating_sub(count)
+}
+
+/// Returns the number of findings that a limit counts: that of all problems, or 0 if one of them is a refusal.
+pub fn count_findings(problems: &[OwnedProblem]) -> usize
+    ensures { result ≡ length (counted problems.now) }
+{
+    if has_refusal(problems) {
+        return 0;
+    }
+    problems.len()
+}
+
+// Returns whether one of these problems is a refusal.
+fn has_refusal(problems: &[OwnedProblem]) -> bool
+    ensures { not result ≡ list_all is_finding problems.now }
+{
+    for problem in problems {
+        if !is_finding(problem) {
+            return true;
+        }
+    }
+    false
 }

@@ -1,4 +1,5 @@
--- The parts of a text that may be folded: its collections, its scalars that are not plain, and its comment lines.
+-- The parts of a text that may be folded: its collections, except block collections that are the root of a document;
+-- its scalars that are not plain; and its comment lines.
 use Rattle.std.specs.Prelude.{◌≡◌, ◌⊎◌, ◌<◌, ◌==◌, ◌||◌, ◌&&◌, ℕ, zero, suc, ◌-◌, Bool, true, false, not, if◌then◌else◌, List, [], ◌∷◌, ◌++◌, flat_map, length, slice_index, Option, Some, None}
 use Rattle.yf_comments.specs.Comment.{CommentValue}
 use Rattle.yf_events.specs.Tree.{Node, scalar, alias, sequence, mapping, Items, no_items, item, Pairs, no_pairs, pair, DocumentTree, TreesOf, standing}
@@ -76,8 +77,22 @@ abbrev mutual
   pair_parts t before (pair k v ps) = node_parts t before k
       ++ (node_parts t (after_node before k) v ++ pair_parts t (after_node (after_node before k) v) ps)
 
+-- The part of a collection that is the root of a document. One in block style has none: it would begin on the line of
+-- its first entry, and a client folds only one part that begins on a line.
+abbrev pub root_part : List ℕ → Bool → Option ℕ → Option Span → List Foldable
+root_part t flow start span = if flow then part_of t start span else []
+
+-- the parts of the collections and the scalars in the root of a document
+abbrev pub root_parts : List ℕ → Node → List Foldable
+root_parts t (scalar at props style text lines) = scalar_part t style (entry_start None at.entry) at.span
+root_parts t (alias at name) = []
+root_parts t (sequence at flow props items) =
+    root_part t flow (entry_start None at.entry) at.span ++ item_parts t None items
+root_parts t (mapping at flow props pairs) =
+    root_part t flow (entry_start None at.entry) at.span ++ pair_parts t None pairs
+
 abbrev pub document_parts : List ℕ → DocumentTree → List Foldable
-document_parts t d = node_parts t None d.root
+document_parts t d = root_parts t d.root
 
 -- the start of the white space before an offset
 abbrev pub white_start : List ℕ → ℕ → ℕ

@@ -1,4 +1,4 @@
-//! The parts of a text that an editor may fold: its collections, its scalars that are not plain, and its comment lines.
+//! The parts of a text that an editor may fold.
 ghost use Rattle.std.specs.Prelude.{◌≡◌, ◌++◌, ◌∷◌, List, None, IfOk, flat_map, reverse};
 ghost use Rattle.yf_events.specs.Event.{event_value};
 ghost use Rattle.yf_events.specs.Tree.{DocumentTree, TreesOf};
@@ -113,22 +113,44 @@ fn pass_end(stack: &mut Vec<Option<usize>>)
     }
 }
 
+// Adds the part of a collection that is the root of a document.
+fn push_root(
+    parts: &mut Vec<Foldable>,
+    text: &str,
+    flow: bool,
+    start: Option<usize>,
+    span: Option<Span>,
+) -> Result<(), AllocError>
+    ensures { IfOk result (λ _. parts.new.items ≡ parts.old.items ++ Folds.root_part text.now flow start span) }
+{
+    if flow {
+        return push_part(parts, text, start, span);
+    }
+    Ok(())
+}
+
 // Passes the start of a collection.
 fn pass_start(
     stack: &mut Vec<Option<usize>>,
     parts: &mut Vec<Foldable>,
     text: &str,
+    flow: bool,
     span: Option<Span>,
     entry: Option<Entry>,
 ) -> Result<(), AllocError>
     ensures stack { IfOk result (λ _. reverse stack.new.items ≡ None ∷ FoldPass.after entry (reverse stack.old.items)) }
-    ensures parts { IfOk result (λ _. parts.new.items ≡ parts.old.items ++ Folds.part_of text.now
-        (Folds.entry_start (FoldPass.last_entry (reverse stack.old.items)) entry) span) }
+    ensures parts { IfOk result (λ _. parts.new.items ≡ parts.old.items
+        ++ FoldPass.collection_part text.now flow span entry (reverse stack.old.items)) }
 {
-    let start = pass_node(stack, entry)?;
-    push_part(parts, text, start, span)?;
-    stack.push(None)?;
-    Ok(())
+    match stack.pop() {
+        Some(before) => {
+            let start = entry_start(before, entry);
+            push_part(parts, text, start, span)?;
+            stack.push(start)?;
+        }
+        None => push_root(parts, text, flow, entry_start(None, entry), span)?,
+    }
+    stack.push(None)
 }
 
 // Passes one event with its offsets.
@@ -154,8 +176,8 @@ fn pass(
             let _ = pass_node(stack, entry)?;
             Ok(())
         }
-        Event::SeqStart { .. } => pass_start(stack, parts, text, span, entry),
-        Event::MapStart { .. } => pass_start(stack, parts, text, span, entry),
+        Event::SeqStart { flow, .. } => pass_start(stack, parts, text, flow, span, entry),
+        Event::MapStart { flow, .. } => pass_start(stack, parts, text, flow, span, entry),
         Event::SeqEnd => {
             pass_end(stack);
             Ok(())
@@ -214,8 +236,8 @@ fn parts_in(alloc: Global, text: &str, reading: &Reading) -> Result<Vec<Foldable
     Ok(parts)
 }
 
-/// Returns the parts of a text that may be folded: its collections, its scalars that are not plain, and its comment
-/// lines. A text that is refused has none.
+/// Returns the parts of a text that may be folded: its collections, except block collections that are the root of a
+/// document; its scalars that are not plain; and its comment lines. A text that is refused has none.
 ///
 /// # Errors
 ///

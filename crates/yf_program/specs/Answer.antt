@@ -329,7 +329,7 @@ DoesIn host (command.Events input) scope explain style =
     ScopedInput host scope (task_of work.Events explain style) input
 DoesIn host command.Server scope explain style = ScopedInput host scope (task_of work.Serve explain style) Standard
 DoesIn host (command.Check check) scope explain style =
-    DoesCheck host check scope explain style (check_form check scope)
+    DoesCheck host check scope explain style (check_form check scope explain)
 DoesIn host (command.Fmt (fmt.Print input)) scope explain style =
     ScopedInput host scope (task_of work.Print explain style) input
 DoesIn host (command.Fmt (fmt.Check inputs)) scope explain style =

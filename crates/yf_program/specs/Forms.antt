@@ -1,6 +1,6 @@
 -- The form of the findings that `check` prints, by its options, the terminal and the environment.
--- (named: whether each line has the name of its input)
-use Rattle.std.specs.Prelude.{◌==◌, ◌&&◌, ◌||◌, ℕ, Bool, true, false, not, List, length}
+-- (named: whether each line has the name of its input; explain: whether `--explain` is given)
+use Rattle.std.specs.Prelude.{◌==◌, ◌&&◌, ◌||◌, ℕ, Bool, true, false, not, if◌then◌else◌, List, length}
 use Rattle.std.specs.Prelude.{Option, None, is_some, unwrap_or, vec_len}
 use Rattle.yf_command_line.specs.declared.command.Check.{Check}
 use Rattle.yf_command_line.specs.declared.command.Colors.{Colors}
@@ -15,11 +15,10 @@ use Rattle.yf_line_ranges.specs.declared.range.LineRange.{LineRange}
 use Rattle.yf_program.specs.declared.scope.Scope.{Scope}
 use Rattle.yf_program.specs.declared.terminal.Terminal.{Terminal}
 
--- Without `--format` and `--statistics` the findings are for people if standard output is a terminal. Otherwise each
--- is a line.
-abbrev pub default_output : Bool → Output
-default_output true = output.Full
-default_output false = output.Lines
+-- Without `--format` and `--statistics` the findings are for people if standard output is a terminal, unless
+-- `--explain` explains each line. Otherwise each finding is a line.
+abbrev pub default_output : Bool → Bool → Output
+default_output is_terminal explain = if is_terminal && not explain then output.Full else output.Lines
 
 -- Whether the output has colors. `NO_COLOR` and `TERM=dumb` count only without `--color always` and `--color never`.
 abbrev pub has_colors : Colors → Terminal → Bool
@@ -43,17 +42,18 @@ form_in (output.Report format) colored named = form.Report format
 -- | `--statistics`  | any             | the number of findings of each rule             |
 -- | none            | a terminal      | as with `--format full`                         |
 -- | none            | no terminal     | as with `--format line`                         |
-abbrev pub form_of : Printing → Terminal → Bool → Form
-form_of p terminal named =
-    form_in (unwrap_or p.output (default_output terminal.output)) (has_colors p.colors terminal) named
+-- | only `--explain`| any             | as with `--format line`                         |
+abbrev pub form_of : Printing → Terminal → Bool → Bool → Form
+form_of p terminal named explain =
+    form_in (unwrap_or p.output (default_output terminal.output explain)) (has_colors p.colors terminal) named
 
 -- Whether there is more than one input.
 abbrev pub has_several : InputList → Bool
 has_several inputs = not (vec_len inputs.rest == 0)
 
 -- The form of the findings of a check. With `--names`, or for several inputs, each line has the name of its input.
-abbrev pub check_form : Check → Scope → Form
-check_form check scope = form_of check.printing scope.terminal (scope.names || has_several check.inputs)
+abbrev pub check_form : Check → Scope → Bool → Form
+check_form check scope explain = form_of check.printing scope.terminal (scope.names || has_several check.inputs) explain
 
 -- Whether the findings of an input are written as soon as it is checked: if each is a line, and neither `--lines` nor
 -- `--max-findings` may leave one out.

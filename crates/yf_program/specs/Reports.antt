@@ -14,7 +14,7 @@ use Rattle.yf_findings.specs.Printed.{Printed}
 use Rattle.yf_findings.specs.Guards.{WithGuard}
 use Rattle.yf_findings.specs.Reading.{ReadProblems}
 use Rattle.yf_findings.specs.Refusals.{RefusalProblem}
-use Rattle.yf_findings.specs.Selection.{count_problems, first_problems, listed_in, on_lines}
+use Rattle.yf_findings.specs.Selection.{count_findings, first_problems, listed_in, on_lines}
 use Rattle.yf_findings.specs.declared.files.FileProblems.{FileProblems}
 use Rattle.yf_findings.specs.declared.printed.Form.{Form}
 use Rattle.yf_findings.specs.declared.owned.OwnedProblem.{OwnedProblem}
@@ -213,21 +213,23 @@ GaveUp claim scope task inputs before after =
 
 -- ---- The report
 
--- The files with the problems that are printed. If there is a limit, these are the first ones of all files together.
+-- The files with the problems that are printed. If there is a limit, their findings are the first ones of all files
+-- together. Refusals stay.
 abbrev pub AreShown : Option ℕ → List FileProblems → List FileProblems → Type 0
 AreShown None files shown = shown ≡ files
 AreShown (Some limit) files shown = map listed_in shown ≡ first_problems limit (map listed_in files)
 
--- How many problems the limit leaves out.
+-- How many findings the limit leaves out.
 abbrev pub left_over : Option ℕ → List FileProblems → ℕ
 left_over None files = 0
-left_over (Some limit) files = count_problems files - limit
+left_over (Some limit) files = count_findings files - limit
 
 -- The words after the number of findings that are left out.
 abbrev pub more_findings : ℕ → List ℕ
-more_findings count = if count == 1 then codes " more finding\n" else codes " more findings\n"
+more_findings count =
+    if count == 1 then codes " more finding is not printed\n" else codes " more findings are not printed\n"
 
--- If problems are left out, a line says how many.
+-- If findings are left out, a line says how many.
 abbrev pub TellsLeftOver : ℕ → ByteStream → ByteStream → Type 0
 TellsLeftOver count before after =
     MatchBool (count == 0) (NothingWritten before after)

@@ -111,7 +111,7 @@ fn do_check<I: Inputs, S: Links, W: Sink, E: Sink>(
         printing,
     } = check;
     let named = is_named(scope.names, &inputs);
-    let form = form_of(printing, scope.terminal, named);
+    let form = form_of(printing, scope.terminal, named, explain);
     let at_once = writes_at_once(form, lines.as_slice(), printing.limit);
     if at_once {
         let task = Task {

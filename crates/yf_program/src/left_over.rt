@@ -1,6 +1,6 @@
-//! The problems that a limit leaves out of a report.
+//! The findings that a limit leaves out of a report.
 ghost use Rattle.std.specs.Prelude.{◌≡◌, IfOk, Some};
-ghost use Rattle.yf_findings.specs.Selection.{count_problems};
+ghost use Rattle.yf_findings.specs.Selection.{count_findings};
 ghost use Rattle.yf_program.specs.Reports.{AreShown, TellsLeftOver, left_over, more_findings};
 ghost use Rattle.yf_rules.specs.Runs.ByteStream.{stream_of};
 
@@ -11,11 +11,11 @@ use yf_findings::selection;
 use yf_lines::output::write_texts;
 use yf_lines::watched::Sink;
 
-/// Keeps only the problems that the limit doesn't leave out, and returns how many it leaves out.
+/// Keeps only the problems that the limit doesn't leave out, and returns how many findings it leaves out.
 ///
 /// # Errors
 ///
-/// `AllocError` if there are too many problems to count.
+/// `AllocError` if there are too many findings to count.
 pub fn cut_to_limit(
     limit: Option<usize>,
     files: &mut Vec<FileProblems>,
@@ -29,23 +29,23 @@ pub fn cut_to_limit(
     }
 }
 
-// Keeps only the first problems of all files, and returns how many others there are.
+// Keeps only the first findings of all files, and returns how many others there are.
 fn cut(limit: usize, files: &mut Vec<FileProblems>) -> Result<usize, AllocError>
     ensures count { IfOk result (λ count. count ≡ left_over (Some limit) files.old.items) }
     ensures shown { IfOk result (λ _. AreShown (Some limit) files.old.items files.new.items) }
 {
-    let count = count_problems(files.as_slice())?;
+    let count = count_all(files.as_slice())?;
     selection::limit(files, limit);
     Ok(count.saturating_sub(limit))
 }
 
-// Returns the number of the problems of all files.
-fn count_problems(files: &[FileProblems]) -> Result<usize, AllocError>
-    ensures { IfOk result (λ count. count ≡ count_problems files.now) }
+// Returns the number of the findings of all files.
+fn count_all(files: &[FileProblems]) -> Result<usize, AllocError>
+    ensures { IfOk result (λ count. count ≡ count_findings files.now) }
 {
     let mut count: usize = 0;
     for file in files {
-        match count.checked_add(file.problems.len()) {
+        match count.checked_add(selection::count_findings(file.problems.as_slice())) {
             Some(sum) => count = sum,
             None => return Err(AllocError),
         }
@@ -53,7 +53,7 @@ fn count_problems(files: &[FileProblems]) -> Result<usize, AllocError>
     Ok(count)
 }
 
-/// Writes how many problems are left out, if any are.
+/// Writes how many findings are left out, if any are.
 pub fn tell_left_over<E: Sink>(count: usize, error_stream: &mut E)
     ensures { TellsLeftOver count (stream_of E.contents E.has_failed error_stream.old)
         (stream_of E.contents E.has_failed error_stream.new) }
@@ -65,12 +65,12 @@ pub fn tell_left_over<E: Sink>(count: usize, error_stream: &mut E)
     }
 }
 
-// Returns the words after the number of problems that are left out.
+// Returns the words after the number of findings that are left out.
 fn more_findings(count: usize) -> &'static str
     ensures { result.now ≡ more_findings count }
 {
     if count == 1 {
-        return " more finding\n";
+        return " more finding is not printed\n";
     }
-    " more findings\n"
+    " more findings are not printed\n"
 }

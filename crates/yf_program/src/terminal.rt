@@ -16,12 +16,13 @@ pub struct Terminal {
     pub no_color: bool,
 }
 
-/// Returns the form of the findings that `check` prints. If `named`, each line has the name of its input.
-pub fn form_of(printing: Printing, terminal: Terminal, named: bool) -> Form
-    ensures { result ≡ form_of printing terminal named }
+/// Returns the form of the findings that `check` prints. If `named`, each line has the name of its input. `explain` says
+/// whether `--explain` is given.
+pub fn form_of(printing: Printing, terminal: Terminal, named: bool, explain: bool) -> Form
+    ensures { result ≡ form_of printing terminal named explain }
 {
     let colored = has_colors(printing.colors, terminal);
-    match output_of(printing.output, terminal.output) {
+    match output_of(printing.output, terminal.output, explain) {
         Output::Lines => Form::Lines { named },
         Output::Full => Form::Full { colored },
         Output::Statistics => Form::Statistics,
@@ -30,20 +31,20 @@ pub fn form_of(printing: Printing, terminal: Terminal, named: bool) -> Form
 }
 
 // Returns the output that the command line names, or else the default one.
-fn output_of(output: Option<Output>, is_terminal: bool) -> Output
-    ensures { result ≡ unwrap_or output (default_output is_terminal) }
+fn output_of(output: Option<Output>, is_terminal: bool, explain: bool) -> Output
+    ensures { result ≡ unwrap_or output (default_output is_terminal explain) }
 {
     match output {
         Some(output) => output,
-        None => default_output(is_terminal),
+        None => default_output(is_terminal, explain),
     }
 }
 
 // Returns how findings are printed if the command line names no output.
-fn default_output(is_terminal: bool) -> Output
-    ensures { result ≡ default_output is_terminal }
+fn default_output(is_terminal: bool, explain: bool) -> Output
+    ensures { result ≡ default_output is_terminal explain }
 {
-    if is_terminal {
+    if is_terminal && !explain {
         return Output::Full;
     }
     Output::Lines

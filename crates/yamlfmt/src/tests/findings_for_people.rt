@@ -4,7 +4,7 @@ use crate::tests::answer::{answers_line, answers_on};
 use crate::tests::answer_rows::{BEFORE, Row};
 use yf_program::terminal::Terminal;
 
-static ROWS: [Row; 12] = [
+static ROWS: [Row; 14] = [
     // the status counts only findings on the lines that are asked for
     (
         "check --lines 2 a.yaml",
@@ -45,7 +45,7 @@ static ROWS: [Row; 12] = [
         "check --max-findings 0 a.yaml",
         1,
         "",
-        "1 more finding\n",
+        "1 more finding is not printed\n",
         "a.yaml ",
         BEFORE,
     ),
@@ -53,8 +53,25 @@ static ROWS: [Row; 12] = [
         "check --max-findings 1 a.yaml a.yaml a.yaml",
         1,
         "a.yaml:2:8 comment-space (fixable)\n",
-        "2 more findings\n",
+        "2 more findings are not printed\n",
         "a.yaml a.yaml a.yaml ",
+        BEFORE,
+    ),
+    // a refusal is no finding
+    (
+        "check --max-findings 1 refused.yaml a.yaml a.yaml",
+        2,
+        "a.yaml:2:8 comment-space (fixable)\n",
+        "refused.yaml:2:6 refused: unknown-alias\n1 more finding is not printed\n",
+        "refused.yaml a.yaml a.yaml ",
+        BEFORE,
+    ),
+    (
+        "check --max-findings 0 --format github a.yaml refused.yaml",
+        2,
+        "::error title=unknown-alias,file=refused.yaml,line=2,endLine=2,col=6,endColumn=6::no anchor with this name comes before it in this document\n",
+        "refused.yaml:2:6 refused: unknown-alias\n1 more finding is not printed\n",
+        "a.yaml refused.yaml ",
         BEFORE,
     ),
     (
@@ -101,7 +118,7 @@ static ROWS: [Row; 12] = [
 ];
 
 /// Results on a terminal without colors.
-static TERMINAL_ROWS: [Row; 5] = [
+static TERMINAL_ROWS: [Row; 6] = [
     (
         "check a.yaml",
         1,
@@ -132,6 +149,15 @@ static TERMINAL_ROWS: [Row; 5] = [
         "[]",
         "",
         "a.yaml ",
+        BEFORE,
+    ),
+    // each line is explained
+    (
+        "check --explain deep.yaml",
+        1,
+        "3:5 indentation (fixable)\n4:8 indentation (fixable)\n",
+        "  3:5 indentation: expected at column 3; fmt indents it as the settings `indent` and `seq_indent` say\n  4:8 indentation: expected its lines at column 7; fmt indents it as the settings `indent` and `seq_indent` say\n",
+        "deep.yaml ",
         BEFORE,
     ),
     (
