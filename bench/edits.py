@@ -36,9 +36,9 @@ the promise is that function's, if it names no other. One edit stands for a fami
 form. A function needs no edit if the exact clause of another one rests on it: a wrong result of it is refused there. If
 a promise has no edit, the item says why:
 
-- *as* an edit: a similar edit was tried, by hand or in the list of commit 74c4f26a or e20bd9c7. A clause refused it.
-  The named edit breaks the same clause, one of the same form, or one that rests on it. If the edit is *of* another
-  crate, a clause of this crate refused the similar one, and the clause that the named edit breaks rests on that clause.
+- *as* an edit: a similar edit was tried by hand, or by the gate of commit 74c4f26a or 2ca61b81, and a clause refused it;
+  or it was in the list of commit e20bd9c7, which was tried only in part. The named edit breaks the same clause, one of
+  the same form, or one that rests on it. If the edit is *of* another crate, its clause rests on that of the similar one.
 - *by* tests or files: they hold the promise.
 
 docs/proving/COST.md says how to write an edit, and what it costs.
