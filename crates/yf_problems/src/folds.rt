@@ -150,7 +150,8 @@ fn pass_start(
         }
         None => push_root(parts, text, flow, entry_start(None, entry), span)?,
     }
-    stack.push(None)
+    stack.push(None)?;
+    Ok(())
 }
 
 // Passes one event with its offsets.
