@@ -162,7 +162,7 @@ module _ {F : Type 0} (earlier later : Host F) (known : StillKnown earlier.input
       → DoesIn earlier what scope explain style status before after
   does_in_before (command.Events input) scope explain style status before after d = scoped_input_before earlier later known scope (task_of work.Events explain style) input status before after d
   does_in_before command.Server scope explain style status before after d = scoped_input_before earlier later known scope (task_of work.Serve explain style) Standard status before after d
-  does_in_before (command.Check check) scope explain style status before after d = check_before check scope explain style (check_form check scope) status before after d
+  does_in_before (command.Check check) scope explain style status before after d = check_before check scope explain style (check_form check scope explain) status before after d
   does_in_before (command.Fmt (fmt.Print input)) scope explain style status before after d = scoped_input_before earlier later known scope (task_of work.Print explain style) input status before after d
   does_in_before (command.Fmt (fmt.Check inputs)) scope explain style status before after d = all_before scope (task_of work.Compare explain style) (all_inputs inputs) status before after d
   does_in_before (command.Fmt (fmt.Diff inputs)) scope explain style status before after d = all_before scope (task_of work.Diff explain style) (all_inputs inputs) status before after d
@@ -184,7 +184,7 @@ module _ {F : Type 0} (earlier later : Host F) (known : StillKnown earlier.input
       are_taken (does_in_before what (scope_of in_force settings flags) flags.explain settings.style status before after d)
 
 -- the check in its form: each finding was written at once, or one report of all was written
-module _ {F : Type 0} (host : Host F) (check : Check) (scope : Scope) (explain : Bool) (style : Style) (form : Form) (same : form ≡ check_form check scope) (status : ℕ) (before after : World F) where
+module _ {F : Type 0} (host : Host F) (check : Check) (scope : Scope) (explain : Bool) (style : Style) (form : Form) (same : form ≡ check_form check scope explain) (status : ℕ) (before after : World F) where
   in_form : DoesCheck host check scope explain style form status before after → DoesIn host (command.Check check) scope explain style status before after
   in_form d = subst (λ (f : Form). DoesCheck host check scope explain style f status before after) same d
 
