@@ -5,9 +5,9 @@ Usage: bench/parts.py PROGRAM [FILES]     (FILES: how many files for each of the
 
 For each of four settings it takes files that `fmt` changes, in an order that is always the same, and requests one line
 that differs from the formatting. It prints the median and the 90th percentile of the lines that change, beside those of
-the whole formatting, and in how many files the result is the whole formatting. It checks each result: formatting it
-gives the formatting of the file, and the requested line is in no remaining difference. A result that fails is printed,
-and the status is 1.
+the difference with the requested line, and those of the whole formatting. It also prints how many files have several
+differences, and for how many of these the result is the whole formatting. It checks each result: formatting it gives the
+formatting of the file. A result that fails is printed, and the status is 1.
 
 Run it by hand; it is not part of rt ci.
 """
@@ -55,13 +55,15 @@ def hunks(old, new):
     return found
 
 
-def changed(old, new):
-    """How many lines of the first text change, and of lines that are only added how many."""
-    return sum(max(stop - start, last - to) for start, stop, to, last in hunks(old, new))
+def size(hunk):
+    """How many lines of the first text change, or if none do, how many are added."""
+    start, stop, to, last = hunk
+    return max(stop - start, last - to)
 
 
 def one(program, config, path):
-    """How many lines change, how many the whole formatting changes, and whether the two texts are equal."""
+    """The lines that change, in the result, in the difference with the requested line, and in the whole formatting; and
+    whether there are several differences, and the result is the whole formatting."""
     with open(path, 'rb') as file:
         text = file.read()
     if b'\r' in text:
@@ -69,15 +71,17 @@ def one(program, config, path):
     whole = run(program, config, text)
     if whole is None or whole == text:
         return None
-    asked = sorted({line for start, stop, _, _ in hunks(text, whole) for line in range(start, stop)})
+    all_hunks = hunks(text, whole)
+    asked = sorted({(line, hunk) for hunk in all_hunks for line in range(*hunk[:2])})
     if not asked:
         return None
-    line = random.Random(path).choice(asked)
+    line, hunk = random.Random(path).choice(asked)
     part = run(program, config, text, '--lines', str(line + 1))
     if part is None or run(program, config, part) != whole:
         print('%s: line %d: another formatting' % (path, line + 1))
         sys.exit(1)
-    return changed(text, part), changed(text, whole), part == whole
+    sizes = sum(map(size, hunks(text, part))), size(hunk), sum(map(size, all_hunks))
+    return (*sizes, len(all_hunks) > 1, len(all_hunks) > 1 and part == whole)
 
 
 def main():
@@ -95,11 +99,11 @@ def main():
                     results.append(result)
                 if len(results) == wanted:
                     break
-        parts, wholes = sorted(result[0] for result in results), sorted(result[1] for result in results)
+        columns = list(zip(*results))
         count = len(results)
-        print('%-60s %d files: median %d, 90 %% %d lines (whole formatting: %d, %d); whole in %d files' % (
-            repr(setting), count, parts[count // 2], parts[count * 9 // 10], wholes[count // 2], wholes[count * 9 // 10],
-            sum(result[2] for result in results)), flush=True)
+        middle = ['%d, %d' % (numbers[count // 2], numbers[count * 9 // 10]) for numbers in map(sorted, columns[:3])]
+        print('%-60s %d files: %s lines (one difference: %s; all: %s); %d with several differences, all in %d of them' % (
+            repr(setting), count, *middle, sum(columns[3]), sum(columns[4])), flush=True)
 
 
 if __name__ == '__main__':
