@@ -46,8 +46,8 @@ pub const RULES: [Rule<'static>; 14] = [
     },
     Rule {
         id: "flow-layout",
-        summary: "A flow collection is not laid out as in the house style.",
-        help: "Write the collection as the house style does, or let `yamlfmt fmt` do it.",
+        summary: "A flow collection is not written as in the house style.",
+        help: "Write it on one line with one space after each comma and `:`, or as a block collection if it doesn't fit, or let `yamlfmt fmt` do it.",
     },
     Rule {
         id: "comment-space",

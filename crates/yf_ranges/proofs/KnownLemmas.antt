@@ -3,7 +3,7 @@ use Rattle.std.proofs.Common.{◌≡◌, ◌≢◌, ℕ, ◌+◌, ◌<◌, ◌�
 use Rattle.std.specs.List.{Contains}
 use Rattle.std.specs.List.Sorted.{IsBinarySearchResult, IsNonDecreasingBy, IsPermutation, IsSearchInRange}
 use Rattle.std.specs.Ordering.{nat_cmp, ordering_index}
-use Rattle.std.specs.Prelude.{slice_get, MatchOption, MatchResult}
+use Rattle.std.specs.Prelude.{slice_get, IfSome, MatchOption, MatchResult}
 use Rattle.std.specs.Str.{IsCharBoundary}
 use Rattle.std.proofs.lemmas.Bool.{cases_lt}
 use Rattle.std.proofs.lemmas.Bool.Decides.{nat_tests}
@@ -54,6 +54,10 @@ searched ds o (Err k) within parted rise = λ d c same. absent d c.0 c.1 c.2 sam
         let e = ap (λ z. z.span.start) g in omega (arith, above, e, same))
         (cases_lt j k)
 
+among_start : (ds : List Detail) (offset : ℕ) (result : Option Detail) → IsAmong ds offset result → IfSome result (λ d. d.span.start ≡ offset)
+among_start ds offset None m = tt
+among_start ds offset (Some d) m = m.1
+
 module _ (src : Table) (r : Lists) (house : Style) (offset : ℕ) (b : IsCharBoundary src.text offset) (ds : List Detail) (result : Option Detail) where
   pub indentation_at : AreKept Indentation src r house ds → IsAmong ds offset result → IsRuleDetail Indentation src r house offset result
   indentation_at k m = record {
@@ -64,6 +68,12 @@ module _ (src : Table) (r : Lists) (house : Style) (offset : ℕ) (b : IsCharBou
 
   pub quoting_at : AreKept Quoting src r house ds → IsAmong ds offset result → IsRuleDetail Quoting src r house offset result
   quoting_at k m = detail_known _ _ src.text ds offset result k.details b m
+
+  pub layout_at : AreKept FlowLayout src r house ds → IsAmong ds offset result → IsRuleDetail FlowLayout src r house offset result
+  layout_at k m = record {
+    start = among_start ds offset result m;
+    known = λ trees of order. detail_known _ _ src.text ds offset result (k.details trees of order) b m;
+  }
 
 -- the detail of a rule at an offset begins there
 pub rule_detail_start : (src : Table) (r : Lists) (house : Style) (offset : ℕ) (d : Detail) (rule : StyleRule)
@@ -76,7 +86,7 @@ rule_detail_start src r house offset d FinalBreak h = absurd (none_some (sym h))
 rule_detail_start src r house offset d LineBreaks h = absurd (none_some (sym h))
 rule_detail_start src r house offset d ByteOrderMark h = absurd (none_some (sym h))
 rule_detail_start src r house offset d BlankLines h = absurd (none_some (sym h))
-rule_detail_start src r house offset d FlowLayout h = absurd (none_some (sym h))
+rule_detail_start src r house offset d FlowLayout h = h.start
 rule_detail_start src r house offset d CommentSpace h = absurd (none_some (sym h))
 rule_detail_start src r house offset d LineLength h = absurd (none_some (sym h))
 rule_detail_start src r house offset d RepeatedKeys h = absurd (none_some (sym h))

@@ -3,4 +3,5 @@ pub mod FilledLemmas
 pub mod GatherLemmas
 pub mod NodeLemmas
 pub mod IndentLemmas
+pub mod FlowDetailLemmas
 pub mod KnownLemmas

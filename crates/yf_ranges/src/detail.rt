@@ -38,6 +38,21 @@ pub enum Message {
     BlankLine,
     /// The flow collection is not laid out as the house style lays it out.
     FlowLayout,
+    /// The collection is in brackets, and the house style writes it as a block collection.
+    FlowStyle,
+    /// The flow collection would end after the last column that a line may have, if it were on one line.
+    LongFlow {
+        limit: usize,
+    },
+    /// The flow collection is on several lines, and the house style writes it on one line.
+    BrokenFlow,
+    /// The flow collection is on one line, and the house style writes it with other characters: where they first
+    /// differ, the text has the byte `found`, and the house style `expected`. The byte `after` is before both.
+    FlowText {
+        after: Option<u8>,
+        found: Option<u8>,
+        expected: Option<u8>,
+    },
     /// Before the comment are that many spaces and tabs, and whether a tab is among them.
     CommentSpace {
         found: usize,

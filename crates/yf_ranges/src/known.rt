@@ -1,4 +1,5 @@
-//! The details of findings that have values from the reading: those of the rules indentation and quoting.
+//! The details of findings that have values from the reading: those of the rules indentation, quoting and
+//! flow-layout.
 ghost use Rattle.std.specs.List.Sorted.{IsPermutation, IsSearchInRange};
 ghost use Rattle.std.specs.Prelude.{IfOk, length};
 ghost use Rattle.std.specs.Str.{IsCharBoundary};
@@ -6,10 +7,10 @@ ghost use Rattle.yf_events.specs.declared.lists.Lists.{Lists as TheLists};
 ghost use Rattle.yf_forms.specs.declared.style.Style.{Style as AStyle};
 ghost use Rattle.yf_lines.specs.Lines.{Table};
 ghost use Rattle.yf_ranges.specs.Known.{AreKept, AreKnown, AreSorted, IsAmong, IsRuleDetail, IsSearched};
-ghost use Rattle.yf_rule_sets.specs.declared.rules.StyleRule.TheVariants.{Indentation, Quoting};
+ghost use Rattle.yf_rule_sets.specs.declared.rules.StyleRule.TheVariants.{FlowLayout, Indentation, Quoting};
 
 use crate::detail::Detail;
-use crate::{indentation, quoting};
+use crate::{flow_layout, indentation, quoting};
 use std::alloc::{AllocError, Global};
 use yf_rule_sets::facts::found::{Reading, Src, Style};
 use yf_rule_sets::rules::StyleRule;
@@ -19,6 +20,7 @@ use yf_rule_sets::rules::StyleRule;
 pub struct KnownDetails {
     pub indentation: Vec<Detail>,
     pub quoting: Vec<Detail>,
+    pub flow_layout: Vec<Detail>,
 }
 
 impl KnownDetails {
@@ -37,9 +39,11 @@ impl KnownDetails {
     {
         let indentation = indentations(alloc, src, reading, style)?;
         let quoting = quotings(alloc, src, reading, style)?;
+        let flow_layout = flow_layouts(alloc, src, reading, style)?;
         Ok(KnownDetails {
             indentation,
             quoting,
+            flow_layout,
         })
     }
 
@@ -51,6 +55,7 @@ impl KnownDetails {
         match rule {
             StyleRule::Indentation => detail_at(self.indentation.as_slice(), offset),
             StyleRule::Quoting => detail_at(self.quoting.as_slice(), offset),
+            StyleRule::FlowLayout => detail_at(self.flow_layout.as_slice(), offset),
             _ => None,
         }
     }
@@ -80,6 +85,20 @@ fn quotings(
     ensures { IfOk result (λ details. AreKept Quoting src.now reading.now style.now details.items) }
 {
     let mut details = quoting::details(alloc, src, reading, style)?;
+    sort(&mut details)?;
+    Ok(details)
+}
+
+// Returns the details of the rule flow-layout.
+fn flow_layouts(
+    alloc: Global,
+    src: &Src,
+    reading: &Reading,
+    style: &Style,
+) -> Result<Vec<Detail>, AllocError>
+    ensures { IfOk result (λ details. AreKept FlowLayout src.now reading.now style.now details.items) }
+{
+    let mut details = flow_layout::details(alloc, src, reading, style)?;
     sort(&mut details)?;
     Ok(details)
 }

@@ -21,6 +21,12 @@ pub fn write_message(out: &mut String, message: &Message) -> Result<(), AllocErr
         Message::Indented { found, expected } => write_indented(out, found, expected),
         Message::CarriageReturn { has_feed } => out.push_str(break_words(has_feed)),
         Message::HiddenCharacter { character } => write_hidden(out, character),
+        Message::LongFlow { limit } => write_long(out, limit),
+        Message::FlowText {
+            after,
+            found,
+            expected,
+        } => write_flow(out, after, found, expected),
         _ => out.push_str(fixed_words(message)),
     }
 }
@@ -39,6 +45,8 @@ fn fixed_words(message: &Message) -> &'static str
         Message::ByteOrderMark => "byte order mark outside scalars",
         Message::BlankLine => "needless blank line",
         Message::FlowLayout => "brackets are not laid out as in the house style",
+        Message::FlowStyle => "flow style, expected block style",
+        Message::BrokenFlow => "over several lines, expected one line",
         Message::RepeatedKey => "the mapping already has this key",
         Message::KeyMark => "`?` before a key that needs none",
         _ => "",
@@ -113,6 +121,112 @@ fn write_expected(out: &mut String, expected: usize) -> Result<(), AllocError>
 {
     out.push_str(", expected ")?;
     write_number(out, expected)
+}
+
+fn write_long(out: &mut String, limit: usize) -> Result<(), AllocError>
+    ensures { OnOk result (string_bytes out.new ≡ string_bytes out.old ++ spec.long_words limit) }
+{
+    out.push_str("too long for one line of ")?;
+    write_number(out, limit)?;
+    out.push_str(" columns, expected block style")
+}
+
+fn write_flow(
+    out: &mut String,
+    after: Option<u8>,
+    found: Option<u8>,
+    expected: Option<u8>,
+) -> Result<(), AllocError>
+    ensures { OnOk result (string_bytes out.new ≡ string_bytes out.old ++ spec.flow_words after found expected) }
+{
+    write_place(out, after, found, expected)?;
+    out.push_str(", expected ")?;
+    write_wanted(out, found, expected)
+}
+
+fn write_place(
+    out: &mut String,
+    after: Option<u8>,
+    found: Option<u8>,
+    expected: Option<u8>,
+) -> Result<(), AllocError>
+    ensures { OnOk result (string_bytes out.new ≡ string_bytes out.old ++ spec.place_words after found expected) }
+{
+    write_found(out, found, expected)?;
+    out.push_str(" after ")?;
+    write_byte(out, after)
+}
+
+fn write_found(out: &mut String, found: Option<u8>, expected: Option<u8>) -> Result<(), AllocError>
+    ensures { OnOk result (string_bytes out.new ≡ string_bytes out.old ++ spec.found_words found expected) }
+{
+    if is_gap(found) {
+        return write_byte(out, found);
+    }
+    if is_gap(expected) {
+        return out.push_str("no space");
+    }
+    write_byte(out, found)
+}
+
+fn write_wanted(out: &mut String, found: Option<u8>, expected: Option<u8>) -> Result<(), AllocError>
+    ensures { OnOk result (string_bytes out.new ≡ string_bytes out.old ++ spec.wanted_words found expected) }
+{
+    if is_gap(found) {
+        if is_gap(expected) {
+            return write_byte(out, expected);
+        }
+        return out.push_str("none");
+    }
+    if is_gap(expected) {
+        return out.push_str("one");
+    }
+    write_byte(out, expected)
+}
+
+// Returns whether the byte is a space or a tab.
+fn is_gap(byte: Option<u8>) -> bool
+    ensures { result ≡ spec.is_gap byte }
+{
+    match byte {
+        Some(byte) => byte == b' ' || byte == b'\t',
+        None => false,
+    }
+}
+
+fn write_byte(out: &mut String, byte: Option<u8>) -> Result<(), AllocError>
+    ensures { OnOk result (string_bytes out.new ≡ string_bytes out.old ++ spec.byte_words byte) }
+{
+    match byte {
+        Some(byte) => write_sign(out, byte),
+        None => out.push_str("nothing"),
+    }
+}
+
+fn write_sign(out: &mut String, byte: u8) -> Result<(), AllocError>
+    ensures { OnOk result (string_bytes out.new ≡ string_bytes out.old ++ spec.sign_words byte) }
+{
+    if byte == b' ' {
+        return out.push_str("a space");
+    }
+    if byte == b'\t' {
+        return out.push_str("a tab");
+    }
+    if byte < b'!' {
+        return out.push_str("a character");
+    }
+    if byte > b'~' {
+        return out.push_str("a character");
+    }
+    write_marked(out, byte)
+}
+
+fn write_marked(out: &mut String, byte: u8) -> Result<(), AllocError>
+    ensures { OnOk result (string_bytes out.new ≡ string_bytes out.old ++ spec.marked_words byte) }
+{
+    out.push_str("`")?;
+    out.push(char::from(byte))?;
+    out.push_str("`")
 }
 
 fn style_words(style: ScalarStyle) -> &'static str

@@ -1,8 +1,8 @@
 //! Reports of texts that are no data. The reports are as the formats' standards write them.
 
-use crate::tests::left_alone_rows::{ANY, BLOCK, DEEP, PLAIN, Row, TEMPLATE, TWO, VAULT};
+use crate::tests::left_alone_rows::{ANY, BLOCK, DEEP, FLOWS, PLAIN, Row, TEMPLATE, TWO, VAULT};
 
-pub static REPORT_ROWS: [Row; 14] = [
+pub static REPORT_ROWS: [Row; 15] = [
     (
         &[VAULT],
         "check --format json vault.yaml",
@@ -63,7 +63,7 @@ pub static REPORT_ROWS: [Row; 14] = [
         &[PLAIN, TEMPLATE],
         "check --format github --without document-start plain.yaml template.yaml",
         1,
-        "::warning title=no-data,file=plain.yaml,line=1,endLine=1,col=1,endColumn=1::plain text over several lines, which fmt would join into one\n::warning title=template,file=template.yaml,line=1,endLine=1,col=4,endColumn=4::looks like a template, which is YAML only after it is rendered\n::warning title=flow-layout,file=template.yaml,line=1,endLine=1,col=4,endColumn=5::brackets are not laid out as in the house style\n",
+        "::warning title=no-data,file=plain.yaml,line=1,endLine=1,col=1,endColumn=1::plain text over several lines, which fmt would join into one\n::warning title=template,file=template.yaml,line=1,endLine=1,col=4,endColumn=4::looks like a template, which is YAML only after it is rendered\n::warning title=flow-layout,file=template.yaml,line=1,endLine=1,col=4,endColumn=11::flow style, expected block style\n",
         "",
         "host1 a=1\nhost2 b=2\n",
     ),
@@ -71,7 +71,7 @@ pub static REPORT_ROWS: [Row; 14] = [
         &[TEMPLATE],
         "check --format json --without document-start template.yaml",
         1,
-        "[{\"file\":\"template.yaml\",\"line\":1,\"column\":4,\"end_line\":1,\"end_column\":4,\"rule\":\"template\",\"severity\":\"warning\",\"message\":\"looks like a template, which is YAML only after it is rendered\",\"fixable\":false},{\"file\":\"template.yaml\",\"line\":1,\"column\":4,\"end_line\":1,\"end_column\":5,\"rule\":\"flow-layout\",\"severity\":\"warning\",\"message\":\"brackets are not laid out as in the house style\",\"fixable\":true}]",
+        "[{\"file\":\"template.yaml\",\"line\":1,\"column\":4,\"end_line\":1,\"end_column\":4,\"rule\":\"template\",\"severity\":\"warning\",\"message\":\"looks like a template, which is YAML only after it is rendered\",\"fixable\":false},{\"file\":\"template.yaml\",\"line\":1,\"column\":4,\"end_line\":1,\"end_column\":11,\"rule\":\"flow-layout\",\"severity\":\"warning\",\"message\":\"flow style, expected block style\",\"fixable\":true}]",
         "",
         "a: {{ x }}\n",
     ),
@@ -79,7 +79,7 @@ pub static REPORT_ROWS: [Row; 14] = [
         &[TEMPLATE],
         "check --any-text --format json --without document-start template.yaml",
         1,
-        "[{\"file\":\"template.yaml\",\"line\":1,\"column\":4,\"end_line\":1,\"end_column\":5,\"rule\":\"flow-layout\",\"severity\":\"warning\",\"message\":\"brackets are not laid out as in the house style\",\"fixable\":true}]",
+        "[{\"file\":\"template.yaml\",\"line\":1,\"column\":4,\"end_line\":1,\"end_column\":11,\"rule\":\"flow-layout\",\"severity\":\"warning\",\"message\":\"flow style, expected block style\",\"fixable\":true}]",
         "",
         "a: {{ x }}\n",
     ),
@@ -87,7 +87,7 @@ pub static REPORT_ROWS: [Row; 14] = [
         &[TEMPLATE, ANY],
         "check --format json --without document-start template.yaml",
         1,
-        "[{\"file\":\"template.yaml\",\"line\":1,\"column\":4,\"end_line\":1,\"end_column\":5,\"rule\":\"flow-layout\",\"severity\":\"warning\",\"message\":\"brackets are not laid out as in the house style\",\"fixable\":true}]",
+        "[{\"file\":\"template.yaml\",\"line\":1,\"column\":4,\"end_line\":1,\"end_column\":11,\"rule\":\"flow-layout\",\"severity\":\"warning\",\"message\":\"flow style, expected block style\",\"fixable\":true}]",
         "",
         "a: {{ x }}\n",
     ),
@@ -115,5 +115,14 @@ pub static REPORT_ROWS: [Row; 14] = [
         "[{\"file\":\"deep.yaml\",\"line\":2,\"column\":5,\"end_line\":2,\"end_column\":6,\"rule\":\"indentation\",\"severity\":\"warning\",\"message\":\"indented by 4, expected 2\",\"fixable\":true},{\"file\":\"deep.yaml\",\"line\":2,\"column\":8,\"end_line\":2,\"end_column\":9,\"rule\":\"indentation\",\"severity\":\"warning\",\"message\":\"indented by 9, expected 6\",\"fixable\":true}]",
         "",
         "a:\n    b: |\n         x\n",
+    ),
+    // messages that say how the house style writes a collection in brackets
+    (
+        &[FLOWS],
+        "check --format json --without document-start,quoting,line-length flows.yaml",
+        1,
+        "[{\"file\":\"flows.yaml\",\"line\":1,\"column\":4,\"end_line\":1,\"end_column\":12,\"rule\":\"flow-layout\",\"severity\":\"warning\",\"message\":\"no space after `,`, expected one\",\"fixable\":true},{\"file\":\"flows.yaml\",\"line\":2,\"column\":4,\"end_line\":2,\"end_column\":9,\"rule\":\"flow-layout\",\"severity\":\"warning\",\"message\":\"a space after `[`, expected none\",\"fixable\":true},{\"file\":\"flows.yaml\",\"line\":3,\"column\":4,\"end_line\":3,\"end_column\":11,\"rule\":\"flow-layout\",\"severity\":\"warning\",\"message\":\"a space after `x`, expected none\",\"fixable\":true},{\"file\":\"flows.yaml\",\"line\":4,\"column\":4,\"end_line\":5,\"end_column\":5,\"rule\":\"flow-layout\",\"severity\":\"warning\",\"message\":\"over several lines, expected one line\",\"fixable\":true},{\"file\":\"flows.yaml\",\"line\":6,\"column\":4,\"end_line\":6,\"end_column\":9,\"rule\":\"flow-layout\",\"severity\":\"warning\",\"message\":\"`'` after `[`, expected `\\\"`\",\"fixable\":true},{\"file\":\"flows.yaml\",\"line\":7,\"column\":4,\"end_line\":7,\"end_column\":10,\"rule\":\"flow-layout\",\"severity\":\"warning\",\"message\":\"`a` after `[`, expected `{`\",\"fixable\":true},{\"file\":\"flows.yaml\",\"line\":8,\"column\":4,\"end_line\":8,\"end_column\":7,\"rule\":\"flow-layout\",\"severity\":\"warning\",\"message\":\"flow style, expected block style\",\"fixable\":true},{\"file\":\"flows.yaml\",\"line\":9,\"column\":4,\"end_line\":9,\"end_column\":7,\"rule\":\"flow-layout\",\"severity\":\"warning\",\"message\":\"a space after `[`, expected none\",\"fixable\":true},{\"file\":\"flows.yaml\",\"line\":10,\"column\":4,\"end_line\":10,\"end_column\":10,\"rule\":\"flow-layout\",\"severity\":\"warning\",\"message\":\"a tab after `,`, expected a space\",\"fixable\":true},{\"file\":\"flows.yaml\",\"line\":11,\"column\":4,\"end_line\":11,\"end_column\":112,\"rule\":\"flow-layout\",\"severity\":\"warning\",\"message\":\"too long for one line of 100 columns, expected block style\",\"fixable\":true}]",
+        "",
+        "a: [80,443]\nb: [ 1 ]\nc: {x : 1}\nd: [1,\n  2]\ne: ['x']\nf: [a: b]\ng: {x}\nh: [ ]\ni: [1,\t2]\nj: [aaaaaaaaaa, aaaaaaaaaa, aaaaaaaaaa, aaaaaaaaaa, aaaaaaaaaa, aaaaaaaaaa, aaaaaaaaaa, aaaaaaaaaa, aaaaaaaaaa]\n",
     ),
 ];

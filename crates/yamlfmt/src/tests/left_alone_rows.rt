@@ -37,6 +37,12 @@ pub const DEEP: Stored = Stored {
     bytes: b"a:\n    b: |\n         x\n",
 };
 
+/// Collections in brackets that the house style writes otherwise.
+pub const FLOWS: Stored = Stored {
+    name: "flows.yaml",
+    bytes: b"a: [80,443]\nb: [ 1 ]\nc: {x : 1}\nd: [1,\n  2]\ne: ['x']\nf: [a: b]\ng: {x}\nh: [ ]\ni: [1,\t2]\nj: [aaaaaaaaaa, aaaaaaaaaa, aaaaaaaaaa, aaaaaaaaaa, aaaaaaaaaa, aaaaaaaaaa, aaaaaaaaaa, aaaaaaaaaa, aaaaaaaaaa]\n",
+};
+
 /// Two documents. The second one is no data.
 pub const TWO: Stored = Stored {
     name: "two.yaml",

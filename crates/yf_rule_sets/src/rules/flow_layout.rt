@@ -76,7 +76,7 @@ fn ends_past_limit(src: &Src, end: usize, style: &Style) -> bool
 }
 
 /// Returns the text of the empty collection that the event begins, from bracket to bracket.
-fn empty_text(reading: &Reading, i: usize) -> &'static str
+pub fn empty_text(reading: &Reading, i: usize) -> &'static str
     requires { i < length reading.now.events }
     ensures { (e : EventValue) → slice_get (events_of reading.now) i ≡ Some e → result.now ≡ OuterFlow.empty_text e }
 {
@@ -87,7 +87,7 @@ fn empty_text(reading: &Reading, i: usize) -> &'static str
 }
 
 /// Returns whether the collection that the event begins is empty: the next event ends it.
-fn is_empty(measures: &Measures, i: usize) -> bool
+pub fn is_empty(measures: &Measures, i: usize) -> bool
     ensures { (t : List ℕ) (c : LayoutSetting) (es : List EventInText) (x : Node) → AreMeasures t c (flows_alone 0 es) measures.now → NodeAt es i x
         → is_flow x ≡ true → MatchBool result (is_filled_flow x ≡ false) (is_filled_flow x ≡ true) }
 {
@@ -99,7 +99,7 @@ fn is_empty(measures: &Measures, i: usize) -> bool
 
 /// Returns whether the flow collection with that span, from bracket to bracket, is at fault.
 #[inline(never)]
-fn is_displaced(
+pub fn is_displaced(
     alloc: Global,
     src: &Src,
     reading: &Reading,
@@ -154,7 +154,7 @@ fn brackets(src: &Src, reading: &Reading, i: usize) -> Option<Span>
 
 /// Like `brackets`, but returns at once for events that begin no flow collection, which are most.
 #[inline(always)]
-fn brackets_at(src: &Src, reading: &Reading, i: usize) -> Option<Span>
+pub fn brackets_at(src: &Src, reading: &Reading, i: usize) -> Option<Span>
     requires { i < length reading.now.events }
     ensures { (e : EventValue) (span : Option Span) → slice_get (events_of reading.now) i ≡ Some e
         → slice_get (spans_of reading.now) i ≡ Some span → result ≡ OuterFlow.brackets src.now.text e span }
@@ -166,7 +166,7 @@ fn brackets_at(src: &Src, reading: &Reading, i: usize) -> Option<Span>
 }
 
 /// Returns whether the text has any flow collection.
-fn has_brackets(src: &Src, reading: &Reading) -> bool
+pub fn has_brackets(src: &Src, reading: &Reading) -> bool
     ensures { result ≡ false → (house : Style) (i o : ℕ) → LayoutFault src.now reading.now house i o → ⊥ }
 {
     for i in 0..reading.len() {
