@@ -1,5 +1,5 @@
 -- The details of findings at nodes, by the event that begins the node. An index counts events from 0.
-use Rattle.std.specs.Prelude.{◌≡◌, ◌≢◌, ℕ, ◌<◌, ◌≤◌, List, Option, length, MatchOption}
+use Rattle.std.specs.Prelude.{◌≡◌, ℕ, ◌<◌, ◌≤◌, List, Option, length, MatchOption}
 use Rattle.std.specs.List.{Contains}
 use Rattle.std.specs.Str.{IsCharBoundary}
 use Rattle.yf_events.specs.Event.{scalar_node}
