@@ -1,3 +1,4 @@
+pub mod Differences
 pub mod Files
 pub mod Guards
 pub mod Ranges

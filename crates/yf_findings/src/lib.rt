@@ -6,6 +6,7 @@
 #![tactic(auto)]
 
 mod columns;
+pub mod differences;
 mod ends;
 mod excerpt;
 pub mod files;
