@@ -27,6 +27,7 @@ use Rattle.yf_command_line.specs.declared.command.Settings.TheVariants as asked
 use Rattle.yf_command_line.specs.declared.usage.Usage.TheVariants.{Help, Wrong}
 use Rattle.yf_command_line.proofs.CheckExactness.{SameCheck, check_not_both, check_once, check_or_not}
 use Rattle.yf_command_line.proofs.FmtExactness.{SameFmt, fmt_not_both, fmt_once, fmt_or_not}
+use Rattle.yf_command_line.proofs.FmtFormatExactness.{SameOutput, format_not_both, format_or_not, output_once}
 use Rattle.yf_command_line.proofs.RequestLemmas.{not_explained, other_at, other_explain}
 use Rattle.yf_rule_pages.specs.declared.page.Page.{Page}
 
@@ -36,7 +37,7 @@ use Rattle.yf_rule_pages.specs.declared.page.Page.{Page}
 abbrev pub SameCommand : Command → Command → Type 0
 SameCommand (command.Events a) (command.Events b) = a ≡ b
 SameCommand (command.Check a) (command.Check b) = SameCheck a b
-SameCommand (command.Fmt a) (command.Fmt b) = SameFmt a b
+SameCommand (command.Fmt a) (command.Fmt b) = SameFmt a b × SameOutput a b
 SameCommand command.Server command.Server = Unit {0}
 SameCommand _ _ = ⊥
 
@@ -56,7 +57,8 @@ command_once : (rules : List Text) (name : Text) (given : List Row) (a b : Comma
     → IsCommand rules name given a → IsCommand rules name given b → SameCommand a b
 command_once rules name given (command.Events a) (command.Events b) p q = cc
 command_once rules name given (command.Check a) (command.Check b) p q = check_once rules given a b p.1 q.1
-command_once rules name given (command.Fmt a) (command.Fmt b) p q = fmt_once given a b p.1 q.1
+command_once rules name given (command.Fmt a) (command.Fmt b) p q =
+    (fmt_once given a b p.1.task q.1.task, output_once given a b p.1.format q.1.format)
 command_once rules name given (command.Events a) (command.Check b) p q = absurd (other_names.0 (sym p.0 ∙ q.0))
 command_once rules name given (command.Events a) (command.Fmt b) p q = absurd (other_names.1 (sym p.0 ∙ q.0))
 command_once rules name given (command.Check a) (command.Events b) p q = absurd (other_names.0 (sym q.0 ∙ p.0))
@@ -83,7 +85,9 @@ command_not_both rules pages name given (command.Check a) p (no_check n r) = che
 command_not_both rules pages name given (command.Check a) p (no_fmt n r) = other_names.2 (sym p.0 ∙ n)
 command_not_both rules pages name given (command.Fmt a) p (other_name e c f s x) = f p.0
 command_not_both rules pages name given (command.Fmt a) p (no_check n r) = other_names.2 (sym n ∙ p.0)
-command_not_both rules pages name given (command.Fmt a) p (no_fmt n r) = fmt_not_both given a p.1 r
+command_not_both rules pages name given (command.Fmt a) p (no_fmt n (inl r)) = fmt_not_both given a p.1.task r
+command_not_both rules pages name given (command.Fmt a) p (no_fmt n (inr r)) =
+    format_not_both given a p.1.task p.1.format r
 command_not_both rules pages name given command.Server p (other_name e c f s x) = s p
 command_not_both rules pages name given command.Server p (no_check n r) = other_names.4 (sym n ∙ p)
 command_not_both rules pages name given command.Server p (no_fmt n r) = other_names.5 (sym n ∙ p)
@@ -216,8 +220,11 @@ module _ (inputs : List Input → Vec Input Global) (inputs_are : (l : List Inpu
       → Way rules pages name given
   fmt_way rules pages name given named =
       elim (fmt_or_not inputs inputs_are texts texts_are ranges ranges_are given) [
-        | inl a ↦ inl (command.Fmt a.0, (named, a.1))
-        | inr no_way ↦ inr (inr (no_fmt named no_way))
+        | inl a ↦ elim (format_or_not given a.0 a.1) [
+          | inl b ↦ inl (command.Fmt b.0, (named, b.1))
+          | inr no_way ↦ inr (inr (no_fmt named (inr no_way)))
+        ]
+        | inr no_way ↦ inr (inr (no_fmt named (inl no_way)))
       ]
 
   explain_way : (rules : List Text) (pages : List Page) (name : Text) (given : List Row) (page : Option Text)

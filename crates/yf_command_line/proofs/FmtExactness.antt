@@ -1,4 +1,4 @@
--- The rows of `fmt` either ask for one task or are refused, and never both.
+-- The rows of `fmt` either ask for one task or are refused, and never both. `FmtFormatExactness` adds its `--format`.
 use Rattle.std.proofs.Common.{◌≡◌, ◌≢◌, ◌⊎◌, ◌<◌, Bool, true, false, List, [], ◌∷◌, map, length}
 use Rattle.std.proofs.Common.{Vec, refl, sym, ap, subst, ◌∙◌, inl, inr, arith}
 use Rattle.std.proofs.lemmas.Bool.{false≢true}
@@ -15,6 +15,7 @@ use Rattle.yf_command_line.specs.declared.command.Fmt.{Fmt}
 use Rattle.yf_command_line.specs.declared.command.Fmt.TheVariants as fmt
 use Rattle.yf_command_line.specs.declared.command.Input.{Input}
 use Rattle.yf_command_line.specs.declared.command.Input.TheVariants.{Standard}
+use Rattle.yf_command_line.specs.declared.command.Output.TheVariants.{Lines}
 use Rattle.yf_command_line.specs.declared.command.Part.{Part}
 use Rattle.yf_command_line.specs.declared.command.Part.TheVariants as part
 
@@ -23,7 +24,7 @@ use Rattle.yf_command_line.specs.declared.command.Part.TheVariants as part
 -- The two are equal, except for the capacity of their vectors.
 abbrev pub SameFmt : Fmt → Fmt → Type 0
 SameFmt (fmt.Print a) (fmt.Print b) = a ≡ b
-SameFmt (fmt.Check a) (fmt.Check b) = all_inputs a ≡ all_inputs b
+SameFmt (fmt.Check a o) (fmt.Check b p) = all_inputs a ≡ all_inputs b
 SameFmt (fmt.Diff a) (fmt.Diff b) = all_inputs a ≡ all_inputs b
 SameFmt (fmt.Write a) (fmt.Write b) = all_files a ≡ all_files b
 SameFmt (fmt.Part lines a) (fmt.Part others b) = (lines.items ≡ others.items) × (a ≡ b)
@@ -49,28 +50,28 @@ part_once given (part.Write a) (part.Write b) p q = cc
 
 pub fmt_once : (given : List Row) (a b : Fmt) → IsFmt given a → IsFmt given b → SameFmt a b
 fmt_once given (fmt.Print a) (fmt.Print b) p q = cc
-fmt_once given (fmt.Check a) (fmt.Check b) p q = cc
+fmt_once given (fmt.Check a o) (fmt.Check b x) p q = cc
 fmt_once given (fmt.Diff a) (fmt.Diff b) p q = cc
 fmt_once given (fmt.Write a) (fmt.Write b) p q = cc
-fmt_once given (fmt.Print a) (fmt.Check b) p q = cc
+fmt_once given (fmt.Print a) (fmt.Check b x) p q = cc
 fmt_once given (fmt.Print a) (fmt.Diff b) p q = cc
 fmt_once given (fmt.Print a) (fmt.Write b) p q = cc
-fmt_once given (fmt.Check a) (fmt.Print b) p q = cc
-fmt_once given (fmt.Check a) (fmt.Diff b) p q = cc
-fmt_once given (fmt.Check a) (fmt.Write b) p q = cc
+fmt_once given (fmt.Check a o) (fmt.Print b) p q = cc
+fmt_once given (fmt.Check a o) (fmt.Diff b) p q = cc
+fmt_once given (fmt.Check a o) (fmt.Write b) p q = cc
 fmt_once given (fmt.Diff a) (fmt.Print b) p q = cc
-fmt_once given (fmt.Diff a) (fmt.Check b) p q = cc
+fmt_once given (fmt.Diff a) (fmt.Check b x) p q = cc
 fmt_once given (fmt.Diff a) (fmt.Write b) p q = cc
 fmt_once given (fmt.Write a) (fmt.Print b) p q = cc
-fmt_once given (fmt.Write a) (fmt.Check b) p q = cc
+fmt_once given (fmt.Write a) (fmt.Check b x) p q = cc
 fmt_once given (fmt.Write a) (fmt.Diff b) p q = cc
 fmt_once given (fmt.Part lines a) (fmt.Part others b) p q = (cc, part_once given a b p.3 q.3)
 fmt_once given (fmt.Print a) (fmt.Part others b) p q = absurd (q.0 p.0)
-fmt_once given (fmt.Check a) (fmt.Part others b) p q = absurd (q.0 p.0)
+fmt_once given (fmt.Check a o) (fmt.Part others b) p q = absurd (q.0 p.0)
 fmt_once given (fmt.Diff a) (fmt.Part others b) p q = absurd (q.0 p.0)
 fmt_once given (fmt.Write a) (fmt.Part others b) p q = absurd (q.0 p.0)
 fmt_once given (fmt.Part lines a) (fmt.Print b) p q = absurd (p.0 q.0)
-fmt_once given (fmt.Part lines a) (fmt.Check b) p q = absurd (p.0 q.0)
+fmt_once given (fmt.Part lines a) (fmt.Check b x) p q = absurd (p.0 q.0)
 fmt_once given (fmt.Part lines a) (fmt.Diff b) p q = absurd (p.0 q.0)
 fmt_once given (fmt.Part lines a) (fmt.Write b) p q = absurd (p.0 q.0)
 
@@ -131,11 +132,11 @@ fmt_not_both given (fmt.Print a) p (standard_input w e) = cc
 fmt_not_both given (fmt.Print a) p (written_and_checked w e) = cc
 fmt_not_both given (fmt.Print a) p (written_and_compared w e) = cc
 fmt_not_both given (fmt.Print a) p (several_printed w c n m) = several (files_given given) a p.4 m
-fmt_not_both given (fmt.Check a) p (no_file w e) = cc
-fmt_not_both given (fmt.Check a) p (standard_input w e) = cc
-fmt_not_both given (fmt.Check a) p (written_and_checked w e) = cc
-fmt_not_both given (fmt.Check a) p (written_and_compared w e) = cc
-fmt_not_both given (fmt.Check a) p (several_printed w c n m) = cc
+fmt_not_both given (fmt.Check a o) p (no_file w e) = cc
+fmt_not_both given (fmt.Check a o) p (standard_input w e) = cc
+fmt_not_both given (fmt.Check a o) p (written_and_checked w e) = cc
+fmt_not_both given (fmt.Check a o) p (written_and_compared w e) = cc
+fmt_not_both given (fmt.Check a o) p (several_printed w c n m) = cc
 fmt_not_both given (fmt.Diff a) p (no_file w e) = cc
 fmt_not_both given (fmt.Diff a) p (standard_input w e) = cc
 fmt_not_both given (fmt.Diff a) p (written_and_checked w e) = cc
@@ -148,8 +149,8 @@ fmt_not_both given (fmt.Write a) p (written_and_compared w e) = cc
 fmt_not_both given (fmt.Write a) p (several_printed w c n m) = cc
 fmt_not_both given (fmt.Print a) p (several_parts l m) = l p.0
 fmt_not_both given (fmt.Print a) p (no_lines e) = no_wrong_lines given p.0 e
-fmt_not_both given (fmt.Check a) p (several_parts l m) = l p.0
-fmt_not_both given (fmt.Check a) p (no_lines e) = no_wrong_lines given p.0 e
+fmt_not_both given (fmt.Check a o) p (several_parts l m) = l p.0
+fmt_not_both given (fmt.Check a o) p (no_lines e) = no_wrong_lines given p.0 e
 fmt_not_both given (fmt.Diff a) p (several_parts l m) = l p.0
 fmt_not_both given (fmt.Diff a) p (no_lines e) = no_wrong_lines given p.0 e
 fmt_not_both given (fmt.Write a) p (several_parts l m) = l p.0
@@ -185,12 +186,12 @@ module _ (inputs : List Input → Vec Input Global) (inputs_are : (l : List Inpu
       )
   fmt_by given false true false s [] ew ec ed es ef el =
       inl (
-        fmt.Check (record { first = Standard; rest = inputs [] }),
+        fmt.Check (record { first = Standard; rest = inputs [] }) Lines,
         (el, ew, ec, ed, ap inputs_of ef ∙ ap (λ l. Standard ∷ l) (sym (inputs_are []))),
       )
   fmt_by given false true false s (f ∷ fs) ew ec ed es ef el =
       inl (
-        fmt.Check (record { first = input_of f; rest = inputs (map input_of fs) }),
+        fmt.Check (record { first = input_of f; rest = inputs (map input_of fs) }) Lines,
         (el, ew, ec, ed, ap inputs_of ef ∙ ap (λ l. input_of f ∷ l) (sym (inputs_are (map input_of fs)))),
       )
   fmt_by given false false false s [] ew ec ed es ef el = inl (fmt.Print Standard, (el, ew, ec, ed, ap inputs_of ef))

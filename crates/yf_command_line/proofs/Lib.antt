@@ -8,4 +8,5 @@ pub mod WordLemmas
 pub mod PrintingExactness
 pub mod CheckExactness
 pub mod FmtExactness
+pub mod FmtFormatExactness
 pub mod Exactness

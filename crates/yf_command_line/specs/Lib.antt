@@ -2,6 +2,8 @@
 pub mod Options
 -- the request that the words ask for, and when they are refused
 pub mod Requests
+pub mod Rows
+pub mod FmtFormats
 pub mod Without
 pub mod Formats
 pub mod Printing

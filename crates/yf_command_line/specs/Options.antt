@@ -134,9 +134,9 @@ checking_command = with_rule printing_command file_words
 abbrev pub formatting_command : App
 formatting_command = with_rule (with_rule (with_rule (naming (codes "fmt")) write_flag) check_flag) diff_flag
 
--- `fmt SETTINGS READING [--names] [--write] [--check] [--diff] [--lines LINES] [FILE..]`
+-- `fmt SETTINGS READING [--names] [--write] [--check] [--diff] [--lines LINES] [--format FORMAT] [FILE..]`
 abbrev pub writing_command : App
-writing_command = with_rule (with_rule formatting_command lines_option) file_words
+writing_command = with_rule (with_rule (with_rule formatting_command lines_option) format_option) file_words
 
 -- `server SETTINGS [--stdio]`
 abbrev pub serving_command : App

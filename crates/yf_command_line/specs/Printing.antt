@@ -1,4 +1,4 @@
--- How `check` prints its findings, by the values of its options.
+-- How `check` prints its findings, by the values of its options, and how `fmt --check` reports.
 use Rattle.std.specs.Prelude.{◌≡◌, ◌≢◌, ◌⊎◌, ℕ, Bool, true, false, List, Option, Some, None, codes, if◌then◌else◌}
 use Rattle.std.specs.Str.{bytes_eq}
 use Rattle.yf_line_ranges.specs.Numbers.{is_number, number_of}
@@ -6,7 +6,7 @@ use Rattle.yf_command_line.specs.Formats.{output_named}
 use Rattle.yf_command_line.specs.declared.command.Colors.{Colors}
 use Rattle.yf_command_line.specs.declared.command.Colors.TheVariants.{Auto, Always, Never}
 use Rattle.yf_command_line.specs.declared.command.Output.{Output}
-use Rattle.yf_command_line.specs.declared.command.Output.TheVariants.{Statistics}
+use Rattle.yf_command_line.specs.declared.command.Output.TheVariants.{Lines, Statistics}
 
 -- The form of the output, or none if the options name none. (counts: whether `--statistics` is given; format: the value
 -- of `--format`)
@@ -28,6 +28,12 @@ IsNoFormat (Some name) = output_named name ≡ None
 -- Both `--statistics` and `--format` are given, or no format has the name.
 abbrev pub IsNoOutput : Bool → Option (List ℕ) → Type 0
 IsNoOutput counts format = ((counts ≡ true) × (format ≢ None)) ⊎ IsNoFormat format
+
+-- How `fmt --check` reports, by the value of `--format`, or none if no format has the name. Without `--format` each
+-- report is a line.
+abbrev pub reported : Option (List ℕ) → Option Output
+reported None = Some Lines
+reported (Some name) = output_named name
 
 -- When the output has colors, by the value of `--color`, or none for another word.
 abbrev pub colors_named : List ℕ → Option Colors

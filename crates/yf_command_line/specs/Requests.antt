@@ -2,16 +2,20 @@
 -- `proofs/Exactness.antt` proves that each line of words asks for one request, asks for a text or is refused. Words that
 -- ask for a request do nothing else, and words for which `explain` prints a text are not refused.
 use Rattle.std.specs.Prelude.{◌≡◌, ◌≢◌, ◌⊎◌, ◌<◌, ◌≤◌, ⊤, Bool, true, false, ◌||◌, List, [], ◌∷◌, map, length}
-use Rattle.std.specs.Prelude.{Option, Some, None, codes, unwrap_or, if◌then◌else◌, MatchOption}
+use Rattle.std.specs.Prelude.{Option, Some, None, codes, if◌then◌else◌, MatchOption}
 use Rattle.std.specs.Str.{bytes_eq}
 use Rattle.std.specs.List.{list_any}
-use Rattle.clap.specs.Words.{Row, Text, all_of, fault_of, first_of, matches_of, subcommand_of, IsAmong}
+use Rattle.clap.specs.Words.{Row, Text, fault_of, matches_of, subcommand_of, IsAmong}
 use Rattle.clap.specs.declared.error.kind.ErrorKind.{ErrorKind}
 use Rattle.clap.specs.declared.error.kind.ErrorKind.TheVariants.{DisplayHelp, DisplayVersion, OutOfMemory}
+use Rattle.yf_command_line.specs.FmtFormats.{HasFormat, RefusesFormat}
 use Rattle.yf_command_line.specs.Lines.{are_lines, lines_in}
 use Rattle.yf_command_line.specs.Options.{yamlfmt}
 use Rattle.yf_command_line.specs.Printing.{IsLimit, IsNoFormat, IsNoLimit, IsOutput, colors_of}
-use Rattle.yf_command_line.specs.Without.{are_rules, names_in}
+pub use Rattle.yf_command_line.specs.Rows.{all_given, checks, color_given, config_given, counts, diffs, explained_given}
+pub use Rattle.yf_command_line.specs.Rows.{files_given, format_given, is_flag, is_set, limit_given, lines_given}
+pub use Rattle.yf_command_line.specs.Rows.{names_given, stdin_name_given, takes_defaults, writes}
+use Rattle.yf_command_line.specs.Without.{are_rules}
 use Rattle.yf_command_line.specs.declared.command.Check.{Check}
 use Rattle.yf_command_line.specs.declared.command.Command.{Command}
 use Rattle.yf_command_line.specs.declared.command.Command.TheVariants as command
@@ -29,79 +33,7 @@ use Rattle.yf_command_line.specs.declared.command.Settings.{Settings}
 use Rattle.yf_command_line.specs.declared.command.Settings.TheVariants as asked
 use Rattle.yf_command_line.specs.declared.usage.Usage.{Usage}
 use Rattle.yf_command_line.specs.declared.usage.Usage.TheVariants.{Help, Wrong, Memory}
-use Rattle.yf_rule_pages.specs.Pages.{explanation}
 use Rattle.yf_rule_pages.specs.declared.page.Page.{Page}
-
--- ---- the rows of a command: one for each option that is used, and one for its FILEs
-
--- Whether the value of a flag says that the flag is given.
-abbrev pub is_set : Option Text → Bool
-is_set (Some value) = bytes_eq value (codes "true")
-is_set None = false
-
--- Whether a flag is given.
-abbrev pub is_flag : Text → List Row → Bool
-is_flag id given = is_set (first_of id given)
-
--- Whether `--no-config` is given.
-abbrev pub takes_defaults : List Row → Bool
-takes_defaults given = is_flag (codes "no-config") given
-
--- The FILE of `--config`, if it is given.
-abbrev pub config_given : List Row → Option Text
-config_given given = first_of (codes "config") given
-
--- The NAME of `--stdin-name`, if it is given.
-abbrev pub stdin_name_given : List Row → Option Text
-stdin_name_given given = first_of (codes "stdin-name") given
-
--- Whether `--write` is given.
-abbrev pub writes : List Row → Bool
-writes given = is_flag (codes "write") given
-
--- Whether `--check` is given.
-abbrev pub checks : List Row → Bool
-checks given = is_flag (codes "check") given
-
--- Whether `--diff` is given.
-abbrev pub diffs : List Row → Bool
-diffs given = is_flag (codes "diff") given
-
--- All values of an option, in order.
-abbrev pub all_given : Text → List Row → List Text
-all_given id given = unwrap_or (all_of id given) []
-
--- The FILEs, in order.
-abbrev pub files_given : List Row → List Text
-files_given given = all_given (codes "file") given
-
--- The names of the rules to leave out, in order.
-abbrev pub names_given : List Row → List Text
-names_given given = names_in (all_given (codes "without") given)
-
--- What `explain` prints: the page of its NAME, or without NAME the list of all pages. None if no page has the name.
-abbrev pub explained_given : List Page → List Row → Option Text
-explained_given pages given = explanation pages (first_of (codes "name") given)
-
--- The value of `--format`, if it is given.
-abbrev pub format_given : List Row → Option Text
-format_given given = first_of (codes "format") given
-
--- Whether `--statistics` is given.
-abbrev pub counts : List Row → Bool
-counts given = is_flag (codes "statistics") given
-
--- The value of `--color`, if it is given.
-abbrev pub color_given : List Row → Option Text
-color_given given = first_of (codes "color") given
-
--- The value of `--max-findings`, if it is given.
-abbrev pub limit_given : List Row → Option Text
-limit_given given = first_of (codes "max-findings") given
-
--- The words of `--lines`, in order.
-abbrev pub lines_given : List Row → List Text
-lines_given given = all_given (codes "lines") given
 
 -- ---- the inputs that FILEs name
 
@@ -165,14 +97,14 @@ DoesPart given (part.Write file) =
     (writes given ≡ true) × (checks given ≡ false) × (diffs given ≡ false)
     × (files_given given ≡ file ∷ []) × (list_any is_standard_input (files_given given) ≡ false)
 
--- The task of `fmt` with these rows.
+-- The task of `fmt` with these rows, besides its `--format`.
 abbrev pub IsFmt : List Row → Fmt → Type 0
 -- `fmt [FILE]`
 IsFmt given (fmt.Print input) =
     (lines_given given ≡ []) × (writes given ≡ false) × (checks given ≡ false) × (diffs given ≡ false)
     × (inputs_of (files_given given) ≡ input ∷ [])
 -- `fmt --check [FILE..]`
-IsFmt given (fmt.Check inputs) =
+IsFmt given (fmt.Check inputs output) =
     (lines_given given ≡ []) × (writes given ≡ false) × (checks given ≡ true) × (diffs given ≡ false)
     × (inputs_of (files_given given) ≡ all_inputs inputs)
 -- `fmt --diff [--check] [FILE..]`
@@ -187,6 +119,11 @@ IsFmt given (fmt.Write files) =
 IsFmt given (fmt.Part lines what) =
     (lines_given given ≢ []) × (are_lines (lines_given given) ≡ true)
     × (lines.items ≡ lines_in (lines_given given)) × DoesPart given what
+
+-- The whole task of `fmt` with these rows.
+pub record IsFmtTask (given : List Row) (what : Fmt) : Type 0 where
+  pub task : IsFmt given what
+  pub format : HasFormat given what
 
 -- How `check` prints its findings. PRINTING is `[--format FORMAT] [--statistics] [--max-findings N] [--color WHEN]`.
 pub record IsPrinting (given : List Row) (printing : Printing) : Type 0 where
@@ -218,7 +155,7 @@ IsCommand rules name given (command.Events input) =
 -- `check`, with its options and FILEs
 IsCommand rules name given (command.Check check) = (name ≡ codes "check") × IsCheck rules given check
 -- `fmt`, with its flags and FILEs
-IsCommand rules name given (command.Fmt what) = (name ≡ codes "fmt") × IsFmt given what
+IsCommand rules name given (command.Fmt what) = (name ≡ codes "fmt") × IsFmtTask given what
 -- `server`
 IsCommand rules name given command.Server = name ≡ codes "server"
 
@@ -253,7 +190,7 @@ AsksFor rules words request =
 
 -- ---- the words that are refused
 
--- Why `fmt` refuses its rows.
+-- Why `fmt` refuses its rows, besides its `--format`.
 pub data IsNoFmt (given : List Row) : Type 0 where
   -- `--write` without a FILE
   no_file : writes given ≡ true → files_given given ≡ [] → IsNoFmt given
@@ -270,6 +207,10 @@ pub data IsNoFmt (given : List Row) : Type 0 where
   several_parts : lines_given given ≢ [] → 1 < length (files_given given) → IsNoFmt given
   -- `--lines` with a word that is no range of lines, nor several with commas between
   no_lines : are_lines (lines_given given) ≡ false → IsNoFmt given
+
+-- Why `fmt` refuses its rows.
+abbrev pub IsNoFmtTask : List Row → Type 0
+IsNoFmtTask given = IsNoFmt given ⊎ RefusesFormat given
 
 -- Why `check` refuses its options for the output.
 pub data IsNoPrinting (given : List Row) : Type 0 where
@@ -301,7 +242,7 @@ pub data IsNoCommand (rules : List Text) (pages : List Page) (name : Text) (give
   -- `check` refuses its rows
   no_check : name ≡ codes "check" → IsNoCheck rules given → IsNoCommand rules pages name given
   -- `fmt` refuses its rows
-  no_fmt : name ≡ codes "fmt" → IsNoFmt given → IsNoCommand rules pages name given
+  no_fmt : name ≡ codes "fmt" → IsNoFmtTask given → IsNoCommand rules pages name given
   -- `explain` with a NAME that no page has
   no_page : name ≡ codes "explain" → explained_given pages given ≡ None → IsNoCommand rules pages name given
 

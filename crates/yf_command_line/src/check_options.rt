@@ -1,12 +1,12 @@
 //! `check` and its options, as the library for command lines takes them.
 ghost use Rattle.std.specs.Prelude.{IfOk};
 ghost use Rattle.yf_command_line.specs.Options.{IsOption, IsPart, checking_command, choosing_command, color_option};
-ghost use Rattle.yf_command_line.specs.Options.{format_option, max_findings_option, printing_command};
+ghost use Rattle.yf_command_line.specs.Options.{max_findings_option, printing_command};
 ghost use Rattle.yf_command_line.specs.Options.{statistics_flag, without_option};
 
 use crate::options::{
-    CHECK, COLOR, FORMAT, MAX_FINDINGS, STATISTICS, WITHOUT, file_words, lines_option, naming,
-    with_arg,
+    CHECK, COLOR, MAX_FINDINGS, STATISTICS, WITHOUT, file_words, format_option, lines_option,
+    naming, with_arg,
 };
 use clap::{Arg, ArgAction, Command};
 use std::alloc::{AllocError, Global};
@@ -21,7 +21,11 @@ pub(crate) fn check_command<'a>(alloc: Global) -> Result<Command<'a>, AllocError
 fn printing_command<'a>(alloc: Global) -> Result<Command<'a>, AllocError>
     ensures { IfOk result (λ c. IsPart c printing_command) }
 {
-    let printing = with_arg(choosing_command(alloc), format_option(alloc));
+    let format = format_option(
+        alloc,
+        "Print the findings as line, full, json, sarif, github, gitlab, junit or checkstyle",
+    );
+    let printing = with_arg(choosing_command(alloc), format);
     let counting = with_arg(printing, statistics_flag(alloc));
     let limiting = with_arg(counting, max_findings_option(alloc));
     with_arg(limiting, color_option(alloc))
@@ -48,15 +52,6 @@ fn without_option<'a>(alloc: Global) -> Arg<'a>
         .value_name("RULES")
         .action(ArgAction::Append)
         .help("Skip the rules with these ids (comma-separated)")
-}
-
-fn format_option<'a>(alloc: Global) -> Arg<'a>
-    ensures { IsOption result format_option }
-{
-    Arg::new(alloc, FORMAT)
-        .long(FORMAT)
-        .value_name("FORMAT")
-        .help("Print the findings as line, full, json, sarif, github, gitlab, junit or checkstyle")
 }
 
 fn statistics_flag<'a>(alloc: Global) -> Arg<'a>

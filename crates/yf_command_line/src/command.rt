@@ -37,7 +37,12 @@ pub enum Fmt {
     /// Prints the formatted text.
     Print(Input),
     /// Reports the inputs that are not in the house style (`--check`).
-    Check(InputList),
+    Check {
+        /// The inputs.
+        inputs: InputList,
+        /// How they are reported (`--format`). It is never `Output::Statistics`.
+        output: Output,
+    },
     /// Prints how the formatted texts differ from the inputs (`--diff`).
     Diff(InputList),
     /// Writes the formatted text to the file that was read (`--write`).

@@ -1,13 +1,14 @@
 //! Parses the words of a command line into a request.
 ghost use Rattle.std.specs.Prelude.{◌≡◌, ◌||◌, codes, map, MatchResult, string_bytes, true, false, []};
 ghost use Rattle.clap.specs.Words.{found_of, rows_of, subcommand_rows_of};
-ghost use Rattle.yf_command_line.specs.Requests.{AsksFor, AsksTwice, IsCommand, IsFmt, IsNoFmt};
+ghost use Rattle.yf_command_line.specs.Requests.{AsksFor, AsksTwice, IsCommand, IsFmt, IsFmtTask, IsNoFmt, IsNoFmtTask};
 ghost use Rattle.yf_command_line.specs.Requests.{IsRequest, IsSettings, MakesNoCommand, MakesNoRequest};
 ghost use Rattle.yf_command_line.specs.Requests.{RefusedBy, RefusesWords, is_flag, lines_given, writes};
 
 use crate::check::check_met;
-use crate::command::{Command, Fmt, Request, Settings};
+use crate::command::{Command, Fmt, Output, Request, Settings};
 use crate::explained::explained;
+use crate::fmt_formats::{fmt_output_met, with_output};
 use crate::inputs::{files_of, first_input, has_standard_input, inputs_of};
 use crate::options::{
     ANY_TEXT, CHECK, CONFIG, DIFF, EVENTS, EXPLAIN, FILE, FMT, LINES, NAMES, NO_CONFIG, SERVER,
@@ -29,8 +30,9 @@ use yf_rule_pages::page::Page;
 /// - `events [SETTINGS] [READING] [FILE]`
 /// - `check [SETTINGS] [READING] [--names] [--without RULES] [--lines LINES] [PRINTING] [FILE..]`. RULES are names of
 ///   rules, separated by commas. The option may be given more than once.
-/// - `fmt [SETTINGS] [READING] [--names] [--write] [--check] [--diff] [--lines LINES] [FILE..]`. `--write` needs a
-///   FILE, and no FILE may be `-`. It excludes `--check` and `--diff`. Several FILEs need one of these three options.
+/// - `fmt [SETTINGS] [READING] [--names] [--write] [--check] [--diff] [--lines LINES] [--format FORMAT] [FILE..]`.
+///   `--write` needs a FILE, and no FILE may be `-`. It excludes `--check` and `--diff`. Several FILEs need one of
+///   these three options. `--format` needs `--check`, and excludes `--diff` and `--lines`.
 /// - `server [SETTINGS] [--stdio]`. It always reads standard input, and `--stdio` changes nothing: editors pass it.
 /// - `explain [NAME]`. It makes no request: what it prints is returned as `Usage::Help`.
 ///
@@ -151,7 +153,7 @@ fn command_met(
         };
     }
     if name == FMT {
-        return match fmt_met(alloc, given) {
+        return match fmt_task_met(alloc, given) {
             Ok(fmt) => Ok(Command::Fmt(fmt)),
             Err(usage) => Err(usage),
         };
@@ -166,6 +168,21 @@ fn command_met(
 }
 
 // Returns `fmt` with these matches.
+fn fmt_task_met(alloc: Global, given: &ArgMatches<'_>) -> Result<Fmt, Usage>
+    ensures { MatchResult result (IsFmtTask (rows_of (found_of given.now)))
+        (RefusedBy (IsNoFmtTask (rows_of (found_of given.now)))) }
+{
+    let output = match fmt_output_met(alloc, given) {
+        Ok(output) => output,
+        Err(usage) => return Err(usage),
+    };
+    match fmt_met(alloc, given) {
+        Ok(fmt) => Ok(with_output(output, fmt)),
+        Err(usage) => Err(usage),
+    }
+}
+
+// Returns `fmt` with these matches, besides its `--format`.
 fn fmt_met(alloc: Global, given: &ArgMatches<'_>) -> Result<Fmt, Usage>
     ensures { MatchResult result (IsFmt (rows_of (found_of given.now)))
         (RefusedBy (IsNoFmt (rows_of (found_of given.now)))) }
@@ -190,7 +207,10 @@ fn whole_met(alloc: Global, given: &ArgMatches<'_>) -> Result<Fmt, Usage>
         return Ok(Fmt::Diff(inputs_of(alloc, files)?));
     }
     if is_given(given, CHECK) {
-        return Ok(Fmt::Check(inputs_of(alloc, files)?));
+        return Ok(Fmt::Check {
+            inputs: inputs_of(alloc, files)?,
+            output: Output::Lines,
+        });
     }
     if files.len() > 1 {
         return Err(refusal(alloc, SEVERAL_FILES));

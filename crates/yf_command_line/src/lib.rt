@@ -8,6 +8,7 @@ pub(crate) mod check_options;
 pub mod command;
 pub mod command_line;
 pub(crate) mod explained;
+mod fmt_formats;
 pub(crate) mod formats;
 pub(crate) mod inputs;
 pub(crate) mod lines;

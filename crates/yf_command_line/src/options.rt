@@ -3,7 +3,8 @@ ghost use Rattle.std.specs.Prelude.{◌≡◌, IfOk};
 ghost use Rattle.clap.specs.Words.{App, Rule, app_of, with_rule, with_subcommand};
 ghost use Rattle.yf_command_line.specs.Options.{any_text_flag, bare_command, check_flag, config_option};
 ghost use Rattle.yf_command_line.specs.Options.{configured, explaining_command, name_word, names_flag};
-ghost use Rattle.yf_command_line.specs.Options.{diff_flag, explain_flag, file_word, file_words, formatting_command};
+ghost use Rattle.yf_command_line.specs.Options.{diff_flag, explain_flag, file_word, file_words, format_option};
+ghost use Rattle.yf_command_line.specs.Options.{formatting_command};
 ghost use Rattle.yf_command_line.specs.Options.{lines_option, no_config_flag, show_settings_flag};
 ghost use Rattle.yf_command_line.specs.Options.{naming, with_config, with_defaults, with_settings, write_flag};
 ghost use Rattle.yf_command_line.specs.Options.{reading_command, serving_command, stdin_name_option, stdio_flag};
@@ -124,7 +125,12 @@ fn fmt_command<'a>(alloc: Global) -> Result<Command<'a>, AllocError>
         "Format these lines, for example 3-7,12; lines near them may change too",
     );
     let choosing = with_arg(formatting_command(alloc), lines);
-    with_arg(choosing, file_words(alloc))
+    let format = format_option(
+        alloc,
+        "With --check, report as line, full, json, sarif, github, gitlab, junit or checkstyle",
+    );
+    let reporting = with_arg(choosing, format);
+    with_arg(reporting, file_words(alloc))
 }
 
 // Returns `fmt` with the options of `naming`, and `--write`, `--check` and `--diff`.
@@ -304,6 +310,15 @@ fn diff_flag<'a>(alloc: Global) -> Arg<'a>
         .long(DIFF)
         .action(ArgAction::SetTrue)
         .help("Print the changes as a unified diff, and exit with 1 if there are any")
+}
+
+pub(crate) fn format_option<'a>(alloc: Global, help: &'a str) -> Arg<'a>
+    ensures { IsOption result format_option }
+{
+    Arg::new(alloc, FORMAT)
+        .long(FORMAT)
+        .value_name("FORMAT")
+        .help(help)
 }
 
 pub(crate) fn lines_option<'a>(alloc: Global, help: &'a str) -> Arg<'a>

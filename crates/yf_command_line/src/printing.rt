@@ -15,7 +15,7 @@ use std::alloc::Global;
 use yf_line_ranges::number::read_number;
 
 /// Why a name of a format is refused.
-const NO_FORMAT: &str =
+pub(crate) const NO_FORMAT: &str =
     "\n  [possible values: line, full, json, sarif, github, gitlab, junit, checkstyle]";
 
 /// Why a word of `--color` is refused.

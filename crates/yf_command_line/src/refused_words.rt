@@ -60,6 +60,15 @@ Usage: yamlfmt fmt [OPTIONS] [FILE]...
 For more information, try '--help'.
 ";
 
+/// The message for `fmt --format` without `--check`, or with `--write`, `--diff` or `--lines`.
+pub(crate) const FORMAT_UNCHECKED: &str =
+    "error: the argument '--format' needs '--check', without '--write', '--diff' and '--lines'
+
+Usage: yamlfmt fmt [OPTIONS] [FILE]...
+
+For more information, try '--help'.
+";
+
 /// The message for several files with `fmt --lines`.
 pub(crate) const SEVERAL_PARTS: &str = "error: the argument '--lines' takes one FILE
 
