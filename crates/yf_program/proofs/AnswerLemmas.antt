@@ -1,7 +1,7 @@
 -- A run over the inputs as they are now is also a run over the inputs as they were before. Also the runs over one of
 -- several inputs, and over all of them.
 use Rattle.std.proofs.Common.{◌≡◌, ◌≢◌, ◌⊎◌, ◌∙◌, ◌∷◌, ◌++◌, ◌+◌, ◌<◌, ◌≤◌, [], ℕ, List, Bool, false, true, inl, inr, add-one, ap, sym, subst, take, get_or, length, refl}
-use Rattle.std.specs.Prelude.{◌&&◌, max, map, Option, MatchBool, Result}
+use Rattle.std.specs.Prelude.{◌&&◌, max, map, Option, None, MatchBool, Result}
 use Rattle.std.proofs.Math.ListN.{get_or-map}
 use Rattle.std.proofs.Math.Seq.{take-suc}
 use Rattle.std.proofs.lemmas.List.{take_all}
@@ -11,6 +11,8 @@ use Rattle.yf_command_line.specs.declared.command.Command.{Command}
 use Rattle.yf_command_line.specs.declared.command.Command.TheVariants as command
 use Rattle.yf_command_line.specs.declared.command.Fmt.TheVariants as fmt
 use Rattle.yf_command_line.specs.declared.command.Input.{Input}
+use Rattle.yf_command_line.specs.declared.command.InputList.{InputList}
+use Rattle.yf_command_line.specs.declared.command.Output.{Output}
 use Rattle.yf_command_line.specs.declared.command.Part.TheVariants as part
 use Rattle.yf_parts.specs.PartRun.{IsPart}
 use Rattle.yf_parts.specs.declared.show.Show.TheVariants as show
@@ -20,13 +22,13 @@ use Rattle.yf_files.specs.declared.rewriting.RewriteError.{RewriteError}
 use Rattle.yf_findings.specs.declared.printed.Form.{Form}
 use Rattle.yf_forms.specs.declared.style.Style.{Style}
 use Rattle.yf_rules.specs.Runs.ByteStream.{ByteStream}
-use Rattle.yf_program.specs.Answer.{CopiesInput, DoesAll, DoesCheck, DoesEach, DoesIn, DoesInput, DoesNamed, DoesOpened, DoesRewrite}
+use Rattle.yf_program.specs.Answer.{CopiesInput, DoesAll, DoesCheck, DoesCompare, DoesEach, DoesIn, DoesInput, DoesNamed, DoesOpened, DoesRewrite}
 use Rattle.yf_program.specs.Answer.{EndsRewriting, Ran, RanLeftOut, RewritesInput, RunsOver, ScopedInput, ScopedRewrite, SkipsIf, SkipsInput}
 use Rattle.yf_host.specs.Memory.{ToldMemory, empty_memory}
 use Rattle.yf_program.specs.Answer.{host_in, name_of, task_of}
 use Rattle.yf_program.specs.Answer.DoesEach.{one_done, one_more}
-use Rattle.yf_program.specs.Forms.{check_form, explains_in, limit_in, writes_at_once}
-use Rattle.yf_program.specs.Reports.{DoesReport, report_task}
+use Rattle.yf_program.specs.Forms.{check_form, compare_form, explains_in, limit_in, writes_at_once}
+use Rattle.yf_program.specs.Reports.{DoesReport, compare_task, report_task}
 use Rattle.yf_program.specs.Run.{DoesWith}
 use Rattle.yf_program.specs.Run.DoesWith.{other_version, without_memory, are_taken}
 use Rattle.yf_program.specs.Guarded.{ReaderClaim, is_standard, prints_text}
@@ -158,13 +160,20 @@ module _ {F : Type 0} (earlier later : Host F) (known : StillKnown earlier.input
       (all_before scope (task_of (work.Check check.without) explain style) (all_inputs check.inputs) status before after)
       (report_before earlier later known scope (report_task check explain style form) (all_inputs check.inputs) status before after) d
 
+  compare_before : (inputs : InputList) (scope : Scope) (explain : Bool) (style : Style) (form : Form) (status : ℕ) (before after : World F)
+      → DoesCompare later inputs scope explain style form status before after → DoesCompare earlier inputs scope explain style form status before after
+  compare_before inputs scope explain style form status before after d =
+      either_check (writes_at_once form [] None)
+      (all_before scope (task_of work.Compare explain style) (all_inputs inputs) status before after)
+      (report_before earlier later known scope (compare_task explain style form) (all_inputs inputs) status before after) d
+
   pub does_in_before : (what : Command) (scope : Scope) (explain : Bool) (style : Style) (status : ℕ) (before after : World F) → DoesIn later what scope explain style status before after
       → DoesIn earlier what scope explain style status before after
   does_in_before (command.Events input) scope explain style status before after d = scoped_input_before earlier later known scope (task_of work.Events explain style) input status before after d
   does_in_before command.Server scope explain style status before after d = scoped_input_before earlier later known scope (task_of work.Serve explain style) Standard status before after d
   does_in_before (command.Check check) scope explain style status before after d = check_before check scope explain style (check_form check scope explain) status before after d
   does_in_before (command.Fmt (fmt.Print input)) scope explain style status before after d = scoped_input_before earlier later known scope (task_of work.Print explain style) input status before after d
-  does_in_before (command.Fmt (fmt.Check inputs)) scope explain style status before after d = all_before scope (task_of work.Compare explain style) (all_inputs inputs) status before after d
+  does_in_before (command.Fmt (fmt.Check inputs output)) scope explain style status before after d = compare_before inputs scope explain style (compare_form inputs output scope explain) status before after d
   does_in_before (command.Fmt (fmt.Diff inputs)) scope explain style status before after d = all_before scope (task_of work.Diff explain style) (all_inputs inputs) status before after d
   does_in_before (command.Fmt (fmt.Write files)) scope explain style status before after d =
       let Formats = new_text_of scope.any_text (FormatsBytes style) in
@@ -206,6 +215,28 @@ module _ {F : Type 0} (host : Host F) (check : Check) (scope : Scope) (explain :
       let with_limit = subst (λ (l : Option ℕ). DoesReport host scope (record (report_task check explain style form) { explain = told; limit = l }) (all_inputs check.inputs) status before after) limits d in
       let reported = subst (λ (b : Bool). DoesReport host scope (record (report_task check explain style form) { explain = b }) (all_inputs check.inputs) status before after) explains with_limit in
       in_form (subst (λ (b : Bool). MatchBool b Each Report) (sym later) reported)
+
+-- the comparison in its form: each line was written at once, or one report of all was written
+module _ {F : Type 0} (host : Host F) (inputs : InputList) (output : Output) (scope : Scope) (explain : Bool) (style : Style) (form : Form) (same : form ≡ compare_form inputs output scope explain) (status : ℕ) (before after : World F) where
+  in_compare_form : DoesCompare host inputs scope explain style form status before after → DoesIn host (command.Fmt (fmt.Check inputs output)) scope explain style status before after
+  in_compare_form d = subst (λ (f : Form). DoesCompare host inputs scope explain style f status before after) same d
+
+  pub compared_at_once : writes_at_once form [] None ≡ true
+      → DoesAll scope (ScopedInput host scope (task_of work.Compare explain style)) (all_inputs inputs) status before after
+      → DoesIn host (command.Fmt (fmt.Check inputs output)) scope explain style status before after
+  compared_at_once at_once d =
+      let Each = DoesAll scope (ScopedInput host scope (task_of work.Compare explain style)) (all_inputs inputs) status before after in
+      let Report = DoesReport host scope (compare_task explain style form) (all_inputs inputs) status before after in
+      in_compare_form (subst (λ (b : Bool). MatchBool b Each Report) (sym at_once) d)
+
+  pub compared_in_report : (told : Bool) → told ≡ explains_in form explain → writes_at_once form [] None ≡ false
+      → DoesReport host scope (record (compare_task explain style form) { explain = told }) (all_inputs inputs) status before after
+      → DoesIn host (command.Fmt (fmt.Check inputs output)) scope explain style status before after
+  compared_in_report told explains later d =
+      let Each = DoesAll scope (ScopedInput host scope (task_of work.Compare explain style)) (all_inputs inputs) status before after in
+      let Report = DoesReport host scope (compare_task explain style form) (all_inputs inputs) status before after in
+      let reported = subst (λ (b : Bool). DoesReport host scope (record (compare_task explain style form) { explain = b }) (all_inputs inputs) status before after) explains d in
+      in_compare_form (subst (λ (b : Bool). MatchBool b Each Report) (sym later) reported)
 
 -- the work was done as if for the only file, and then the contents of memory were written
 module _ {F : Type 0} (Does : WorkClaim F) (before after : World F) where

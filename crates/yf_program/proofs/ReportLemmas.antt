@@ -7,7 +7,6 @@ use Rattle.std.proofs.lemmas.List.{take_all, take_more, take-append-drop}
 use Rattle.yf_command_line.specs.declared.command.Input.{Input}
 use Rattle.yf_explain.specs.Explained.{Explains}
 use Rattle.yf_findings.specs.Guards.{WithGuard}
-use Rattle.yf_findings.specs.Reading.{ReadProblems}
 use Rattle.yf_findings.specs.Refusals.{RefusalProblem}
 use Rattle.yf_findings.specs.declared.files.FileProblems.{FileProblems}
 use Rattle.yf_findings.specs.declared.owned.OwnedProblem.{OwnedProblem}
@@ -25,7 +24,7 @@ use Rattle.yf_host.specs.Ends.{AnyLines, EndsTold, InputsOpened, IsFile, Opens, 
 use Rattle.yf_program.specs.Guarded.{held, is_judged}
 use Rattle.yf_host.specs.LeftAlone.{left_line, left_status}
 use Rattle.yf_program.specs.Reports.{AddsFile, AreAsked, DoesReport, GaveUp, GivesAll, GivesAsJudged, GivesEach, GivesInput, GivesJudgedText, GivesNamed, GivesOver, GivesRead, GivesScoped, GivesUnopened}
-use Rattle.yf_program.specs.Reports.{IsOnly, OpensReader, ReadClaim, ReportState, StopsAt, empty_report, file_name}
+use Rattle.yf_program.specs.Reports.{Finds, FindsBeside, IsOnly, OpensReader, ReadClaim, ReportState, StopsAt, asked_lines, empty_report, file_name}
 use Rattle.yf_host.specs.Memory.{ToldErrors, empty_stream}
 use Rattle.yf_program.specs.Reports.GivesScoped.{left_out, included}
 use Rattle.yf_program.specs.Reports.GivesEach.{none_given, one_more}
@@ -164,12 +163,11 @@ module _ (claim : InputClaim) (scope : Scope) (task : ReportTask) (before after 
 
 -- the problems of a text that was checked, and the problem of one that was refused
 module _ (task : ReportTask) (name : Option (List ℕ)) (status : ℕ) (reader left before after : ByteStream) (old new : List FileProblems) where
-  pub found_over : (without : List (List ℕ)) (asked : List LineRange) (all : List OwnedProblem) → without ≡ task.without.items
-      → asked ≡ task.lines.items → ReadProblems without task.style reader.contents all → NoFailure reader left
+  pub found_over : (asked : List LineRange) (all : List OwnedProblem) → asked ≡ asked_lines task.work
+      → Finds task.work task.style reader.contents all → NoFailure reader left
       → NothingWritten before after → AddsFile name (λ added. AreAsked asked all added status) old new
       → AddsFile name (λ added. GivesOver task added status reader left before after) old new
-  found_over without asked all same lines read works nothing d =
-      let found = subst (λ (w : List (List ℕ)). ReadProblems w task.style reader.contents all) same read in
+  found_over asked all lines found works nothing d =
       let kept = subst (λ (a : List LineRange). AreAsked a all d.0.problems.items status) lines d.2 in
       (d.0, d.1, inl (all, found, kept, works, nothing), d.3)
 
@@ -199,12 +197,11 @@ module _ (task : ReportTask) (name : Option (List ℕ)) (status : ℕ) (before a
       → AddsFile name (λ added. GivesAsJudged task verdict.Encrypted t added status before after) old new
   encrypted_given problems none ends told d = (d.0, d.1, (d.2 ∙ none, ends, told), d.3)
 
-  pub no_data_given : (f : Finding) (without : List (List ℕ)) (asked : List LineRange) (found all : List OwnedProblem)
-      → without ≡ task.without.items → asked ≡ task.lines.items → ReadProblems without task.style (Some t) found
+  pub no_data_given : (f : Finding) (asked : List LineRange) (found all : List OwnedProblem)
+      → asked ≡ asked_lines task.work → FindsBeside task.work task.style (Some t) found
       → WithGuard t f found all → NothingWritten before after → AddsFile name (λ added. AreAsked asked all added status) old new
       → AddsFile name (λ added. GivesAsJudged task (verdict.NoData f) t added status before after) old new
-  no_data_given f without asked found all same lines read guarded nothing d =
-      let checked = subst (λ (w : List (List ℕ)). ReadProblems w task.style (Some t) found) same read in
+  no_data_given f asked found all lines checked guarded nothing d =
       let kept = subst (λ (a : List LineRange). AreAsked a all d.0.problems.items status) lines d.2 in
       (d.0, d.1, inl (found, all, checked, guarded, kept, nothing), d.3)
 

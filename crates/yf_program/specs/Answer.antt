@@ -40,8 +40,8 @@ use Rattle.yf_rules.specs.Runs.Run.{Gave, NotationWritten, RefusedEvents, Refuse
 pub use Rattle.yf_host.specs.Ends.{AnyLines, AreTold, EndsBy, EndsOver, EndsTold, EndsWell, InputsOpened, IsFile, Opens}
 pub use Rattle.yf_host.specs.Ends.{TellsMore, name_of}
 use Rattle.yf_rules.specs.Quoted.{quoted}
-use Rattle.yf_program.specs.Forms.{check_form, writes_at_once}
-use Rattle.yf_program.specs.Reports.{DoesReport, report_task}
+use Rattle.yf_program.specs.Forms.{check_form, compare_form, writes_at_once}
+use Rattle.yf_program.specs.Reports.{DoesReport, compare_task, report_task}
 use Rattle.yf_guard.specs.declared.guarded.Guarded.TheVariants.{Vault}
 use Rattle.yf_guarded.specs.Checked.{CheckedBroke, CheckedRun}
 use Rattle.yf_guarded.specs.Judged.{GivesText, IsByteFault}
@@ -323,6 +323,15 @@ DoesCheck host check scope explain style form status before after =
     status before after)
     (DoesReport host scope (report_task check explain style form) (all_inputs check.inputs) status before after)
 
+-- `fmt --check` was done in this form with the inputs that are not left out: the line of each input was written as soon
+-- as it was compared, or one report of all inputs was written.
+abbrev pub DoesCompare : {F : Type 0} → Host F → InputList → Scope → Bool → Style → Form → WorkClaim F
+DoesCompare host inputs scope explain style form status before after =
+    MatchBool (writes_at_once form [] None)
+    (DoesAll scope (ScopedInput host scope (task_of work.Compare explain style)) (all_inputs inputs)
+    status before after)
+    (DoesReport host scope (compare_task explain style form) (all_inputs inputs) status before after)
+
 -- The command was done in a style, with the inputs that are not left out.
 abbrev pub DoesIn : {F : Type 0} → Host F → Command → Scope → Bool → Style → WorkClaim F
 DoesIn host (command.Events input) scope explain style =
@@ -332,8 +341,8 @@ DoesIn host (command.Check check) scope explain style =
     DoesCheck host check scope explain style (check_form check scope explain)
 DoesIn host (command.Fmt (fmt.Print input)) scope explain style =
     ScopedInput host scope (task_of work.Print explain style) input
-DoesIn host (command.Fmt (fmt.Check inputs)) scope explain style =
-    DoesAll scope (ScopedInput host scope (task_of work.Compare explain style)) (all_inputs inputs)
+DoesIn host (command.Fmt (fmt.Check inputs output)) scope explain style =
+    DoesCompare host inputs scope explain style (compare_form inputs output scope explain)
 DoesIn host (command.Fmt (fmt.Diff inputs)) scope explain style =
     DoesAll scope (ScopedInput host scope (task_of work.Diff explain style)) (all_inputs inputs)
 DoesIn host (command.Fmt (fmt.Write files)) scope explain style =

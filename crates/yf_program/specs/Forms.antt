@@ -1,7 +1,8 @@
--- The form of the findings that `check` prints, by its options, the terminal and the environment.
+-- The form of the findings that `check` prints, and of what `fmt --check` reports, by the options, the terminal and the
+-- environment.
 -- (named: whether each line has the name of its input; explain: whether `--explain` is given)
 use Rattle.std.specs.Prelude.{◌==◌, ◌&&◌, ◌||◌, ℕ, Bool, true, false, not, if◌then◌else◌, List, length}
-use Rattle.std.specs.Prelude.{Option, None, is_some, unwrap_or, vec_len}
+use Rattle.std.specs.Prelude.{Option, None, Some, is_some, unwrap_or, vec_len}
 use Rattle.yf_command_line.specs.declared.command.Check.{Check}
 use Rattle.yf_command_line.specs.declared.command.Colors.{Colors}
 use Rattle.yf_command_line.specs.declared.command.Colors.TheVariants.{Auto, Always, Never}
@@ -54,6 +55,15 @@ has_several inputs = not (vec_len inputs.rest == 0)
 -- The form of the findings of a check. With `--names`, or for several inputs, each line has the name of its input.
 abbrev pub check_form : Check → Scope → Bool → Form
 check_form check scope explain = form_of check.printing scope.terminal (scope.names || has_several check.inputs) explain
+
+-- How `fmt --check` reports in a format. It has no `--color`.
+abbrev pub reporting : Output → Printing
+reporting output = record { output = Some output; colors = Auto; limit = None }
+
+-- The form of what `fmt --check` reports, as that of the findings of a check.
+abbrev pub compare_form : InputList → Output → Scope → Bool → Form
+compare_form inputs output scope explain =
+    form_of (reporting output) scope.terminal (scope.names || has_several inputs) explain
 
 -- Whether the findings of an input are written as soon as it is checked: if each is a line, and neither `--lines` nor
 -- `--max-findings` may leave one out.

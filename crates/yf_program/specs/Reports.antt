@@ -1,5 +1,5 @@
--- What `check` does if it doesn't write each finding at once: the problems of all inputs are in one report, which is
--- written last.
+-- What `check` does if it doesn't write each finding at once, and `fmt --check` with `--format`: the problems of all
+-- inputs are in one report, which is written last.
 -- (before, after: the states, the streams or one stream before and after a step;
 -- reader, left: a reader before and after it was read; problems: those of one input)
 use Rattle.std.specs.Prelude.{◌≡◌, ◌⊎◌, ◌++◌, ◌∷◌, ◌-◌, ◌==◌, ℕ, max, List, [], map, Bool, true, false}
@@ -10,6 +10,7 @@ use Rattle.yf_command_line.specs.declared.command.Check.{Check}
 use Rattle.yf_command_line.specs.declared.command.Input.{Input}
 use Rattle.yf_command_line.specs.declared.command.Input.TheVariants.{Standard, File}
 use Rattle.yf_explain.specs.Explained.{Explains}
+use Rattle.yf_findings.specs.Differences.{ReadDifference}
 use Rattle.yf_findings.specs.Printed.{Printed}
 use Rattle.yf_findings.specs.Guards.{WithGuard}
 use Rattle.yf_findings.specs.Reading.{ReadProblems}
@@ -38,18 +39,48 @@ use Rattle.yf_host.specs.Report.{check_status}
 use Rattle.yf_program.specs.Settings.{IsLeftOut, TellsLeftOut}
 use Rattle.yf_host.specs.World.{Host, InputClaim, OutputStreams, WorkClaim, World, streams_of}
 use Rattle.yf_program.specs.declared.report_inputs.ReportTask.{ReportTask}
+use Rattle.yf_program.specs.declared.report_work.ReportWork.{ReportWork}
+use Rattle.yf_program.specs.declared.report_work.ReportWork.TheVariants as work
 use Rattle.yf_program.specs.declared.scope.Scope.{Scope}
 
 abbrev pub report_task : Check → Bool → Style → Form → ReportTask
 report_task check explain style form = record {
-  without = check.without;
+  work = work.Check check.without check.lines;
   style = style;
-  lines = check.lines;
   form = form;
   limit = limit_in form check.printing.limit;
   explain = explains_in form explain;
   tells_left_out = explain;
 }
+
+-- `fmt --check` has no limit.
+abbrev pub compare_task : Bool → Style → Form → ReportTask
+compare_task explain style form = record {
+  work = work.Compare;
+  style = style;
+  form = form;
+  limit = None;
+  explain = explains_in form explain;
+  tells_left_out = explain;
+}
+
+-- ---- The problems of a text
+
+-- The lines whose problems are listed, or no lines if all are.
+abbrev pub asked_lines : ReportWork → List LineRange
+asked_lines (work.Check without lines) = lines.items
+asked_lines work.Compare = []
+
+-- The work found these problems in the text that was read.
+abbrev pub Finds : ReportWork → Style → Option (List ℕ) → List OwnedProblem → Type 0
+Finds (work.Check without lines) style known all = ReadProblems without.items style known all
+Finds work.Compare style known all = ReadDifference style known all
+
+-- The work found these problems in a text that is no data, besides the problem that says so. A text that is no data is
+-- not compared.
+abbrev pub FindsBeside : ReportWork → Style → Option (List ℕ) → List OwnedProblem → Type 0
+FindsBeside (work.Check without lines) style known found = ReadProblems without.items style known found
+FindsBeside work.Compare style known found = found ≡ []
 
 -- ---- The problems of an input
 
@@ -74,20 +105,20 @@ GivesFault task problems status reader left before after =
 abbrev pub AreAsked : List LineRange → List OwnedProblem → List OwnedProblem → ℕ → Type 0
 AreAsked lines all problems status = (problems ≡ on_lines lines all) × (status ≡ check_status (has_problem problems))
 
--- The text that a reader has was checked, and these are its problems on the asked lines; or it was refused.
+-- The work was done with the text that a reader has, and these are its problems on the asked lines; or it was refused.
 abbrev pub GivesOver : ReportTask → List OwnedProblem → ℕ → ByteStream → ByteStream → ByteStream → ByteStream → Type 0
 GivesOver task problems status reader left before after =
-    ((all : List OwnedProblem) × ReadProblems task.without.items task.style reader.contents all
-    × AreAsked task.lines.items all problems status × NoFailure reader left × NothingWritten before after)
+    ((all : List OwnedProblem) × Finds task.work task.style reader.contents all
+    × AreAsked (asked_lines task.work) all problems status × NoFailure reader left × NothingWritten before after)
     ⊎ GivesFault task problems status reader left before after
 
--- The text t is no data, as the finding f says. Its problems are those that the rules find, and among them that of the
+-- The text t is no data, as the finding f says. Its problems are those that a check finds, and among them that of the
 -- finding, as far as they are asked for; or it was refused.
 abbrev pub GivesNoData : ReportTask → Finding → List ℕ → List OwnedProblem → ℕ → ByteStream → ByteStream → Type 0
 GivesNoData task f t problems status before after =
     ((found : List OwnedProblem) × (all : List OwnedProblem)
-    × ReadProblems task.without.items task.style (Some t) found × WithGuard t f found all
-    × AreAsked task.lines.items all problems status × NothingWritten before after)
+    × FindsBeside task.work task.style (Some t) found × WithGuard t f found all
+    × AreAsked (asked_lines task.work) all problems status × NothingWritten before after)
     ⊎ ((rest : List ℕ) × GivesFault task problems status (held t) (held rest) before after)
 
 -- What the check of a text gives, by the verdict on the text. An encrypted text has no problem, and a line says that it
@@ -99,7 +130,7 @@ GivesAsJudged task verdict.Encrypted t problems status before after =
     (problems ≡ []) × (status ≡ left_status Vault) × WrittenOrFailed before after (left_line Vault)
 GivesAsJudged task (verdict.NoData f) t problems status before after = GivesNoData task f t problems status before after
 
--- The text that a reader has was judged, and checked as the verdict says; or it was refused.
+-- The text that a reader has was judged, and the work was done as the verdict says; or it was refused.
 abbrev pub GivesJudgedText : ReportTask → List OwnedProblem → ℕ → ByteStream → ByteStream → ByteStream → ByteStream
     → Type 0
 GivesJudgedText task problems status reader left before after =

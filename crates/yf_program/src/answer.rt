@@ -8,6 +8,7 @@ use crate::each::{do_inputs, do_scoped};
 use crate::parts::do_part;
 use crate::program::{answer_usage, written_out};
 use crate::report_inputs::ReportTask;
+use crate::report_work::ReportWork;
 use crate::reports::report_inputs;
 use crate::rewrites::rewrite_files;
 use crate::scope::Scope;
@@ -15,7 +16,7 @@ use crate::task::{Task, Work};
 use crate::terminal::{Terminal, explains_in, form_of, is_named, limit_in, writes_at_once};
 use crate::with_settings::do_request;
 use std::alloc::Global;
-use yf_command_line::command::{Check, Command, Fmt, Input};
+use yf_command_line::command::{Check, Colors, Command, Fmt, Input, InputList, Output, Printing};
 use yf_command_line::command_line::parse_line;
 use yf_forms::style::Style;
 use yf_host::files::{Links, NewText};
@@ -122,11 +123,52 @@ fn do_check<I: Inputs, S: Links, W: Sink, E: Sink>(
         return do_inputs(alloc, &task, scope, &inputs, sources, streams);
     }
     let task = ReportTask {
-        without,
+        work: ReportWork::Check { without, lines },
         style,
-        lines,
         form,
         limit: limit_in(form, printing.limit),
+        explain: explains_in(form, explain),
+        tells_left_out: explain,
+    };
+    report_inputs(alloc, &task, scope, &inputs, sources, streams)
+}
+
+// Compares inputs with their formatting in a style.
+fn do_compare<I: Inputs, S: Links, W: Sink, E: Sink>(
+    alloc: Global,
+    inputs: InputList,
+    output: Output,
+    scope: &Scope,
+    explain: bool,
+    style: Style,
+    sources: &mut Sources<I, S>,
+    streams: &mut Streams<W, E>,
+) -> u8
+    ensures { DoesIn (host_in I.claim S.tells S.state S.leads sources.old) (Command.Fmt (Fmt.Check inputs output))
+        scope.now explain style result (world_in I.opened sources.old streams.old)
+        (world_in I.opened sources.new streams.new) }
+{
+    let printing = Printing {
+        output: Some(output),
+        colors: Colors::Auto,
+        limit: None,
+    };
+    let named = is_named(scope.names, &inputs);
+    let form = form_of(printing, scope.terminal, named, explain);
+    let at_once = writes_at_once(form, &[], None);
+    if at_once {
+        let task = Task {
+            work: Work::Compare,
+            style,
+            explain,
+        };
+        return do_inputs(alloc, &task, scope, &inputs, sources, streams);
+    }
+    let task = ReportTask {
+        work: ReportWork::Compare,
+        style,
+        form,
+        limit: None,
         explain: explains_in(form, explain),
         tells_left_out: explain,
     };
@@ -155,13 +197,10 @@ fn do_fmt<I: Inputs, S: Links, W: Sink, E: Sink>(
             };
             do_scoped(alloc, &task, scope, &input, sources, streams)
         }
-        Fmt::Check(inputs) => {
-            let task = Task {
-                work: Work::Compare,
-                style,
-                explain,
-            };
-            do_inputs(alloc, &task, scope, &inputs, sources, streams)
+        Fmt::Check { inputs, output } => {
+            do_compare(
+                alloc, inputs, output, scope, explain, style, sources, streams,
+            )
         }
         Fmt::Diff(inputs) => {
             let task = Task {

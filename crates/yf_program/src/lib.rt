@@ -15,6 +15,7 @@ pub mod parts;
 pub mod program;
 pub mod report_inputs;
 pub mod report_texts;
+pub mod report_work;
 pub mod reports;
 pub mod rewrites;
 pub mod scope;

@@ -10,6 +10,7 @@ ghost use Rattle.yf_rules.specs.Runs.ByteStream.{NothingWritten, stream_of};
 use crate::further::report_file;
 use crate::judged::is_judged;
 use crate::report_texts::{add_refusal, give_reader};
+use crate::report_work::ReportWork;
 use crate::scope::{Scope, is_left_out, tell_left_out};
 use std::alloc::{AllocError, Global};
 use yf_command_line::command::Input;
@@ -18,20 +19,16 @@ use yf_findings::printed::Form;
 use yf_forms::style::Style;
 use yf_host::inputs::Inputs;
 use yf_host::report::GOOD;
-use yf_line_ranges::range::LineRange;
 use yf_lines::fault::Fault;
-use yf_lines::text::OwnedText;
 use yf_lines::watched::Sink;
 
 /// How inputs are checked for a report.
 #[derive(Drop)]
 pub struct ReportTask {
-    /// The names of the rules that are left out.
-    pub without: Vec<OwnedText>,
+    /// The work on each text.
+    pub work: ReportWork,
     /// The style in which the inputs are checked.
     pub style: Style,
-    /// The lines to check, or no lines if all are checked.
-    pub lines: Vec<LineRange>,
     /// The form of the report.
     pub form: Form,
     /// The greatest number of problems in the report. Without it there is no limit.

@@ -13,11 +13,11 @@ ghost use Rattle.yf_rules.specs.Runs.ByteStream.{NothingWritten, stream_of};
 
 use crate::further::report_input;
 use crate::report_inputs::ReportTask;
+use crate::report_work::{asked_lines, read_beside, read_found};
 use std::alloc::{AllocError, Global};
 use yf_findings::files::FileProblems;
 use yf_findings::guards::with_guard;
 use yf_findings::owned::OwnedProblem;
-use yf_findings::reading::read_problems;
 use yf_findings::refusals::refusal;
 use yf_findings::selection::on_lines;
 use yf_guard::guarded::Guarded;
@@ -160,15 +160,9 @@ fn give_no_data<E: Sink>(
 {
     let mut held = Held { rest: bytes };
     let mut kept = Vec::new(alloc);
-    match read_problems(
-        alloc,
-        task.without.as_slice(),
-        &task.style,
-        &mut held,
-        &mut kept,
-    ) {
+    match read_beside(alloc, &task.work, &task.style, &mut held, &mut kept) {
         Ok(problems) => {
-            let asked = task.lines.as_slice();
+            let asked = asked_lines(&task.work);
             add_guarded(alloc, asked, name, finding, bytes, problems, files)
         }
         Err(fault) => {
@@ -215,15 +209,9 @@ fn give_text<R: Source, E: Sink>(
         (stream_of E.contents E.has_failed error_stream.new)) }
 {
     let mut kept = Vec::new(alloc);
-    match read_problems(
-        alloc,
-        task.without.as_slice(),
-        &task.style,
-        reader,
-        &mut kept,
-    ) {
+    match read_found(alloc, &task.work, &task.style, reader, &mut kept) {
         Ok(problems) => {
-            let asked = task.lines.as_slice();
+            let asked = asked_lines(&task.work);
             add_found(alloc, asked, name, problems, files)
         }
         Err(fault) => {

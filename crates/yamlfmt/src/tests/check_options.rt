@@ -1,9 +1,9 @@
-//! Command lines with the options of `check`.
+//! Command lines with the options of `check`, and with `fmt --format`.
 
 use crate::tests::answers::words_of;
 use crate::tests::lines_option::are_lines;
 use std::alloc::Global;
-use yf_command_line::command::{Check, Colors, Command, Output};
+use yf_command_line::command::{Check, Colors, Command, Fmt, Output};
 use yf_command_line::command_line::parse_line;
 use yf_command_line::usage::Usage;
 use yf_rule_pages::pages::PAGES;
@@ -14,6 +14,8 @@ use yf_rules::asked::RULE_NAMES;
 enum Wanted {
     /// The lines to check, the form of the output, when it has colors, and the limit.
     Check(&'static [[usize; 2]], &'static str, &'static str, Option<usize>),
+    /// `fmt --check`: the form of the output, and the number of inputs after the first.
+    Compare(&'static str, usize),
     /// Wrong words.
     Wrong,
     /// Wrong words, and the reason.
@@ -36,7 +38,16 @@ Usage: yamlfmt check [OPTIONS] [FILE]...
 For more information, try '--help'.
 ";
 
-static ROWS: [(&str, Wanted); 49] = [
+/// The refusal of `fmt --format` without `--check`, or with `--write`, `--diff` or `--lines`.
+const UNCHECKED: &str =
+    "error: the argument '--format' needs '--check', without '--write', '--diff' and '--lines'
+
+Usage: yamlfmt fmt [OPTIONS] [FILE]...
+
+For more information, try '--help'.
+";
+
+static ROWS: [(&str, Wanted); 69] = [
     ("check", Wanted::Check(&[], "", "auto", None)),
     ("check a b", Wanted::Check(&[], "", "auto", None)),
     (
@@ -105,6 +116,37 @@ static ROWS: [(&str, Wanted); 49] = [
     ("check --lines= a", Wanted::Wrong),
     ("check --lines 1,-3 a", Wanted::Wrong),
     ("check --lines 1 --lines 0 a", Wanted::Wrong),
+    ("fmt --check", Wanted::Compare("line", 0)),
+    ("fmt --check --format line a", Wanted::Compare("line", 0)),
+    ("fmt --format=full --check a b", Wanted::Compare("full", 1)),
+    (
+        "fmt --check a --format json -",
+        Wanted::Compare("report", 1),
+    ),
+    ("fmt --check --format", Wanted::Wrong),
+    ("fmt --check --format= a", Wanted::Wrong),
+    ("fmt --check --format JSON a", Wanted::Wrong),
+    ("fmt --check --format json --format json a", Wanted::Wrong),
+    ("fmt --check --statistics a", Wanted::Wrong),
+    ("fmt --check --max-findings 1 a", Wanted::Wrong),
+    ("fmt --check --color never a", Wanted::Wrong),
+    ("fmt --format json a", Wanted::Refused(UNCHECKED)),
+    ("fmt --format line", Wanted::Refused(UNCHECKED)),
+    ("fmt --write --format json a", Wanted::Refused(UNCHECKED)),
+    (
+        "fmt --write --check --format json a",
+        Wanted::Refused(UNCHECKED),
+    ),
+    ("fmt --diff --format json a", Wanted::Refused(UNCHECKED)),
+    (
+        "fmt --diff --check --format json a",
+        Wanted::Refused(UNCHECKED),
+    ),
+    (
+        "fmt --check --format json --lines 3 a",
+        Wanted::Refused(UNCHECKED),
+    ),
+    ("fmt --format json a b", Wanted::Refused(UNCHECKED)),
     ("fmt --statistics a", Wanted::Wrong),
     ("fmt --color never a", Wanted::Wrong),
     ("events --max-findings 3 a", Wanted::Wrong),
@@ -132,6 +174,16 @@ For more information, try '--help'.
     ),
     (
         "check --format text a",
+        Wanted::Refused(
+            "error: invalid value 'text' for '--format <FORMAT>'
+  [possible values: line, full, json, sarif, github, gitlab, junit, checkstyle]
+
+For more information, try '--help'.
+",
+        ),
+    ),
+    (
+        "fmt --format text",
         Wanted::Refused(
             "error: invalid value 'text' for '--format <FORMAT>'
   [possible values: line, full, json, sarif, github, gitlab, junit, checkstyle]
@@ -208,6 +260,12 @@ fn is_found(alloc: Global, line: &str, wanted: Wanted) -> bool {
             Command::Check(check) => is_check(check, lines, output, colors, limit),
             _ => false,
         },
+        (Ok(request), Wanted::Compare(wanted, more)) => match &request.command {
+            Command::Fmt(Fmt::Check { inputs, output }) => {
+                form(Some(*output)) == wanted && inputs.rest.len() == more
+            }
+            _ => false,
+        },
         (Err(Usage::Wrong(_)), Wanted::Wrong) => true,
         (Err(Usage::Wrong(text)), Wanted::Refused(wanted)) => text.as_str() == wanted,
         _ => false,
@@ -215,7 +273,7 @@ fn is_found(alloc: Global, line: &str, wanted: Wanted) -> bool {
 }
 
 #[test]
-fn options_of_check_are_taken_or_refused(rt: HostRuntime) {
+fn options_of_checks_are_taken_or_refused(rt: HostRuntime) {
     for (line, wanted) in &ROWS {
         assert!(rt; is_found(rt.alloc(), line, *wanted), "{line}");
     }

@@ -60,7 +60,7 @@ fn shape(command: &Command) -> Shape<'_> {
             (Verb::Check, name_of(first), false, false, false, rest.len())
         }
         Command::Fmt(Fmt::Print(input)) => (Verb::Fmt, name_of(input), false, false, false, 0),
-        Command::Fmt(Fmt::Check(inputs)) => {
+        Command::Fmt(Fmt::Check { inputs, .. }) => {
             let InputList { first, rest } = inputs;
             (Verb::Fmt, name_of(first), false, true, false, rest.len())
         }

@@ -28,7 +28,7 @@ const KEPT: Stored = Stored {
 const LEFT_OUT: &str = "left out: the settings exclude it\n";
 
 /// The rows, as in `in_force_rows`.
-pub static ROWS: [Row; 15] = [
+pub static ROWS: [Row; 16] = [
     // files that are left out
     (&[A, ALL], "/w/d", "fmt a.yaml", 0, "", "", ".yamlfmt.toml "),
     (
@@ -158,5 +158,14 @@ pub static ROWS: [Row; 15] = [
         "[]",
         LEFT_OUT,
         "../.yamlfmt.toml ",
+    ),
+    (
+        &[A, KEPT, IN_FOLDER],
+        "/w/d",
+        "fmt --check --explain --format json a.yaml keep.yaml",
+        1,
+        "[{\"file\":\"keep.yaml\",\"line\":2,\"column\":8,\"end_line\":2,\"end_column\":8,\"rule\":\"not-formatted\",\"severity\":\"warning\",\"message\":\"not formatted\",\"fixable\":true}]",
+        "a.yaml: left out: the settings exclude it\n",
+        "../.yamlfmt.toml keep.yaml ",
     ),
 ];

@@ -1,8 +1,15 @@
 //! Reports of texts that are no data. The reports are as the formats' standards write them.
 
 use crate::tests::left_alone_rows::{ANY, BLOCK, DEEP, FLOWS, PLAIN, Row, TEMPLATE, TWO, VAULT};
+use yf_host::memory_inputs::Stored;
 
-pub static REPORT_ROWS: [Row; 15] = [
+/// A file that is its own formatting.
+const STYLED: Stored = Stored {
+    name: "c.yaml",
+    bytes: b"---\nc: 1\n",
+};
+
+pub static REPORT_ROWS: [Row; 23] = [
     (
         &[VAULT],
         "check --format json vault.yaml",
@@ -124,5 +131,70 @@ pub static REPORT_ROWS: [Row; 15] = [
         "[{\"file\":\"flows.yaml\",\"line\":1,\"column\":4,\"end_line\":1,\"end_column\":12,\"rule\":\"flow-layout\",\"severity\":\"warning\",\"message\":\"no space after `,`, expected one\",\"fixable\":true},{\"file\":\"flows.yaml\",\"line\":2,\"column\":4,\"end_line\":2,\"end_column\":9,\"rule\":\"flow-layout\",\"severity\":\"warning\",\"message\":\"a space after `[`, expected none\",\"fixable\":true},{\"file\":\"flows.yaml\",\"line\":3,\"column\":4,\"end_line\":3,\"end_column\":11,\"rule\":\"flow-layout\",\"severity\":\"warning\",\"message\":\"a space after `x`, expected none\",\"fixable\":true},{\"file\":\"flows.yaml\",\"line\":4,\"column\":4,\"end_line\":5,\"end_column\":5,\"rule\":\"flow-layout\",\"severity\":\"warning\",\"message\":\"over several lines, expected one line\",\"fixable\":true},{\"file\":\"flows.yaml\",\"line\":6,\"column\":4,\"end_line\":6,\"end_column\":9,\"rule\":\"flow-layout\",\"severity\":\"warning\",\"message\":\"`'` after `[`, expected `\\\"`\",\"fixable\":true},{\"file\":\"flows.yaml\",\"line\":7,\"column\":4,\"end_line\":7,\"end_column\":10,\"rule\":\"flow-layout\",\"severity\":\"warning\",\"message\":\"`a` after `[`, expected `{`\",\"fixable\":true},{\"file\":\"flows.yaml\",\"line\":8,\"column\":4,\"end_line\":8,\"end_column\":7,\"rule\":\"flow-layout\",\"severity\":\"warning\",\"message\":\"flow style, expected block style\",\"fixable\":true},{\"file\":\"flows.yaml\",\"line\":9,\"column\":4,\"end_line\":9,\"end_column\":7,\"rule\":\"flow-layout\",\"severity\":\"warning\",\"message\":\"a space after `[`, expected none\",\"fixable\":true},{\"file\":\"flows.yaml\",\"line\":10,\"column\":4,\"end_line\":10,\"end_column\":10,\"rule\":\"flow-layout\",\"severity\":\"warning\",\"message\":\"a tab after `,`, expected a space\",\"fixable\":true},{\"file\":\"flows.yaml\",\"line\":11,\"column\":4,\"end_line\":11,\"end_column\":112,\"rule\":\"flow-layout\",\"severity\":\"warning\",\"message\":\"too long for one line of 100 columns, expected block style\",\"fixable\":true}]",
         "",
         "a: [80,443]\nb: [ 1 ]\nc: {x : 1}\nd: [1,\n  2]\ne: ['x']\nf: [a: b]\ng: {x}\nh: [ ]\ni: [1,\t2]\nj: [aaaaaaaaaa, aaaaaaaaaa, aaaaaaaaaa, aaaaaaaaaa, aaaaaaaaaa, aaaaaaaaaa, aaaaaaaaaa, aaaaaaaaaa, aaaaaaaaaa]\n",
+    ),
+    // comparisons: of a text that is no data only this problem is listed
+    (
+        &[STYLED],
+        "fmt --check --format json c.yaml",
+        0,
+        "[]",
+        "",
+        "---\nc: 1\n",
+    ),
+    (
+        &[STYLED],
+        "fmt --check --format github c.yaml",
+        0,
+        "",
+        "",
+        "---\nc: 1\n",
+    ),
+    (
+        &[VAULT],
+        "fmt --check --format json vault.yaml",
+        0,
+        "[]",
+        "left alone: encrypted\n",
+        "$ANSIBLE_VAULT;1.1;AES256\n6638\n",
+    ),
+    (
+        &[STYLED, PLAIN, DEEP],
+        "fmt --check --format json c.yaml plain.yaml deep.yaml",
+        1,
+        "[{\"file\":\"plain.yaml\",\"line\":1,\"column\":1,\"end_line\":1,\"end_column\":1,\"rule\":\"no-data\",\"severity\":\"warning\",\"message\":\"plain text over several lines, which fmt would join into one\",\"fixable\":false},{\"file\":\"deep.yaml\",\"line\":1,\"column\":1,\"end_line\":1,\"end_column\":1,\"rule\":\"not-formatted\",\"severity\":\"warning\",\"message\":\"not formatted\",\"fixable\":true}]",
+        "",
+        "---\nc: 1\n",
+    ),
+    (
+        &[TEMPLATE],
+        "fmt --check --format json template.yaml",
+        1,
+        "[{\"file\":\"template.yaml\",\"line\":1,\"column\":4,\"end_line\":1,\"end_column\":4,\"rule\":\"template\",\"severity\":\"warning\",\"message\":\"looks like a template, which is YAML only after it is rendered\",\"fixable\":false}]",
+        "",
+        "a: {{ x }}\n",
+    ),
+    (
+        &[TEMPLATE],
+        "fmt --check --format json --stdin-name template.yaml",
+        1,
+        "[{\"file\":\"template.yaml\",\"line\":1,\"column\":4,\"end_line\":1,\"end_column\":4,\"rule\":\"template\",\"severity\":\"warning\",\"message\":\"looks like a template, which is YAML only after it is rendered\",\"fixable\":false}]",
+        "",
+        "a: {{ x }}\n",
+    ),
+    (
+        &[TEMPLATE],
+        "fmt --check --format json",
+        1,
+        "[{\"file\":null,\"line\":1,\"column\":1,\"end_line\":1,\"end_column\":1,\"rule\":\"not-formatted\",\"severity\":\"warning\",\"message\":\"not formatted\",\"fixable\":true}]",
+        "",
+        "a: {{ x }}\n",
+    ),
+    (
+        &[TEMPLATE],
+        "fmt --check --any-text --format json template.yaml",
+        1,
+        "[{\"file\":\"template.yaml\",\"line\":1,\"column\":1,\"end_line\":1,\"end_column\":1,\"rule\":\"not-formatted\",\"severity\":\"warning\",\"message\":\"not formatted\",\"fixable\":true}]",
+        "",
+        "a: {{ x }}\n",
     ),
 ];

@@ -3,7 +3,7 @@
 
 use crate::tests::answer_rows::{BEFORE, Row};
 
-pub static REPORT_ROWS: [Row; 12] = [
+pub static REPORT_ROWS: [Row; 18] = [
     (
         "check --format line a.yaml",
         1,
@@ -81,6 +81,55 @@ pub static REPORT_ROWS: [Row; 12] = [
         "check --format junit --without comment-space a.yaml",
         0,
         "<?xml version=\"1.0\" encoding=\"UTF-8\"?>\n<testsuites name=\"yamlfmt\" tests=\"0\" failures=\"0\" errors=\"0\">\n<testsuite name=\"yamlfmt\" tests=\"0\" failures=\"0\" errors=\"0\">\n</testsuite>\n</testsuites>\n",
+        "",
+        "a.yaml ",
+        BEFORE,
+    ),
+    // the files that are not formatted
+    (
+        "fmt --check --format line a.yaml",
+        1,
+        "2:8 not formatted\n",
+        "",
+        "a.yaml ",
+        BEFORE,
+    ),
+    (
+        "fmt --check --format json",
+        1,
+        "[{\"file\":null,\"line\":1,\"column\":2,\"end_line\":1,\"end_column\":2,\"rule\":\"not-formatted\",\"severity\":\"warning\",\"message\":\"not formatted\",\"fixable\":true}]",
+        "",
+        "- ",
+        BEFORE,
+    ),
+    (
+        "fmt --check --format github a.yaml refused.yaml none.yaml",
+        3,
+        "::error title=unknown-alias,file=refused.yaml,line=2,endLine=2,col=6,endColumn=6::no anchor with this name comes before it in this document\n::error title=read-failed,file=none.yaml,line=1,endLine=1,col=1,endColumn=1::input can't be read\n::warning title=not-formatted,file=a.yaml,line=2,endLine=2,col=8,endColumn=8::not formatted\n",
+        "refused.yaml:2:6 refused: unknown-alias\nnone.yaml: read failed\n",
+        "a.yaml refused.yaml none.yaml ",
+        BEFORE,
+    ),
+    (
+        "fmt --format checkstyle --check at2 a.yaml",
+        2,
+        "<?xml version=\"1.0\" encoding=\"UTF-8\"?>\n<checkstyle version=\"4.3\">\n<file name=\"at2\">\n<error line=\"2\" column=\"1\" severity=\"error\" message=\"byte is no UTF-8\" source=\"not-utf8\"/>\n</file>\n<file name=\"a.yaml\">\n<error line=\"2\" column=\"8\" severity=\"warning\" message=\"not formatted\" source=\"not-formatted\"/>\n</file>\n</checkstyle>\n",
+        "at2: byte 2 refused: not-utf8\n",
+        "at2 a.yaml ",
+        BEFORE,
+    ),
+    (
+        "fmt --check --explain --format json refused.yaml",
+        2,
+        "[{\"file\":\"refused.yaml\",\"line\":2,\"column\":6,\"end_line\":2,\"end_column\":6,\"rule\":\"unknown-alias\",\"severity\":\"error\",\"message\":\"no anchor with this name comes before it in this document\",\"fixable\":false}]",
+        "2:6 refused: unknown-alias\n  no anchor with this name comes before it in this document\n  | - b: *x\n  |      ^\n",
+        "refused.yaml ",
+        BEFORE,
+    ),
+    (
+        "fmt --check --format full a.yaml",
+        1,
+        "a.yaml:2:8 not-formatted: not formatted (fixable)\n  | a: \"x\" # c\n  |        ^\n1 finding, 1 fixable by yamlfmt fmt\n",
         "",
         "a.yaml ",
         BEFORE,

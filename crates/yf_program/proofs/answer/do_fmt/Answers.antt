@@ -4,10 +4,10 @@ pub returns-in-Print : goal.returns-in-Print
 returns-in-Print g c = rw c.in-Print.is c.do_scoped.ensures.does
 
 pub returns-in-Check : goal.returns-in-Check
-returns-in-Check g c = rw c.in-Check.is c.do_inputs.ensures
+returns-in-Check g c = rw c.in-Check.is c.do_compare.ensures
 
 pub returns-in-Diff : goal.returns-in-Diff
-returns-in-Diff g c = rw c.in-Diff.is c.do_inputs-in-Diff.ensures
+returns-in-Diff g c = rw c.in-Diff.is c.do_inputs.ensures
 
 pub returns-in-Write : goal.returns-in-Write
 returns-in-Write g c = rw c.in-Write.is c.rewrite_files.ensures

@@ -12,8 +12,8 @@ returns-in-Ok-clause-gives g c =
     IfOk-weaker c.add_guarded.result _ _
     (λ status d. no_data_given c.args.task.now (option_map (λ n. n.now) c.args.name) status stream stream
     c.args.files.now.items c.add_guarded.new.files.items c.args.bytes.now c.args.finding.now
-    c.as_slice.result.now c.as_slice-asked.result.now c.in-Ok.problems.items d.0 c.as_slice.ensures.value
-    c.as_slice-asked.ensures.value c.in-Ok.ensures.problems d.1 (record { contents = refl; same = refl }) d.2)
+    c.asked_lines-asked.result.now c.in-Ok.problems.items d.0
+    c.asked_lines-asked.ensures c.in-Ok.ensures.problems d.1 (record { contents = refl; same = refl }) d.2)
     c.add_guarded.ensures
 
 pub returns-clause-gives : goal.returns-clause-gives
@@ -24,6 +24,6 @@ returns-clause-gives g c =
     (stream_of g.E.Write.contents g.E.Sink.has_failed c.args.error_stream.now)
     (stream_of g.E.Write.contents g.E.Sink.has_failed c.give_refusal.new.error_stream)
     c.args.files.now.items c.give_refusal.new.files.items c.args.bytes.now c.args.finding.now
-    c.read_problems.new.reader.rest.now c.in-Err.fault c.as_slice-read.result.now
+    c.read_beside.new.reader.rest.now c.in-Err.fault c.as_slice-read.result.now
     c.in-Err.ensures.refusals keeps d.1 d.0)
     c.give_refusal.ensures.gives

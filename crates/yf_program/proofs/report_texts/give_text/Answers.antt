@@ -12,9 +12,9 @@ returns-in-Ok-clause-gives g c =
     IfOk-weaker c.add_found.result _ _
     (λ status d. found_over c.args.task.now (option_map (λ n. n.now) c.args.name) status
     (stream_of g.R.Read.remaining g.R.Source.has_failed c.args.reader.now)
-    (stream_of g.R.Read.remaining g.R.Source.has_failed c.read_problems.new.reader) stream stream
-    c.args.files.now.items c.add_found.new.files.items c.as_slice.result.now c.as_slice-asked.result.now c.in-Ok.problems.items
-    c.as_slice.ensures.value c.as_slice-asked.ensures.value c.in-Ok.ensures.problems c.in-Ok.ensures.reader
+    (stream_of g.R.Read.remaining g.R.Source.has_failed c.read_found.new.reader) stream stream
+    c.args.files.now.items c.add_found.new.files.items c.asked_lines-asked.result.now c.in-Ok.problems.items
+    c.asked_lines-asked.ensures c.in-Ok.ensures.problems c.in-Ok.ensures.reader
     (record { contents = refl; same = refl }) d)
     c.add_found.ensures
 
@@ -24,7 +24,7 @@ returns-clause-gives g c =
     IfOk-weaker c.give_refusal.result _ _
     (λ status d. refused_over c.args.task.now (option_map (λ n. n.now) c.args.name) status
     (stream_of g.R.Read.remaining g.R.Source.has_failed c.args.reader.now)
-    (stream_of g.R.Read.remaining g.R.Source.has_failed c.read_problems.new.reader)
+    (stream_of g.R.Read.remaining g.R.Source.has_failed c.read_found.new.reader)
     (stream_of g.E.Write.contents g.E.Sink.has_failed c.args.error_stream.now)
     (stream_of g.E.Write.contents g.E.Sink.has_failed c.give_refusal.new.error_stream)
     c.args.files.now.items c.give_refusal.new.files.items c.in-Err.fault c.as_slice-bytes.result.now

@@ -1,0 +1,92 @@
+//! The work on the text of an input, for a report.
+ghost use Rattle.std.specs.Prelude.{◌≡◌, IfErr, IfOk, MatchResult, OnOk};
+ghost use Rattle.yf_program.specs.Reports.{Finds, FindsBeside, asked_lines};
+ghost use Rattle.yf_rules.specs.Runs.ByteStream.{stream_of};
+ghost use Rattle.yf_rules.specs.Runs.Run.{Gave, Keeps, RefusedText};
+
+use std::alloc::Global;
+use yf_findings::differences::read_difference;
+use yf_findings::owned::OwnedProblem;
+use yf_findings::reading::read_problems;
+use yf_forms::style::Style;
+use yf_line_ranges::range::LineRange;
+use yf_lines::fault::Fault;
+use yf_lines::text::OwnedText;
+use yf_lines::watched::Source;
+
+/// The work on the text of an input, for a report.
+#[derive(Drop)]
+pub enum ReportWork {
+    /// The findings of the rules in it are listed.
+    Check {
+        /// The names of the rules that are left out.
+        without: Vec<OwnedText>,
+        /// The lines to check, or no lines if all are checked.
+        lines: Vec<LineRange>,
+    },
+    /// The first position at which it differs from its formatting is listed.
+    Compare,
+}
+
+/// Returns the lines whose problems are listed, or no lines if all are.
+pub fn asked_lines(work: &ReportWork) -> &[LineRange]
+    ensures { result.now ≡ asked_lines work.now }
+{
+    match work {
+        ReportWork::Check { lines, .. } => lines.as_slice(),
+        ReportWork::Compare => &[],
+    }
+}
+
+/// Reads all bytes, and returns the problems that the work finds in the text. The bytes are kept for the caller.
+///
+/// # Errors
+///
+/// Fails like `read_problems`.
+pub fn read_found<R: Source>(
+    alloc: Global,
+    work: &ReportWork,
+    style: &Style,
+    reader: &mut R,
+    kept: &mut Vec<u8>,
+) -> Result<Vec<OwnedProblem>, Fault>
+    ensures problems { IfOk result (λ ps. Finds work.now style.now (R.remaining reader.old) ps.items) }
+    ensures reader { OnOk result (R.has_failed reader.new ≡ R.has_failed reader.old) }
+    ensures bytes { MatchResult result (λ _. Gave (R.remaining reader.old) kept.new.items)
+        (Keeps (R.remaining reader.old) kept.new.items) }
+    ensures refusals { IfErr result (λ fault. RefusedText (stream_of R.remaining R.has_failed reader.old)
+        (stream_of R.remaining R.has_failed reader.new) fault) }
+{
+    match work {
+        ReportWork::Check { without, .. } => {
+            read_problems(alloc, without.as_slice(), style, reader, kept)
+        }
+        ReportWork::Compare => read_difference(alloc, style, reader, kept),
+    }
+}
+
+/// Returns the problems that the work finds in a text that is no data, besides the problem that says so. A comparison
+/// finds none, and doesn't read the text. The bytes that are read are kept for the caller.
+///
+/// # Errors
+///
+/// Fails like `read_problems`.
+pub fn read_beside<R: Source>(
+    alloc: Global,
+    work: &ReportWork,
+    style: &Style,
+    reader: &mut R,
+    kept: &mut Vec<u8>,
+) -> Result<Vec<OwnedProblem>, Fault>
+    ensures problems { IfOk result (λ ps. FindsBeside work.now style.now (R.remaining reader.old) ps.items) }
+    ensures bytes { IfErr result (Keeps (R.remaining reader.old) kept.new.items) }
+    ensures refusals { IfErr result (λ fault. RefusedText (stream_of R.remaining R.has_failed reader.old)
+        (stream_of R.remaining R.has_failed reader.new) fault) }
+{
+    match work {
+        ReportWork::Check { without, .. } => {
+            read_problems(alloc, without.as_slice(), style, reader, kept)
+        }
+        ReportWork::Compare => Ok(Vec::new(alloc)),
+    }
+}
