@@ -4,8 +4,8 @@
 Usage: bench/proved.py [--check | --write]
 
 Each row has a function, the names of its `ensures` clauses, and the first words of its doc comment. The page also has,
-per crate, the numbers of functions, of functions with a contract, and of must-fail edits. With --check it fails if the
-page differs from the sources, with --write it writes the page, and otherwise it prints the page.
+per crate, the number of functions with a contract. With --check it fails if the page differs from the sources, with
+--write it writes the page, and otherwise it prints the page.
 
 If two crates have a function of one name, bench/proved.txt has CRATE::NAME. --check also fails at a name that no crate
 has.
@@ -22,8 +22,8 @@ HEAD = '''# Proved, crate by crate
 
 Made by `bench/proved.py` from the sources. [PROVED](PROVED.md) explains the theorem of the whole program.
 
-The numbers after a crate's name count its functions, those with a contract, and its must-fail edits. Below are the main
-calls, with the names of their clauses.
+After a crate's name is the number of its functions with a contract. Below are its main calls, with the names of their
+clauses.
 
 '''
 HEADER = re.compile(r'^ *(pub(?:\([^)]*\))? )?(?:const )?fn (\w+)')
@@ -89,17 +89,15 @@ def page():
     """The names of bench/proved.txt that are not in exactly one crate, and the whole page."""
     names, found, parts = listed(), {}, []
     for crate in crates():
-        count, held, rows = 0, 0, []
+        held, rows = 0, []
         for name, free, doc, clauses in functions(crate):
-            count += 1
             held += bool(clauses)
             for asked in (name, '%s::%s' % (crate, name)):
                 if free and clauses and asked in names:
                     found.setdefault(asked, []).append(crate)
                     shown = ' (%s)' % ', '.join('`%s`' % one for one in clauses if one) if any(clauses) else ''
                     rows += wrapped('  - `%s`%s: %s' % (name, shown, sentence(doc)))
-        edits = len(glob.glob('%s/crates/%s/must-fail/*.edit' % (TOP, crate)))
-        parts += ['- **%s** (%d, %d, %d)' % (crate, count, held, edits), *rows]
+        parts += ['- **%s** (%d)' % (crate, held), *rows]
     wrong = ['%s %s' % (name, found.get(name, '')) for name in names if len(found.get(name, [])) != 1]
     return wrong, HEAD + '\n'.join(parts) + '\n'
 
