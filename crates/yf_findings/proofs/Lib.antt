@@ -3,6 +3,7 @@ pub mod ListLemmas
 pub mod FoundPlaces
 pub mod DetailLemmas
 pub mod TextLemmas
+pub mod ChangeLemmas
 pub mod FileLemmas
 pub mod SelectionLemmas
 pub mod StatisticsLemmas

@@ -48,7 +48,7 @@ first_counted n [] = sym (take-nil n)
 first_counted n (f ∷ files) =
     let rest = n - length (counted f.1) in
     let later = flat_map counted_entries (first_problems rest files) in
-    flat_map-cons counted_entries (f.0, at_most n f.1) (first_problems rest files)
+    flat_map-cons counted_entries (f.0, at_most n f.1, f.2) (first_problems rest files)
     ∙ ap (λ ps. map (entry_with f.0) ps ++ later) (counted_first n f.1)
     ∙ ap (λ x. x ++ later) (sym (take-map (entry_with f.0) n (counted f.1)))
     ∙ ap (λ x. take n (counted_entries f) ++ x) (first_counted rest files)

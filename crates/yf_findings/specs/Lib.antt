@@ -6,6 +6,7 @@ pub mod Reading
 pub mod Refusals
 pub mod Problems
 pub mod Texts
+pub mod Changes
 pub mod Selection
 pub mod LineForm
 pub mod Statistics

@@ -3,6 +3,7 @@ use Rattle.std.specs.Prelude.{ℕ, ◌-◌, ◌≤◌, ◌==◌, ◌&&◌, Bool,
 use Rattle.std.specs.List.{filter, list_all, list_any}
 use Rattle.yf_findings.specs.Files.{entry_with}
 use Rattle.yf_findings.specs.LineForm.{is_finding}
+use Rattle.yf_findings.specs.declared.changes.Change.{Change}
 use Rattle.yf_findings.specs.declared.files.FileProblems.{FileProblems}
 use Rattle.yf_findings.specs.declared.owned.OwnedProblem.{OwnedProblem}
 use Rattle.yf_line_ranges.specs.declared.range.LineRange.{LineRange}
@@ -36,12 +37,12 @@ is_on asked p = list_any (meets p.range) asked
 abbrev pub on_lines : List LineRange → List OwnedProblem → List OwnedProblem
 on_lines asked ps = if length asked == 0 then ps else filter (is_on asked) ps
 
--- the problems of an input, with its name
+-- the problems of an input, with its name and its changes
 abbrev pub Listed : Type 0
-Listed = Option (List ℕ) × List OwnedProblem
+Listed = Option (List ℕ) × List OwnedProblem × List Change
 
 abbrev pub listed_in : FileProblems → Listed
-listed_in f = (f.file, f.problems.items)
+listed_in f = (f.file, f.problems.items, f.changes.items)
 
 -- the findings of an input, which a limit counts: an input with a refusal has none
 abbrev pub counted : List OwnedProblem → List OwnedProblem
@@ -58,7 +59,7 @@ count_findings files = sum_by (λ (f : FileProblems). length (counted f.problems
 -- the inputs with only the first findings, n of all inputs together
 abbrev pub first_problems : ℕ → List Listed → List Listed
 first_problems n [] = []
-first_problems n (f ∷ files) = (f.0, at_most n f.1) ∷ first_problems (n - length (counted f.1)) files
+first_problems n (f ∷ files) = (f.0, at_most n f.1, f.2) ∷ first_problems (n - length (counted f.1)) files
 
 -- the entries of the findings of an input
 abbrev pub counted_entries : Listed → List Entry

@@ -1,6 +1,6 @@
 //! The report of the problems of several inputs, in a form.
-ghost use Rattle.std.specs.Prelude.{IfOk};
-ghost use Rattle.yf_findings.specs.Printed.{Printed};
+ghost use Rattle.std.specs.Prelude.{◌≡◌, IfOk};
+ghost use Rattle.yf_findings.specs.Printed.{Printed, has_fixes, shows_changes};
 
 use crate::files::{FileProblems, report_of};
 use crate::full::full_of;
@@ -21,6 +21,32 @@ pub enum Form {
     Statistics,
     /// For programs.
     Report(Format),
+}
+
+/// Returns whether a report in this form shows changes between a text and its formatting.
+pub fn shows_changes(form: Form) -> bool
+    ensures { result ≡ shows_changes form }
+{
+    match form {
+        Form::Lines { named: _ } => false,
+        Form::Full { colored: _ } => false,
+        Form::Statistics => false,
+        Form::Report(format) => has_fixes(format),
+    }
+}
+
+// Returns whether a format of reports has fixes.
+fn has_fixes(format: Format) -> bool
+    ensures { result ≡ has_fixes format }
+{
+    match format {
+        Format::Sarif => true,
+        Format::Json => false,
+        Format::Github => false,
+        Format::Gitlab => false,
+        Format::Junit => false,
+        Format::Checkstyle => false,
+    }
 }
 
 /// Returns the report of the problems of several inputs in a form.

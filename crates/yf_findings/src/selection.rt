@@ -90,6 +90,7 @@ fn cut_all(files: &mut Vec<FileProblems>, limit: usize)
 // Keeps only the first `limit` findings of an input, and returns how many more findings the limit allows.
 fn cut(file: &mut FileProblems, limit: usize) -> usize
     ensures name { file.new.file ≡ file.old.file }
+    ensures changes { file.new.changes.items ≡ file.old.changes.items }
     ensures kept { file.new.problems.items ≡ at_most limit file.old.problems.items }
     ensures left { result ≡ limit - length (counted file.old.problems.items) }
 {

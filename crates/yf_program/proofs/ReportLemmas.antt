@@ -8,8 +8,10 @@ use Rattle.yf_command_line.specs.declared.command.Input.{Input}
 use Rattle.yf_explain.specs.Explained.{Explains}
 use Rattle.yf_findings.specs.Guards.{WithGuard}
 use Rattle.yf_findings.specs.Refusals.{RefusalProblem}
+use Rattle.yf_findings.specs.declared.changes.Change.{Change}
 use Rattle.yf_findings.specs.declared.files.FileProblems.{FileProblems}
 use Rattle.yf_findings.specs.declared.owned.OwnedProblem.{OwnedProblem}
+use Rattle.yf_findings.specs.declared.texts.CheckedText.{CheckedText}
 use Rattle.yf_guard.specs.declared.guarded.Guarded.TheVariants.{Vault}
 use Rattle.yf_guarded.specs.Judged.{GivesJudged}
 use Rattle.yf_guarded.specs.declared.read.Verdict.{Verdict}
@@ -34,19 +36,27 @@ use Rattle.yf_program.specs.declared.scope.Scope.{Scope}
 
 -- what was given by the inputs as they are now was given by the inputs as they were
 module _ (before after : InputClaim) (known : StillKnown before after) (scope : Scope) (task : ReportTask) where
-  either_before : (input : Input) (problems : List OwnedProblem) (status : ℕ) (old new : ByteStream) (P : ReadClaim)
-      → GivesUnopened after task input problems status old new ⊎ OpensReader after input P
-      → GivesUnopened before task input problems status old new ⊎ OpensReader before input P
-  either_before input problems status old new P (inl d) =
+  either_before : (input : Input) (file : FileProblems) (status : ℕ) (old new : ByteStream) (P : ReadClaim)
+      → GivesUnopened after task input file status old new ⊎ OpensReader after input P
+      → GivesUnopened before task input file status old new ⊎ OpensReader before input P
+  either_before input file status old new P (inl d) =
       inl (d.0, (λ told. known.fails input (d.1 (known.tells told))), d.2, d.3)
-  either_before input problems status old new P (inr d) =
+  either_before input file status old new P (inr d) =
       inr (d.0, d.1, ((λ told. d.2.0 (known.tells told) ∙ known.holds input), d.2.1, λ told failed. known.fails input (d.2.2 (known.tells told) failed)), d.3)
 
   given_before : (input : Input) (status : ℕ) (old new : ReportState)
       → GivesInput after scope task input status old new → GivesInput before scope task input status old new
   given_before input status old new d =
-      let P = GivesRead scope task input d.1.0.problems.items status old.errors new.errors in
-      ((λ noted. d.0 (known.notes noted)), (d.1.0, d.1.1, either_before input d.1.0.problems.items status old.errors new.errors P d.1.2, d.1.3))
+      let P = GivesRead scope task input d.1.0 status old.errors new.errors in (
+        (λ noted. d.0 (known.notes noted)),
+        (
+          d.1.0,
+          d.1.1,
+          either_before input d.1.0 status old.errors new.errors P
+              d.1.2,
+          d.1.3,
+        ),
+      )
 
   scoped_before : (input : Input) (status : ℕ) (old new : ReportState)
       → GivesScoped after scope task input status old new → GivesScoped before scope task input status old new
@@ -163,12 +173,13 @@ module _ (claim : InputClaim) (scope : Scope) (task : ReportTask) (before after 
 
 -- the problems of a text that was checked, and the problem of one that was refused
 module _ (task : ReportTask) (name : Option (List ℕ)) (status : ℕ) (reader left before after : ByteStream) (old new : List FileProblems) where
-  pub found_over : (asked : List LineRange) (all : List OwnedProblem) → asked ≡ asked_lines task.work
-      → Finds task.work task.style reader.contents all → NoFailure reader left
-      → NothingWritten before after → AddsFile name (λ added. AreAsked asked all added status) old new
+  pub found_over : (asked : List LineRange) (all : CheckedText) → asked ≡ asked_lines task.work
+      → Finds task.work task.form task.style reader.contents all → NoFailure reader left
+      → NothingWritten before after
+      → AddsFile name (λ added. AreAsked asked all.problems.items all.changes.items added status) old new
       → AddsFile name (λ added. GivesOver task added status reader left before after) old new
   found_over asked all lines found works nothing d =
-      let kept = subst (λ (a : List LineRange). AreAsked a all d.0.problems.items status) lines d.2 in
+      let kept = subst (λ (a : List LineRange). AreAsked a all.problems.items all.changes.items d.0 status) lines d.2 in
       (d.0, d.1, inl (all, found, kept, works, nothing), d.3)
 
   pub refused_over : (f : Fault) (bytes : List ℕ) → Runs.RefusedText reader left f → Runs.Keeps reader.contents bytes f
@@ -192,17 +203,19 @@ module _ (task : ReportTask) (name : Option (List ℕ)) (status : ℕ) (before a
       → AddsFile name (λ added. GivesAsJudged task verdict.Passed t added status before after) old new
   passed_given rest d = (d.0, d.1, (rest, d.2), d.3)
 
-  pub encrypted_given : (problems : List OwnedProblem) → problems ≡ [] → status ≡ left_status Vault → WrittenOrFailed before after (left_line Vault)
-      → AddsFile name (λ added. added ≡ problems) old new
+  pub encrypted_given : (problems : List OwnedProblem) (changes : List Change) → problems ≡ [] → changes ≡ []
+      → status ≡ left_status Vault → WrittenOrFailed before after (left_line Vault)
+      → AddsFile name (λ added. (added.problems.items ≡ problems) × (added.changes.items ≡ changes)) old new
       → AddsFile name (λ added. GivesAsJudged task verdict.Encrypted t added status before after) old new
-  encrypted_given problems none ends told d = (d.0, d.1, (d.2 ∙ none, ends, told), d.3)
+  encrypted_given problems changes none same ends told d = (d.0, d.1, (d.2.0 ∙ none, d.2.1 ∙ same, ends, told), d.3)
 
-  pub no_data_given : (f : Finding) (asked : List LineRange) (found all : List OwnedProblem)
+  pub no_data_given : (f : Finding) (asked : List LineRange) (found : CheckedText) (all : List OwnedProblem)
       → asked ≡ asked_lines task.work → FindsBeside task.work task.style (Some t) found
-      → WithGuard t f found all → NothingWritten before after → AddsFile name (λ added. AreAsked asked all added status) old new
+      → WithGuard t f found.problems.items all → NothingWritten before after
+      → AddsFile name (λ added. AreAsked asked all [] added status) old new
       → AddsFile name (λ added. GivesAsJudged task (verdict.NoData f) t added status before after) old new
   no_data_given f asked found all lines checked guarded nothing d =
-      let kept = subst (λ (a : List LineRange). AreAsked a all d.0.problems.items status) lines d.2 in
+      let kept = subst (λ (a : List LineRange). AreAsked a all [] d.0 status) lines d.2 in
       (d.0, d.1, inl (found, all, checked, guarded, kept, nothing), d.3)
 
   pub no_data_refused : (f : Finding) (rest : List ℕ) (g : Fault) (bytes : List ℕ) → Runs.RefusedText (held t) (held rest) g
@@ -219,8 +232,9 @@ module _ (claim : InputClaim) (scope : Scope) (task : ReportTask) (input : Input
       (GivesOver task added status reader left before.errors after.errors)) before.files after.files
       → GivesInput claim scope task input status before after
   opened_given reader left judges name judged named opened opens d =
-      let read = subst (λ (b : Bool). MatchBool b (GivesJudgedText task d.0.problems.items status reader left before.errors after.errors)
-      (GivesOver task d.0.problems.items status reader left before.errors after.errors)) judged d.2 in
+      let read = subst (λ (b : Bool). MatchBool b (GivesJudgedText task d.0 status reader left before.errors
+      after.errors)
+      (GivesOver task d.0 status reader left before.errors after.errors)) judged d.2 in
       (opened, (d.0, d.1 ∙ named, inr (reader, left, opens, read), d.3))
 
   pub unopened_given : (f : Fault) → f ≡ fault.ReadFailed → InputsOpened claim before.opened after.opened (input ∷ []) → IsFile input
@@ -228,7 +242,7 @@ module _ (claim : InputClaim) (scope : Scope) (task : ReportTask) (input : Input
       → AddsFile (file_name scope.stdin_name input) (IsOnly (RefusalProblem [] f)) before.files after.files
       → GivesInput claim scope task input status before after
   unopened_given f failed opened file fails ends d =
-      let refusal = subst (λ (g : Fault). IsOnly (RefusalProblem [] g) d.0.problems.items) failed d.2 in
+      let refusal = subst (λ (g : Fault). IsOnly (RefusalProblem [] g) d.0) failed d.2 in
       let told = subst (λ (g : Fault). EndsTold task.explain AnyLines g status before.errors after.errors) failed ends in
       (opened, (d.0, d.1, inl (file, fails, refusal, told), d.3))
 

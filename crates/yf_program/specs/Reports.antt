@@ -1,7 +1,7 @@
 -- What `check` does if it doesn't write each finding at once, and `fmt --check` with `--format`: the problems of all
 -- inputs are in one report, which is written last.
 -- (before, after: the states, the streams or one stream before and after a step;
--- reader, left: a reader before and after it was read; problems: those of one input)
+-- reader, left: a reader before and after it was read; file: what the report has of one input)
 use Rattle.std.specs.Prelude.{◌≡◌, ◌⊎◌, ◌++◌, ◌∷◌, ◌-◌, ◌==◌, ℕ, max, List, [], map, Bool, true, false}
 use Rattle.std.specs.Prelude.{Option, Some, None}
 use Rattle.std.specs.List.{concat}
@@ -11,14 +11,16 @@ use Rattle.yf_command_line.specs.declared.command.Input.{Input}
 use Rattle.yf_command_line.specs.declared.command.Input.TheVariants.{Standard, File}
 use Rattle.yf_explain.specs.Explained.{Explains}
 use Rattle.yf_findings.specs.Differences.{ReadDifference}
-use Rattle.yf_findings.specs.Printed.{Printed}
+use Rattle.yf_findings.specs.Printed.{Printed, shows_changes}
 use Rattle.yf_findings.specs.Guards.{WithGuard}
 use Rattle.yf_findings.specs.Reading.{ReadProblems}
 use Rattle.yf_findings.specs.Refusals.{RefusalProblem}
 use Rattle.yf_findings.specs.Selection.{count_findings, first_problems, listed_in, on_lines}
+use Rattle.yf_findings.specs.declared.changes.Change.{Change}
 use Rattle.yf_findings.specs.declared.files.FileProblems.{FileProblems}
 use Rattle.yf_findings.specs.declared.printed.Form.{Form}
 use Rattle.yf_findings.specs.declared.owned.OwnedProblem.{OwnedProblem}
+use Rattle.yf_findings.specs.declared.texts.CheckedText.{CheckedText}
 use Rattle.yf_forms.specs.declared.style.Style.{Style}
 use Rattle.yf_guard.specs.declared.guarded.Guarded.TheVariants.{Vault}
 use Rattle.yf_guarded.specs.Judged.{GivesJudged}
@@ -71,24 +73,26 @@ abbrev pub asked_lines : ReportWork → List LineRange
 asked_lines (work.Check without lines) = lines.items
 asked_lines work.Compare = []
 
--- The work found these problems in the text that was read.
-abbrev pub Finds : ReportWork → Style → Option (List ℕ) → List OwnedProblem → Type 0
-Finds (work.Check without lines) style known all = ReadProblems without.items style known all
-Finds work.Compare style known all = ReadDifference style known all
+-- The work found these problems in the text that was read. A check lists the changes between the text and its formatting
+-- if the form of the report shows them. A comparison lists no changes.
+abbrev pub Finds : ReportWork → Form → Style → Option (List ℕ) → CheckedText → Type 0
+Finds (work.Check without lines) form style known all = ReadProblems (shows_changes form) without.items style known all
+Finds work.Compare form style known all = ReadDifference style known all.problems.items × (all.changes.items ≡ [])
 
 -- The work found these problems in a text that is no data, besides the problem that says so. A text that is no data is
 -- not compared.
-abbrev pub FindsBeside : ReportWork → Style → Option (List ℕ) → List OwnedProblem → Type 0
-FindsBeside (work.Check without lines) style known found = ReadProblems without.items style known found
-FindsBeside work.Compare style known found = found ≡ []
+abbrev pub FindsBeside : ReportWork → Style → Option (List ℕ) → CheckedText → Type 0
+FindsBeside (work.Check without lines) style known found = ReadProblems false without.items style known found
+FindsBeside work.Compare style known found = found.problems.items ≡ []
 
 -- ---- The problems of an input
 
--- There is one problem, and P holds of it.
-pub record IsOnly (P : OwnedProblem → Type 0) (problems : List OwnedProblem) : Type 0 where
+-- There is one problem, and P holds of it. There are no changes.
+pub record IsOnly (P : OwnedProblem → Type 0) (file : FileProblems) : Type 0 where
   pub problem : OwnedProblem
   pub is : P problem
-  pub only : problems ≡ problem ∷ []
+  pub only : file.problems.items ≡ problem ∷ []
+  pub unchanged : file.changes.items ≡ []
 
 abbrev pub has_problem : List OwnedProblem → Bool
 has_problem [] = false
@@ -96,52 +100,58 @@ has_problem (p ∷ ps) = true
 
 -- The text that a reader has was refused, or could not be read: that is its only problem, and the line of the fault was
 -- written to the stream of faults.
-abbrev pub GivesFault : ReportTask → List OwnedProblem → ℕ → ByteStream → ByteStream → ByteStream → ByteStream → Type 0
-GivesFault task problems status reader left before after =
+abbrev pub GivesFault : ReportTask → FileProblems → ℕ → ByteStream → ByteStream → ByteStream → ByteStream → Type 0
+GivesFault task file status reader left before after =
     (f : Fault) × (bytes : List ℕ) × Runs.RefusedText reader left f × Runs.Keeps reader.contents bytes f
-    × IsOnly (RefusalProblem bytes f) problems × EndsTold task.explain (Explains bytes f) f status before after
+    × IsOnly (RefusalProblem bytes f) file × EndsTold task.explain (Explains bytes f) f status before after
 
--- The problems are those of all that are on the asked lines, and the status is that of a check that found them.
-abbrev pub AreAsked : List LineRange → List OwnedProblem → List OwnedProblem → ℕ → Type 0
-AreAsked lines all problems status = (problems ≡ on_lines lines all) × (status ≡ check_status (has_problem problems))
+-- The file has the problems of all that are on the asked lines, and these changes. The status is that of a check that
+-- found these problems.
+abbrev pub AreAsked : List LineRange → List OwnedProblem → List Change → FileProblems → ℕ → Type 0
+AreAsked lines all changes file status =
+    (file.problems.items ≡ on_lines lines all) × (file.changes.items ≡ changes)
+    × (status ≡ check_status (has_problem file.problems.items))
 
--- The work was done with the text that a reader has, and these are its problems on the asked lines; or it was refused.
-abbrev pub GivesOver : ReportTask → List OwnedProblem → ℕ → ByteStream → ByteStream → ByteStream → ByteStream → Type 0
-GivesOver task problems status reader left before after =
-    ((all : List OwnedProblem) × Finds task.work task.style reader.contents all
-    × AreAsked (asked_lines task.work) all problems status × NoFailure reader left × NothingWritten before after)
-    ⊎ GivesFault task problems status reader left before after
+-- The work was done with the text that a reader has, and these are its problems on the asked lines, with its changes;
+-- or it was refused.
+abbrev pub GivesOver : ReportTask → FileProblems → ℕ → ByteStream → ByteStream → ByteStream → ByteStream → Type 0
+GivesOver task file status reader left before after =
+    ((all : CheckedText) × Finds task.work task.form task.style reader.contents all
+    × AreAsked (asked_lines task.work) all.problems.items all.changes.items file status × NoFailure reader left
+    × NothingWritten before after)
+    ⊎ GivesFault task file status reader left before after
 
 -- The text t is no data, as the finding f says. Its problems are those that a check finds, and among them that of the
--- finding, as far as they are asked for; or it was refused.
-abbrev pub GivesNoData : ReportTask → Finding → List ℕ → List OwnedProblem → ℕ → ByteStream → ByteStream → Type 0
-GivesNoData task f t problems status before after =
-    ((found : List OwnedProblem) × (all : List OwnedProblem)
-    × FindsBeside task.work task.style (Some t) found × WithGuard t f found all
-    × AreAsked (asked_lines task.work) all problems status × NothingWritten before after)
-    ⊎ ((rest : List ℕ) × GivesFault task problems status (held t) (held rest) before after)
+-- finding, as far as they are asked for; or it was refused. `fmt` leaves the text alone, so there are no changes.
+abbrev pub GivesNoData : ReportTask → Finding → List ℕ → FileProblems → ℕ → ByteStream → ByteStream → Type 0
+GivesNoData task f t file status before after =
+    ((found : CheckedText) × (all : List OwnedProblem)
+    × FindsBeside task.work task.style (Some t) found × WithGuard t f found.problems.items all
+    × AreAsked (asked_lines task.work) all [] file status × NothingWritten before after)
+    ⊎ ((rest : List ℕ) × GivesFault task file status (held t) (held rest) before after)
 
 -- What the check of a text gives, by the verdict on the text. An encrypted text has no problem, and a line says that it
 -- is skipped.
-abbrev pub GivesAsJudged : ReportTask → Verdict → List ℕ → List OwnedProblem → ℕ → ByteStream → ByteStream → Type 0
-GivesAsJudged task verdict.Passed t problems status before after =
-    (rest : List ℕ) × GivesOver task problems status (held t) (held rest) before after
-GivesAsJudged task verdict.Encrypted t problems status before after =
-    (problems ≡ []) × (status ≡ left_status Vault) × WrittenOrFailed before after (left_line Vault)
-GivesAsJudged task (verdict.NoData f) t problems status before after = GivesNoData task f t problems status before after
+abbrev pub GivesAsJudged : ReportTask → Verdict → List ℕ → FileProblems → ℕ → ByteStream → ByteStream → Type 0
+GivesAsJudged task verdict.Passed t file status before after =
+    (rest : List ℕ) × GivesOver task file status (held t) (held rest) before after
+GivesAsJudged task verdict.Encrypted t file status before after =
+    (file.problems.items ≡ []) × (file.changes.items ≡ []) × (status ≡ left_status Vault)
+    × WrittenOrFailed before after (left_line Vault)
+GivesAsJudged task (verdict.NoData f) t file status before after = GivesNoData task f t file status before after
 
 -- The text that a reader has was judged, and the work was done as the verdict says; or it was refused.
-abbrev pub GivesJudgedText : ReportTask → List OwnedProblem → ℕ → ByteStream → ByteStream → ByteStream → ByteStream
+abbrev pub GivesJudgedText : ReportTask → FileProblems → ℕ → ByteStream → ByteStream → ByteStream → ByteStream
     → Type 0
-GivesJudgedText task problems status reader left before after =
+GivesJudgedText task file status reader left before after =
     ((t : List ℕ) × (v : Verdict) × GivesJudged true reader.contents t v × NoFailure reader left
-    × GivesAsJudged task v t problems status before after)
-    ⊎ GivesFault task problems status reader left before after
+    × GivesAsJudged task v t file status before after)
+    ⊎ GivesFault task file status reader left before after
 
 -- The input is a file that could not be opened, since it fails: that is its only problem.
-abbrev pub GivesUnopened : InputClaim → ReportTask → Input → List OwnedProblem → ℕ → ByteStream → ByteStream → Type 0
-GivesUnopened claim task input problems status before after =
-    IsFile input × (claim.tells → claim.fails input) × IsOnly (RefusalProblem [] fault.ReadFailed) problems
+abbrev pub GivesUnopened : InputClaim → ReportTask → Input → FileProblems → ℕ → ByteStream → ByteStream → Type 0
+GivesUnopened claim task input file status before after =
+    IsFile input × (claim.tells → claim.fails input) × IsOnly (RefusalProblem [] fault.ReadFailed) file
     × EndsTold task.explain AnyLines fault.ReadFailed status before after
 
 -- What holds of a reader before and after it was read.
@@ -153,10 +163,10 @@ abbrev pub OpensReader : InputClaim → Input → ReadClaim → Type 0
 OpensReader claim input P = (reader : ByteStream) × (left : ByteStream) × Opens claim input reader left × P reader left
 
 -- The text that a reader of the input has was checked. If `is_judged` holds of the input, the text was judged first.
-abbrev pub GivesRead : Scope → ReportTask → Input → List OwnedProblem → ℕ → ByteStream → ByteStream → ReadClaim
-GivesRead scope task input problems status before after = λ reader left.
-    MatchBool (is_judged scope input) (GivesJudgedText task problems status reader left before after)
-    (GivesOver task problems status reader left before after)
+abbrev pub GivesRead : Scope → ReportTask → Input → FileProblems → ℕ → ByteStream → ByteStream → ReadClaim
+GivesRead scope task input file status before after = λ reader left.
+    MatchBool (is_judged scope input) (GivesJudgedText task file status reader left before after)
+    (GivesOver task file status reader left before after)
 
 -- What changes while inputs are checked for a report: the inputs that were opened, in order; the files of the report,
 -- with their problems; and the stream of faults.
@@ -178,18 +188,18 @@ abbrev pub file_name : Option (List ℕ) → Input → Option (List ℕ)
 file_name standard Standard = standard
 file_name standard (File name) = Some name
 
--- The problems of the file with this name were added, and P holds of them.
-abbrev pub AddsFile : Option (List ℕ) → (List OwnedProblem → Type 0) → List FileProblems → List FileProblems → Type 0
+-- A file with this name was added, and P holds of it.
+abbrev pub AddsFile : Option (List ℕ) → (FileProblems → Type 0) → List FileProblems → List FileProblems → Type 0
 AddsFile name P old new =
-    (file : FileProblems) × (file.file ≡ name) × P file.problems.items × (new ≡ old ++ file ∷ [])
+    (file : FileProblems) × (file.file ≡ name) × P file × (new ≡ old ++ file ∷ [])
 
 -- The input was opened, and no other, and its problems were added.
 abbrev pub GivesInput : InputClaim → Scope → ReportTask → Input → ReportClaim
 GivesInput claim scope task input status before after =
     InputsOpened claim before.opened after.opened (input ∷ [])
     × AddsFile (file_name scope.stdin_name input)
-    (λ problems. GivesUnopened claim task input problems status before.errors after.errors
-    ⊎ OpensReader claim input (GivesRead scope task input problems status before.errors after.errors))
+    (λ file. GivesUnopened claim task input file status before.errors after.errors
+    ⊎ OpensReader claim input (GivesRead scope task input file status before.errors after.errors))
     before.files after.files
 
 -- The problems of the input were added, unless the settings leave the input out. Then it was not opened, and it is not

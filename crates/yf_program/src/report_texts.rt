@@ -1,5 +1,5 @@
 //! The problems of the text of an input, for a report.
-ghost use Rattle.std.specs.Prelude.{◌≡◌, IfOk, List, MatchBool, OnErr, option_map};
+ghost use Rattle.std.specs.Prelude.{◌≡◌, [], IfOk, List, MatchBool, OnErr, option_map};
 ghost use Rattle.yf_explain.specs.Explained.{Explains};
 ghost use Rattle.yf_findings.specs.Guards.{WithGuard};
 ghost use Rattle.yf_findings.specs.Refusals.{RefusalProblem};
@@ -15,6 +15,7 @@ use crate::further::report_input;
 use crate::report_inputs::ReportTask;
 use crate::report_work::{asked_lines, read_beside, read_found};
 use std::alloc::{AllocError, Global};
+use yf_findings::changes::Change;
 use yf_findings::files::FileProblems;
 use yf_findings::guards::with_guard;
 use yf_findings::owned::OwnedProblem;
@@ -43,11 +44,11 @@ pub fn give_reader<R: Source, E: Sink>(
     error_stream: &mut E,
 ) -> Result<u8, AllocError>
     ensures gives { IfOk result (λ status. AddsFile (option_map (λ n. n.now) name.entry)
-        (λ problems. MatchBool judges
-        (GivesJudgedText task.now problems status
+        (λ added. MatchBool judges
+        (GivesJudgedText task.now added status
         (stream_of R.remaining R.has_failed reader.old) (stream_of R.remaining R.has_failed reader.new)
         (stream_of E.contents E.has_failed error_stream.old) (stream_of E.contents E.has_failed error_stream.new))
-        (GivesOver task.now problems status
+        (GivesOver task.now added status
         (stream_of R.remaining R.has_failed reader.old) (stream_of R.remaining R.has_failed reader.new)
         (stream_of E.contents E.has_failed error_stream.old) (stream_of E.contents E.has_failed error_stream.new)))
         files.old.items files.new.items) }
@@ -70,7 +71,7 @@ fn give_judged<R: Source, E: Sink>(
     error_stream: &mut E,
 ) -> Result<u8, AllocError>
     ensures gives { IfOk result (λ status. AddsFile (option_map (λ n. n.now) name.entry)
-        (λ problems. GivesJudgedText task.now problems status
+        (λ added. GivesJudgedText task.now added status
         (stream_of R.remaining R.has_failed reader.old) (stream_of R.remaining R.has_failed reader.new)
         (stream_of E.contents E.has_failed error_stream.old) (stream_of E.contents E.has_failed error_stream.new))
         files.old.items files.new.items) }
@@ -101,7 +102,7 @@ fn give_as_judged<E: Sink>(
     error_stream: &mut E,
 ) -> Result<u8, AllocError>
     ensures gives { IfOk result (λ status. AddsFile (option_map (λ n. n.now) name.entry)
-        (λ problems. GivesAsJudged task.now verdict.now bytes.now problems status
+        (λ added. GivesAsJudged task.now verdict.now bytes.now added status
         (stream_of E.contents E.has_failed error_stream.old) (stream_of E.contents E.has_failed error_stream.new))
         files.old.items files.new.items) }
     ensures gives_up { OnErr result (NothingWritten (stream_of E.contents E.has_failed error_stream.old)
@@ -129,13 +130,13 @@ fn give_encrypted<E: Sink>(
     error_stream: &mut E,
 ) -> Result<u8, AllocError>
     ensures gives { IfOk result (λ status. AddsFile (option_map (λ n. n.now) name.entry)
-        (λ problems. GivesAsJudged task.now verdict.Encrypted bytes.now problems status
+        (λ added. GivesAsJudged task.now verdict.Encrypted bytes.now added status
         (stream_of E.contents E.has_failed error_stream.old) (stream_of E.contents E.has_failed error_stream.new))
         files.old.items files.new.items) }
     ensures gives_up { OnErr result (NothingWritten (stream_of E.contents E.has_failed error_stream.old)
         (stream_of E.contents E.has_failed error_stream.new)) }
 {
-    match add(alloc, name, Vec::new(alloc), files) {
+    match add(alloc, name, Vec::new(alloc), Vec::new(alloc), files) {
         Ok(()) => Ok(report_left(Guarded::Vault, error_stream)),
         Err(AllocError) => Err(AllocError),
     }
@@ -152,7 +153,7 @@ fn give_no_data<E: Sink>(
     error_stream: &mut E,
 ) -> Result<u8, AllocError>
     ensures gives { IfOk result (λ status. AddsFile (option_map (λ n. n.now) name.entry)
-        (λ problems. GivesAsJudged task.now (verdict.NoData finding.now) bytes.now problems status
+        (λ added. GivesAsJudged task.now (verdict.NoData finding.now) bytes.now added status
         (stream_of E.contents E.has_failed error_stream.old) (stream_of E.contents E.has_failed error_stream.new))
         files.old.items files.new.items) }
     ensures gives_up { OnErr result (NothingWritten (stream_of E.contents E.has_failed error_stream.old)
@@ -161,8 +162,9 @@ fn give_no_data<E: Sink>(
     let mut held = Held { rest: bytes };
     let mut kept = Vec::new(alloc);
     match read_beside(alloc, &task.work, &task.style, &mut held, &mut kept) {
-        Ok(problems) => {
+        Ok(checked) => {
             let asked = asked_lines(&task.work);
+            let problems = checked.problems;
             add_guarded(alloc, asked, name, finding, bytes, problems, files)
         }
         Err(fault) => {
@@ -184,11 +186,11 @@ fn add_guarded(
     files: &mut Vec<FileProblems>,
 ) -> Result<u8, AllocError>
     ensures { IfOk result (λ status. (all : List OwnedProblem) × WithGuard bytes.now finding.now problems.items all
-        × AddsFile (option_map (λ n. n.now) name.entry) (λ added. AreAsked asked.now all added status)
+        × AddsFile (option_map (λ n. n.now) name.entry) (λ added. AreAsked asked.now all [] added status)
         files.old.items files.new.items) }
 {
     let all = with_guard(alloc, bytes, finding, problems)?;
-    add_found(alloc, asked, name, all, files)
+    add_found(alloc, asked, name, all, Vec::new(alloc), files)
 }
 
 // Adds the problems of what a reader has, and returns the status.
@@ -201,7 +203,7 @@ fn give_text<R: Source, E: Sink>(
     error_stream: &mut E,
 ) -> Result<u8, AllocError>
     ensures gives { IfOk result (λ status. AddsFile (option_map (λ n. n.now) name.entry)
-        (λ problems. GivesOver task.now problems status
+        (λ added. GivesOver task.now added status
         (stream_of R.remaining R.has_failed reader.old) (stream_of R.remaining R.has_failed reader.new)
         (stream_of E.contents E.has_failed error_stream.old) (stream_of E.contents E.has_failed error_stream.new))
         files.old.items files.new.items) }
@@ -209,10 +211,10 @@ fn give_text<R: Source, E: Sink>(
         (stream_of E.contents E.has_failed error_stream.new)) }
 {
     let mut kept = Vec::new(alloc);
-    match read_found(alloc, &task.work, &task.style, reader, &mut kept) {
-        Ok(problems) => {
+    match read_found(alloc, &task.work, task.form, &task.style, reader, &mut kept) {
+        Ok(checked) => {
             let asked = asked_lines(&task.work);
-            add_found(alloc, asked, name, problems, files)
+            add_found(alloc, asked, name, checked.problems, checked.changes, files)
         }
         Err(fault) => {
             let bytes = kept.as_slice();
@@ -221,20 +223,22 @@ fn give_text<R: Source, E: Sink>(
     }
 }
 
-// Adds the problems of a text on some lines, and returns the status of a check that found them.
+// Adds the problems of a text on some lines, with the changes of the text, and returns the status of a check that found
+// these problems.
 fn add_found(
     alloc: Global,
     asked: &[LineRange],
     name: Option<&str>,
     problems: Vec<OwnedProblem>,
+    changes: Vec<Change>,
     files: &mut Vec<FileProblems>,
 ) -> Result<u8, AllocError>
     ensures { IfOk result (λ status. AddsFile (option_map (λ n. n.now) name.entry)
-        (λ added. AreAsked asked.now problems.items added status) files.old.items files.new.items) }
+        (λ added. AreAsked asked.now problems.items changes.items added status) files.old.items files.new.items) }
 {
     let kept = on_lines(asked, problems);
     let status = status_of(kept.as_slice());
-    match add(alloc, name, kept, files) {
+    match add(alloc, name, kept, changes, files) {
         Ok(()) => Ok(status),
         Err(AllocError) => Err(AllocError),
     }
@@ -287,21 +291,27 @@ pub fn add_refusal(
     let problem = refusal(alloc, bytes, fault)?;
     let mut problems = Vec::new(alloc);
     problems.push(problem)?;
-    add(alloc, name, problems, files)
+    add(alloc, name, problems, Vec::new(alloc), files)
 }
 
-// Adds problems with the name of their file.
+// Adds problems and changes with the name of their file.
 fn add(
     alloc: Global,
     name: Option<&str>,
     problems: Vec<OwnedProblem>,
+    changes: Vec<Change>,
     files: &mut Vec<FileProblems>,
 ) -> Result<(), AllocError>
-    ensures { IfOk result (λ _. AddsFile (option_map (λ n. n.now) name.entry) (λ added. added ≡ problems.items)
+    ensures { IfOk result (λ _. AddsFile (option_map (λ n. n.now) name.entry)
+        (λ added. (added.problems.items ≡ problems.items) × (added.changes.items ≡ changes.items))
         files.old.items files.new.items) }
 {
     let file = copied(alloc, name)?;
-    files.push(FileProblems { file, problems })?;
+    files.push(FileProblems {
+        file,
+        problems,
+        changes,
+    })?;
     Ok(())
 }
 

@@ -1,5 +1,5 @@
 //! The work on the text of an input, for a report.
-ghost use Rattle.std.specs.Prelude.{◌≡◌, IfErr, IfOk, MatchResult, OnOk};
+ghost use Rattle.std.specs.Prelude.{◌≡◌, [], IfErr, IfOk, MatchResult, OnOk};
 ghost use Rattle.yf_program.specs.Reports.{Finds, FindsBeside, asked_lines};
 ghost use Rattle.yf_rules.specs.Runs.ByteStream.{stream_of};
 ghost use Rattle.yf_rules.specs.Runs.Run.{Gave, Keeps, RefusedText};
@@ -7,7 +7,9 @@ ghost use Rattle.yf_rules.specs.Runs.Run.{Gave, Keeps, RefusedText};
 use std::alloc::Global;
 use yf_findings::differences::read_difference;
 use yf_findings::owned::OwnedProblem;
+use yf_findings::printed::{Form, shows_changes};
 use yf_findings::reading::read_problems;
+use yf_findings::texts::CheckedText;
 use yf_forms::style::Style;
 use yf_line_ranges::range::LineRange;
 use yf_lines::fault::Fault;
@@ -38,7 +40,9 @@ pub fn asked_lines(work: &ReportWork) -> &[LineRange]
     }
 }
 
-/// Reads all bytes, and returns the problems that the work finds in the text. The bytes are kept for the caller.
+/// Reads all bytes, and returns the problems that the work finds in the text. A check also returns the changes between
+/// the text and its formatting, if a report in this form shows them and `fmt` fixes a problem. The bytes are kept for
+/// the caller.
 ///
 /// # Errors
 ///
@@ -46,11 +50,12 @@ pub fn asked_lines(work: &ReportWork) -> &[LineRange]
 pub fn read_found<R: Source>(
     alloc: Global,
     work: &ReportWork,
+    form: Form,
     style: &Style,
     reader: &mut R,
     kept: &mut Vec<u8>,
-) -> Result<Vec<OwnedProblem>, Fault>
-    ensures problems { IfOk result (λ ps. Finds work.now style.now (R.remaining reader.old) ps.items) }
+) -> Result<CheckedText, Fault>
+    ensures problems { IfOk result (Finds work.now form style.now (R.remaining reader.old)) }
     ensures reader { OnOk result (R.has_failed reader.new ≡ R.has_failed reader.old) }
     ensures bytes { MatchResult result (λ _. Gave (R.remaining reader.old) kept.new.items)
         (Keeps (R.remaining reader.old) kept.new.items) }
@@ -59,9 +64,13 @@ pub fn read_found<R: Source>(
 {
     match work {
         ReportWork::Check { without, .. } => {
-            read_problems(alloc, without.as_slice(), style, reader, kept)
+            let changes = shows_changes(form);
+            read_problems(alloc, changes, without.as_slice(), style, reader, kept)
         }
-        ReportWork::Compare => read_difference(alloc, style, reader, kept),
+        ReportWork::Compare => match read_difference(alloc, style, reader, kept) {
+            Ok(problems) => Ok(unchanged(alloc, problems)),
+            Err(fault) => Err(fault),
+        },
     }
 }
 
@@ -77,16 +86,27 @@ pub fn read_beside<R: Source>(
     style: &Style,
     reader: &mut R,
     kept: &mut Vec<u8>,
-) -> Result<Vec<OwnedProblem>, Fault>
-    ensures problems { IfOk result (λ ps. FindsBeside work.now style.now (R.remaining reader.old) ps.items) }
+) -> Result<CheckedText, Fault>
+    ensures problems { IfOk result (FindsBeside work.now style.now (R.remaining reader.old)) }
     ensures bytes { IfErr result (Keeps (R.remaining reader.old) kept.new.items) }
     ensures refusals { IfErr result (λ fault. RefusedText (stream_of R.remaining R.has_failed reader.old)
         (stream_of R.remaining R.has_failed reader.new) fault) }
 {
     match work {
         ReportWork::Check { without, .. } => {
-            read_problems(alloc, without.as_slice(), style, reader, kept)
+            read_problems(alloc, false, without.as_slice(), style, reader, kept)
         }
-        ReportWork::Compare => Ok(Vec::new(alloc)),
+        ReportWork::Compare => Ok(unchanged(alloc, Vec::new(alloc))),
+    }
+}
+
+// Returns these problems, without changes.
+fn unchanged(alloc: Global, problems: Vec<OwnedProblem>) -> CheckedText
+    ensures problems { result.problems.items ≡ problems.items }
+    ensures changes { result.changes.items ≡ [] }
+{
+    CheckedText {
+        problems,
+        changes: Vec::new(alloc),
     }
 }

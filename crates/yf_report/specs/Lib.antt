@@ -2,6 +2,7 @@ pub mod Checkstyle
 pub mod CodeQuality
 pub mod CommandText
 pub mod Commands
+pub mod Fixes
 pub mod Junit
 pub mod Members
 pub mod Problems

@@ -8,7 +8,8 @@ use Rattle.yf_report.specs.declared.problem.Range.{Range}
 use Rattle.yf_report.specs.declared.sarif.Rule.{Rule}
 use Rattle.yf_report.specs.declared.sarif.TheConstants.{ESCAPED}
 use Rattle.yf_report.specs.Members.{member_tokens}
-use Rattle.yf_report.specs.Problems.{Note, Finding, severity_name}
+use Rattle.yf_report.specs.Problems.{Note, severity_name}
+use Rattle.yf_report.specs.Fixes.{Fixed, Replaced}
 
 -- a rule's id, a sentence about it, and what it requires
 pub record Described : Type 0 where
@@ -58,19 +59,47 @@ abbrev pub related_members : List ℕ → Option Note → Members → Members
 related_members uri None more = more
 related_members uri (Some n) more = member (codes "relatedLocations") (array (item (note_json uri n) no_items)) more
 
+-- the text that replaces a range, unless it is empty
+abbrev pub inserted_members : List ℕ → Members
+inserted_members [] = no_members
+inserted_members (c ∷ text) = member (codes "insertedContent") (text_json (c ∷ text)) no_members
+
+abbrev pub replacement_json : Replaced → Json
+replacement_json r = object (member (codes "deletedRegion") (region_json r.range) (inserted_members r.text))
+
+abbrev pub replacement_items : List Replaced → Items
+replacement_items [] = no_items
+replacement_items (r ∷ rs) = item (replacement_json r) (replacement_items rs)
+
+abbrev pub change_json : List ℕ → List Replaced → Json
+change_json uri rs =
+    object (member (codes "artifactLocation") (artifact_json uri)
+    (member (codes "replacements") (array (replacement_items rs)) no_members))
+
+abbrev pub fix_json : List ℕ → List Replaced → Json
+fix_json uri rs =
+    object (member (codes "description") (text_json (codes "format the file"))
+    (member (codes "artifactChanges") (array (item (change_json uri rs) no_items)) no_members))
+
+-- the fix, if there is one, before other members
+abbrev pub fix_members : List ℕ → List Replaced → Members → Members
+fix_members uri [] more = more
+fix_members uri (r ∷ rs) more = member (codes "fixes") (array (item (fix_json uri (r ∷ rs)) no_items)) more
+
 abbrev pub properties_json : Bool → Json
 properties_json fixable = object (member (codes "fixable") (boolean fixable) no_members)
 
-unfoldable pub result_json : Finding → Json
+unfoldable pub result_json : Fixed → Json
 result_json f =
-    object (member (codes "ruleId") (string f.rule)
-    (member (codes "level") (string (severity_name f.severity))
-    (member (codes "message") (text_json f.message)
-    (member (codes "locations") (array (item (location_json (uri_of f.file) f.range) no_items))
-    (related_members (uri_of f.file) f.related
-    (member (codes "properties") (properties_json f.fixable) no_members))))))
+    object (member (codes "ruleId") (string f.finding.rule)
+    (member (codes "level") (string (severity_name f.finding.severity))
+    (member (codes "message") (text_json f.finding.message)
+    (member (codes "locations") (array (item (location_json (uri_of f.finding.file) f.finding.range) no_items))
+    (related_members (uri_of f.finding.file) f.finding.related
+    (fix_members (uri_of f.finding.file) f.fix
+    (member (codes "properties") (properties_json f.finding.fixable) no_members)))))))
 
-abbrev pub result_items : List Finding → Items
+abbrev pub result_items : List Fixed → Items
 result_items [] = no_items
 result_items (f ∷ fs) = item (result_json f) (result_items fs)
 
@@ -92,13 +121,13 @@ driver_json rs =
 abbrev pub tool_json : List Described → Json
 tool_json rs = object (member (codes "driver") (driver_json rs) no_members)
 
-abbrev pub run_json : List Described → List Finding → Json
+abbrev pub run_json : List Described → List Fixed → Json
 run_json rs fs =
     object (member (codes "tool") (tool_json rs)
     (member (codes "columnKind") (string (codes "unicodeCodePoints"))
     (member (codes "results") (array (result_items fs)) no_members)))
 
-abbrev pub log_json : List Described → List Finding → Json
+abbrev pub log_json : List Described → List Fixed → Json
 log_json rs fs =
     object (member (codes "$schema") (string (codes "https://json.schemastore.org/sarif-2.1.0.json"))
     (member (codes "version") (string (codes "2.1.0"))
@@ -109,6 +138,14 @@ log_json rs fs =
 abbrev pub related_tokens : List ℕ → Option Note → List Token
 related_tokens uri None = []
 related_tokens uri (Some n) = member_tokens (codes "relatedLocations") (array (item (note_json uri n) no_items))
+
+abbrev pub inserted_tokens : List ℕ → List Token
+inserted_tokens [] = []
+inserted_tokens (c ∷ text) = member_tokens (codes "insertedContent") (text_json (c ∷ text))
+
+abbrev pub fix_tokens : List ℕ → List Replaced → List Token
+fix_tokens uri [] = []
+fix_tokens uri (r ∷ rs) = member_tokens (codes "fixes") (array (item (fix_json uri (r ∷ rs)) no_items))
 
 -- the tokens before the members of the run
 abbrev pub head_tokens : List Token

@@ -32,6 +32,13 @@ pub struct Related<'a> {
     pub message: &'a str,
 }
 
+/// A part of a text, and the text that replaces it.
+#[derive(Clone, Copy)]
+pub struct Replacement<'a> {
+    pub range: Range,
+    pub text: &'a str,
+}
+
 /// A finding or a refusal.
 #[derive(Clone, Copy)]
 pub struct Problem<'a> {
@@ -46,6 +53,9 @@ pub struct Problem<'a> {
     /// Whether `fmt` fixes it.
     pub fixable: bool,
     pub related: Option<Related<'a>>,
+    /// The parts of the file that other texts replace, all together, to fix the problem. They are in order and don't
+    /// overlap. The list is empty if the report has no fix for the problem.
+    pub fix: &'a [Replacement<'a>],
     /// The line of the text on which the range begins, or a front of it, without its line break.
     pub line_text: &'a str,
 }

@@ -4,12 +4,13 @@ ghost use Rattle.std.specs.Prelude.{option_and_then, option_map};
 ghost use Rattle.json.specs.Json.{document, item, array, no_items};
 ghost use Rattle.json.specs.Tree.{json_tokens};
 ghost use Rattle.yf_report.specs.Members.{Adds, member_tokens};
-ghost use Rattle.yf_report.specs.Problems.{AllFit, finding_of, note_of};
+ghost use Rattle.yf_report.specs.Problems.{note_of};
 ghost use Rattle.yf_report.specs.Sarif as spec;
+ghost use Rattle.yf_report.specs.Fixes.{AllFitFixed, fixed_of, replaced};
 ghost use Rattle.yf_report.specs.SarifRead.{logged, results_in};
 
 use crate::members::{write_flag, write_number, write_text};
-use crate::problem::{Problem, Range, Related};
+use crate::problem::{Problem, Range, Related, Replacement};
 use json::Writer;
 use percent_encoding::{AsciiSet, NON_ALPHANUMERIC, ascii_set, utf8_percent_encode};
 use std::alloc::{AllocError, Global};
@@ -37,7 +38,8 @@ pub struct Rule<'a> {
 /// Returns the report as a SARIF log with one run and the given rules.
 ///
 /// Columns count characters (`columnKind` is `unicodeCodePoints`). The name of a file is a URI with percent escapes,
-/// and standard input has the URI `stdin`. The property `fixable` says whether `fmt` fixes a problem.
+/// and standard input has the URI `stdin`. The property `fixable` says whether `fmt` fixes a problem. A problem with a
+/// fix has one `fixes` entry, which changes its file.
 ///
 /// # Errors
 ///
@@ -48,9 +50,9 @@ pub fn sarif_report(
     problems: &[Problem<'_>],
 ) -> Result<Vec<u8>, AllocError>
     ensures value { IfOk result (λ b. document b.items
-        ≡ Some (spec.log_json (map spec.described rules.now) (map finding_of problems.now))) }
-    ensures reads_back { IfOk result (λ b. AllFit (map finding_of problems.now)
-        → option_and_then results_in (document b.items) ≡ Some (map logged (map finding_of problems.now))) }
+        ≡ Some (spec.log_json (map spec.described rules.now) (map fixed_of problems.now))) }
+    ensures reads_back { IfOk result (λ b. AllFitFixed (map fixed_of problems.now)
+        → option_and_then results_in (document b.items) ≡ Some (map logged (map fixed_of problems.now))) }
 {
     let mut out = Writer::new(Vec::new(alloc));
     write_head(&mut out)?;
@@ -138,7 +140,7 @@ fn write_results(
     problems: &[Problem<'_>],
 ) -> Result<(), AllocError>
     ensures { OnOk result (Adds out.old out.new
-        (json_tokens (array (spec.result_items (map finding_of problems.now))))) }
+        (json_tokens (array (spec.result_items (map fixed_of problems.now))))) }
 {
     out.begin_array()?;
     for problem in problems {
@@ -149,7 +151,7 @@ fn write_results(
 }
 
 fn write_result(alloc: Global, out: &mut Writer, problem: &Problem<'_>) -> Result<(), AllocError>
-    ensures { OnOk result (Adds out.old out.new (json_tokens (spec.result_json (finding_of problem.now)))) }
+    ensures { OnOk result (Adds out.old out.new (json_tokens (spec.result_json (fixed_of problem.now)))) }
 {
     let uri = uri_of(alloc, problem.file)?;
     let name = uri.as_str();
@@ -159,6 +161,7 @@ fn write_result(alloc: Global, out: &mut Writer, problem: &Problem<'_>) -> Resul
     write_message(out, "message", problem.message)?;
     write_place(out, name, &problem.range)?;
     write_related(out, name, problem.related)?;
+    write_fix(out, name, problem.fix)?;
     write_properties(out, problem.fixable)?;
     out.end_object()?;
     Ok(())
@@ -203,19 +206,28 @@ fn write_physical(out: &mut Writer, uri: &str, range: &Range) -> Result<(), Allo
 {
     out.key("physicalLocation")?;
     out.begin_object()?;
-    out.key("artifactLocation")?;
-    out.begin_object()?;
-    write_text(out, "uri", uri)?;
-    out.end_object()?;
-    write_region(out, range)?;
+    write_artifact(out, uri)?;
+    write_region(out, "region", range)?;
     out.end_object()?;
     Ok(())
 }
 
-fn write_region(out: &mut Writer, range: &Range) -> Result<(), AllocError>
-    ensures { OnOk result (Adds out.old out.new (member_tokens (codes "region") (spec.region_json range.now))) }
+fn write_artifact(out: &mut Writer, uri: &str) -> Result<(), AllocError>
+    ensures { OnOk result (Adds out.old out.new
+        (member_tokens (codes "artifactLocation") (spec.artifact_json uri.now))) }
 {
-    out.key("region")?;
+    out.key("artifactLocation")?;
+    out.begin_object()?;
+    write_text(out, "uri", uri)?;
+    out.end_object()?;
+    Ok(())
+}
+
+// Adds a range as a member with a name.
+fn write_region(out: &mut Writer, name: &str, range: &Range) -> Result<(), AllocError>
+    ensures { OnOk result (Adds out.old out.new (member_tokens name.now (spec.region_json range.now))) }
+{
+    out.key(name)?;
     out.begin_object()?;
     write_number(out, "startLine", range.line)?;
     write_number(out, "startColumn", range.column)?;
@@ -250,6 +262,79 @@ fn write_note(out: &mut Writer, uri: &str, place: &Related<'_>) -> Result<(), Al
     write_message(out, "message", place.message)?;
     out.end_object()?;
     out.end_array()?;
+    Ok(())
+}
+
+// Adds the fix, if there is one.
+fn write_fix(out: &mut Writer, uri: &str, fix: &[Replacement<'_>]) -> Result<(), AllocError>
+    ensures { OnOk result (Adds out.old out.new (spec.fix_tokens uri.now (map replaced fix.now))) }
+{
+    match fix {
+        [] => Ok(()),
+        [_, ..] => write_only_fix(out, uri, fix),
+    }
+}
+
+fn write_only_fix(out: &mut Writer, uri: &str, fix: &[Replacement<'_>]) -> Result<(), AllocError>
+    ensures { OnOk result (Adds out.old out.new (member_tokens (codes "fixes")
+        (array (item (spec.fix_json uri.now (map replaced fix.now)) no_items)))) }
+{
+    out.key("fixes")?;
+    out.begin_array()?;
+    out.begin_object()?;
+    write_message(out, "description", "format the file")?;
+    write_changes(out, uri, fix)?;
+    out.end_object()?;
+    out.end_array()?;
+    Ok(())
+}
+
+// Adds the changes of the one file that a fix changes.
+fn write_changes(out: &mut Writer, uri: &str, fix: &[Replacement<'_>]) -> Result<(), AllocError>
+    ensures { OnOk result (Adds out.old out.new (member_tokens (codes "artifactChanges")
+        (array (item (spec.change_json uri.now (map replaced fix.now)) no_items)))) }
+{
+    out.key("artifactChanges")?;
+    out.begin_array()?;
+    out.begin_object()?;
+    write_artifact(out, uri)?;
+    out.key("replacements")?;
+    write_replacements(out, fix)?;
+    out.end_object()?;
+    out.end_array()?;
+    Ok(())
+}
+
+fn write_replacements(out: &mut Writer, fix: &[Replacement<'_>]) -> Result<(), AllocError>
+    ensures { OnOk result (Adds out.old out.new
+        (json_tokens (array (spec.replacement_items (map replaced fix.now))))) }
+{
+    out.begin_array()?;
+    for replacement in fix {
+        write_replacement(out, replacement)?;
+    }
+    out.end_array()?;
+    Ok(())
+}
+
+fn write_replacement(out: &mut Writer, replacement: &Replacement<'_>) -> Result<(), AllocError>
+    ensures { OnOk result (Adds out.old out.new (json_tokens (spec.replacement_json (replaced replacement.now)))) }
+{
+    out.begin_object()?;
+    write_region(out, "deletedRegion", &replacement.range)?;
+    write_inserted(out, replacement.text)?;
+    out.end_object()?;
+    Ok(())
+}
+
+// Adds the text that replaces a range, if it is not empty.
+fn write_inserted(out: &mut Writer, text: &str) -> Result<(), AllocError>
+    ensures { OnOk result (Adds out.old out.new (spec.inserted_tokens text.now)) }
+{
+    if text.is_empty() {
+        return Ok(());
+    }
+    write_message(out, "insertedContent", text)?;
     Ok(())
 }
 

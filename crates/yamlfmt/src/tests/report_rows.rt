@@ -3,7 +3,7 @@
 
 use crate::tests::answer_rows::{BEFORE, Row};
 
-pub static REPORT_ROWS: [Row; 18] = [
+pub static REPORT_ROWS: [Row; 19] = [
     (
         "check --format line a.yaml",
         1,
@@ -50,6 +50,15 @@ pub static REPORT_ROWS: [Row; 18] = [
         "<?xml version=\"1.0\" encoding=\"UTF-8\"?>\n<checkstyle version=\"4.3\">\n<file name=\"at2\">\n<error line=\"2\" column=\"1\" severity=\"error\" message=\"byte is no UTF-8\" source=\"not-utf8\"/>\n</file>\n<file name=\"a.yaml\">\n<error line=\"2\" column=\"8\" severity=\"warning\" message=\"one space before the comment, expected 2\" source=\"comment-space\"/>\n</file>\n</checkstyle>\n",
         "at2: byte 2 refused: not-utf8\n",
         "at2 a.yaml ",
+        BEFORE,
+    ),
+    // only the first result that is fixable has the fix
+    (
+        "check --format sarif",
+        1,
+        "{\"$schema\":\"https://json.schemastore.org/sarif-2.1.0.json\",\"version\":\"2.1.0\",\"runs\":[{\"tool\":{\"driver\":{\"name\":\"yamlfmt\",\"rules\":[{\"id\":\"trailing-blanks\",\"shortDescription\":{\"text\":\"A line ends with white space.\"},\"help\":{\"text\":\"Remove the white space at the end of the line. `yamlfmt fmt` does.\"}},{\"id\":\"indentation\",\"shortDescription\":{\"text\":\"The entries of a collection, or the lines of a block scalar, are not indented as in the house style.\"},\"help\":{\"text\":\"Indent them by the columns that the setting `indent` gives, or let `yamlfmt fmt` do it.\"}},{\"id\":\"quoting\",\"shortDescription\":{\"text\":\"A scalar is not quoted as in the house style.\"},\"help\":{\"text\":\"Write the scalar in the style that the setting `quotes` gives, or let `yamlfmt fmt` do it.\"}},{\"id\":\"document-start\",\"shortDescription\":{\"text\":\"A document has no `---` on its own line before it.\"},\"help\":{\"text\":\"Begin each document with a line `---`, or let `yamlfmt fmt` do it.\"}},{\"id\":\"final-break\",\"shortDescription\":{\"text\":\"The text doesn't end with a line break.\"},\"help\":{\"text\":\"End the last line with a line feed, or let `yamlfmt fmt` do it.\"}},{\"id\":\"line-breaks\",\"shortDescription\":{\"text\":\"A line ends with a carriage return.\"},\"help\":{\"text\":\"End each line with a line feed only, or let `yamlfmt fmt` do it.\"}},{\"id\":\"byte-order-mark\",\"shortDescription\":{\"text\":\"A byte order mark is outside of scalars.\"},\"help\":{\"text\":\"Remove the byte order mark, or let `yamlfmt fmt` do it.\"}},{\"id\":\"blank-lines\",\"shortDescription\":{\"text\":\"A blank line is in a wrong place.\"},\"help\":{\"text\":\"Remove the blank line, or let `yamlfmt fmt` do it.\"}},{\"id\":\"flow-layout\",\"shortDescription\":{\"text\":\"A flow collection is not written as in the house style.\"},\"help\":{\"text\":\"Write it on one line with one space after each comma and `:`, or as a block collection if it doesn't fit, or let `yamlfmt fmt` do it.\"}},{\"id\":\"comment-space\",\"shortDescription\":{\"text\":\"A comment after other text doesn't have exactly two spaces before it.\"},\"help\":{\"text\":\"Write two spaces before the comment, or let `yamlfmt fmt` do it.\"}},{\"id\":\"line-length\",\"shortDescription\":{\"text\":\"A line is longer than the limit.\"},\"help\":{\"text\":\"Use a block scalar, or raise the limit. `yamlfmt fmt` doesn't fix it.\"}},{\"id\":\"repeated-keys\",\"shortDescription\":{\"text\":\"A mapping has a key twice.\"},\"help\":{\"text\":\"Remove one of the two entries. `yamlfmt fmt` doesn't fix it.\"}},{\"id\":\"key-mark\",\"shortDescription\":{\"text\":\"A key has a `?` before it that it doesn't need.\"},\"help\":{\"text\":\"Write the key without the `?`, or let `yamlfmt fmt` do it.\"}},{\"id\":\"hidden-character\",\"shortDescription\":{\"text\":\"A character is invisible, or easily taken for another one.\"},\"help\":{\"text\":\"Remove the character, or write it as an escape between double quotes. `yamlfmt fmt` doesn't fix it.\"}}]}},\"columnKind\":\"unicodeCodePoints\",\"results\":[{\"ruleId\":\"document-start\",\"level\":\"warning\",\"message\":{\"text\":\"no `---` before the document\"},\"locations\":[{\"physicalLocation\":{\"artifactLocation\":{\"uri\":\"stdin\"},\"region\":{\"startLine\":1,\"startColumn\":1,\"endLine\":1,\"endColumn\":1}}}],\"fixes\":[{\"description\":{\"text\":\"format the file\"},\"artifactChanges\":[{\"artifactLocation\":{\"uri\":\"stdin\"},\"replacements\":[{\"deletedRegion\":{\"startLine\":1,\"startColumn\":1,\"endLine\":2,\"endColumn\":1},\"insertedContent\":{\"text\":\"---\\n- \\\"a\\\"\\n\"}}]}]}],\"properties\":{\"fixable\":true}},{\"ruleId\":\"quoting\",\"level\":\"warning\",\"message\":{\"text\":\"single quotes, expected double quotes\"},\"locations\":[{\"physicalLocation\":{\"artifactLocation\":{\"uri\":\"stdin\"},\"region\":{\"startLine\":1,\"startColumn\":3,\"endLine\":1,\"endColumn\":6}}}],\"properties\":{\"fixable\":true}}]}]}",
+        "",
+        "- ",
         BEFORE,
     ),
     // a report without problems

@@ -6,5 +6,7 @@ use Rattle.yf_findings.proofs.files.report_of.Goals as goal
 pub returns : goal.returns
 returns c =
     IfOk-weaker c.report.result _ _
-    (λ b is. one_report c.args.format c.args.files.now b.items _ _ c.in_ok-problems.problems.items refl c.as_slice.ensures.value c.in_ok-problems.ensures is)
+    (λ b is. one_report c.args.format c.args.files.now b.items _ _ c.in_ok-problems.problems.items refl
+    c.as_slice-2.ensures.value c.in_ok-problems.ensures.entries
+    c.in_ok-problems.ensures.fixes is)
     c.report.ensures

@@ -1,10 +1,11 @@
 use Rattle.std.proofs.Common.{◌≤◌, IfErr, length, rules}
-use Rattle.std.proofs.lemmas.Result.{IfErr-weaker, IfOk-weaker}
+use Rattle.std.proofs.lemmas.Result.{IfErr-weaker}
 use Rattle.yf_rules.specs.Runs.ByteStream.{stream_of}
 use Rattle.yf_rules.specs.Runs.Input.{IsNoText}
 use Rattle.yf_rules.specs.declared.run.TheConstants.{INPUT_LIMIT}
 use Rattle.yf_rules.proofs.Runs.FormattedLemmas.{refused_text}
 use Rattle.yf_rules.proofs.Runs.GivenTexts.{given_text, no_text}
+use Rattle.yf_findings.proofs.TextLemmas.{read_checked}
 use Rattle.yf_findings.proofs.reading.read_problems.Goals as goal
 
 pub returns-in_err-text-clause-refusals : goal.returns-in_err-text-clause-refusals
@@ -22,9 +23,9 @@ returns-clause-problems g c =
     let within : length read.field-0.items ≤ INPUT_LIMIT = search rules in
     let text = c.in_ok-text.ensures in
     let given = given_text read.ensures.whole within c.as_slice.ensures.value text.utf8 text.same in
-    IfOk-weaker c.problems_in.result _ _
-    (λ problems found. record { text = c.in_ok-text.text.now; gave = given.gave; within = given.within; utf8 = given.utf8; problems = found })
-    c.problems_in.ensures.found
+    read_checked (g.R.Read.remaining c.args.reader.now) c.problems_in.result c.args.asked c.args.without.now
+    c.args.style.now c.in_ok-text.text.now given.gave given.within given.utf8 c.problems_in.ensures.found
+    c.problems_in.ensures.changes
 
 pub returns-clause-refusals : goal.returns-clause-refusals
 returns-clause-refusals g c =

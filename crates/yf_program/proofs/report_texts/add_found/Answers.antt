@@ -7,5 +7,5 @@ pub returns-in-Ok : goal.returns-in-Ok
 returns-in-Ok c =
     let d = c.in-Ok.ensures in
     let same = c.as_slice.ensures.value in
-    let ended = c.status_of-status.ensures ∙ ap (λ ps. check_status (has_problem ps)) (same ∙ sym d.2) in
-    (d.0, d.1, (d.2 ∙ c.on_lines-kept.ensures, ended), d.3)
+    let ended = c.status_of-status.ensures ∙ ap (λ ps. check_status (has_problem ps)) (same ∙ sym d.2.0) in
+    (d.0, d.1, (d.2.0 ∙ c.on_lines-kept.ensures, d.2.1, ended), d.3)

@@ -1,5 +1,5 @@
 use Rattle.std.proofs.Common.{map, ◌++◌, ap, ◌∙◌}
-use Rattle.yf_report.specs.Problems.{finding_of}
+use Rattle.yf_report.specs.Fixes.{fixed_of}
 use Rattle.yf_report.specs.Sarif.{described, log_json}
 use Rattle.json.specs.Tree.{json_tokens}
 use Rattle.yf_report.proofs.JsonLemmas.{added, read_is}
@@ -10,7 +10,7 @@ use Rattle.yf_report.proofs.sarif.sarif_report.Goals as goal
 pub returns-clause-value : goal.returns-clause-value
 returns-clause-value c =
     let rs = map described c.args.rules.now in
-    let fs = map finding_of c.args.problems.now in
+    let fs = map fixed_of c.args.problems.now in
     let all = log_written rs fs c.in_ok-write_head.ensures c.in_ok-write_tool.ensures c.in_ok-write_text.ensures
     (added c.in_ok-key.ensures) c.in_ok-write_results.ensures (added c.in_ok-end_object.ensures)
     (added c.in_ok-end_array.ensures) (added c.in_ok-end_object-2.ensures) in
@@ -21,5 +21,5 @@ returns-clause-value c =
 
 pub returns-clause-reads_back : goal.returns-clause-reads_back
 returns-clause-reads_back c =
-    results_back (map described c.args.rules.now) (map finding_of c.args.problems.now) c.into_inner.result.items
+    results_back (map described c.args.rules.now) (map fixed_of c.args.problems.now) c.into_inner.result.items
     (returns-clause-value c)

@@ -5,8 +5,5 @@ pub returns : goal.returns
 returns c =
     adds_more (added c.in_ok-key.ensures)
     (adds_more (added c.in_ok-begin_object.ensures)
-    (adds_more (added c.in_ok-key-2.ensures)
-    (adds_more (added c.in_ok-begin_object-2.ensures)
-    (adds_more c.in_ok-write_text.ensures
-    (adds_more (added c.in_ok-end_object.ensures)
-    (adds_more c.in_ok-write_region.ensures (added c.in_ok-end_object-2.ensures)))))))
+    (adds_more c.in_ok-write_artifact.ensures
+    (adds_more c.in_ok-write_region.ensures (added c.in_ok-end_object.ensures))))

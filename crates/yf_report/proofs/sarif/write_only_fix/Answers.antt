@@ -1,0 +1,11 @@
+use Rattle.yf_report.proofs.JsonLemmas.{added, adds_more}
+use Rattle.yf_report.proofs.sarif.write_only_fix.Goals as goal
+
+pub returns : goal.returns
+returns c =
+    adds_more (added c.in_ok-key.ensures)
+    (adds_more (added c.in_ok-begin_array.ensures)
+    (adds_more (adds_more (added c.in_ok-begin_object.ensures)
+    (adds_more c.in_ok-write_message.ensures
+    (adds_more c.in_ok-write_changes.ensures (added c.in_ok-end_object.ensures))))
+    (added c.in_ok-end_array.ensures)))
