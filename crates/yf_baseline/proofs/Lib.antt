@@ -12,14 +12,8 @@ pub mod LineTextLemmas
 pub mod TextLemmas
 -- `read_baseline`; a written baseline is read
 pub mod ReadLemmas
--- `lines_of`, `unlisted` and `missing`
+-- `lines_of`, `names_of` and `missing`
 pub mod ListedLemmas
--- `sort_entries`
-pub mod SortLemmas
--- `findings_on_lines`
-pub mod LineLemmas
--- `entries_go_by_texts`
-pub mod LawLemmas
 -- `entries_come_once`
 pub mod OnceLemmas
 -- `entries_ignore_order`

@@ -1,17 +1,16 @@
 -- Sets of texts, and tests of entries by them.
 use Rattle.std.proofs.Common.{◌≡◌, ℕ, ◌+◌, ◌<◌, ◌≤◌, Bool, true, false, not, ◌&&◌, ◌||◌, List, [], ◌∷◌, ◌++◌, length, map}
-use Rattle.std.proofs.Common.{take, drop, get_or, String, cond, refl, sym, ap, ◌∙◌, subst, arith}
+use Rattle.std.proofs.Common.{take, get_or, String, cond, refl, sym, ap, ◌∙◌, subst}
 use Rattle.std.specs.Prelude.{bytes_eq, filter}
-use Rattle.std.specs.List.{list_any}
 use Rattle.std.specs.BTreeSet.{BTreeSet, IsEmpty, contains_text}
 use Rattle.std.proofs.lemmas.Cmp.{nat_list_eq_equiv}
-use Rattle.std.proofs.lemmas.List.{drop_more, drop_all, map_push, take_more, take_all}
+use Rattle.std.proofs.lemmas.List.{map_push, take_more, take_all}
 use Rattle.std.proofs.lemmas.List.Folds.{list_any-append}
-use Rattle.yf_baseline.specs.Baselines.{entry_line, repeats, repeats_after}
-use Rattle.yf_baseline.specs.Listed.{is_missing, is_new, missing, unlisted}
+use Rattle.yf_baseline.specs.Baselines.{entry_line}
+use Rattle.yf_baseline.specs.Listed.{is_missing, missing}
 use Rattle.yf_baseline.specs.SeenTexts.{Holds, is_among}
 use Rattle.yf_baseline.specs.declared.entry.Entry.{Entry}
-use Rattle.yf_baseline.proofs.ListLemmas.{same_filter, same_map}
+use Rattle.yf_baseline.proofs.ListLemmas.{same_filter}
 
 or_true : (x y : Bool) → y ≡ true → true ≡ (x || (y || false))
 or_true x y e = rw e (elim x as (λ v. true ≡ (v || true)) [ true ↦ refl | false ↦ refl ])
@@ -56,48 +55,7 @@ module _ {Y : Type 0} where
       Holds set (map f (take i xs)) → Holds set (map f xs)
   holds_all f xs i set over h = subst (λ l. Holds set (map f l)) (take_all i xs over) h
 
-  -- ---- the lines so far
-
-  pub record Seen (set : BTreeSet (String Y)) (i : ℕ) (es : List Entry) : Type 0 where
-    pub seen : List (List ℕ)
-    pub holds : Holds set seen
-    pub rest : repeats_after seen (map (λ e. entry_line e) (drop i es)) ≡ repeats (map (λ e. entry_line e) es)
-
-  pub seen_none : (set : BTreeSet (String Y)) (es : List Entry) → IsEmpty set → Seen set 0 es
-  seen_none set es empty = record { seen = []; holds = holds_none set empty; rest = refl }
-
-  module _ (set : BTreeSet (String Y)) (i : ℕ) (es : List Entry) (d : Entry) (text : List ℕ) (s : Seen set i es)
-      (within : i < length es) (same : text ≡ entry_line (get_or es i d)) where
-    next : repeats_after s.seen (text ∷ map (λ e. entry_line e) (drop (i + 1) es)) ≡
-        repeats (map (λ e. entry_line e) es)
-    next =
-        ap (λ t. repeats_after s.seen (t ∷ map (λ e. entry_line e) (drop (i + 1) es))) same
-        ∙ ap (λ l. repeats_after s.seen (map (λ e. entry_line e) l)) (sym (drop_more es i d within)) ∙ s.rest
-
-    pub seen_again : contains_text set text ≡ true → true ≡ repeats (map (λ e. entry_line e) es)
-    seen_again has = rw (sym (s.holds text) ∙ has) at next
-
-    pub seen_more : (new : BTreeSet (String Y)) → contains_text set text ≡ false →
-        ((other : List ℕ) → contains_text new other ≡ cond (bytes_eq text other) true (contains_text set other)) →
-        Seen new (i + 1) es
-    seen_more new has_not sets = record {
-      seen = s.seen ++ text ∷ [];
-      holds = holds_more set new text s.seen s.holds sets;
-      rest = rw (sym (s.holds text) ∙ has_not) at next;
-    }
-
-  pub seen_all : (set : BTreeSet (String Y)) (i : ℕ) (es : List Entry) → Seen set i es → length es ≤ i →
-      false ≡ repeats (map (λ e. entry_line e) es)
-  seen_all set i es s over =
-      ap (λ l. repeats_after s.seen (map (λ e. entry_line e) l)) (sym (drop_all i es over)) ∙ s.rest
-
-  -- ---- tests by the sets
-
-  pub unlisted_is : (set : BTreeSet (String Y)) (flags : List Bool) (es : List Entry)
-      (lines : List (List ℕ)) → flags ≡ map (λ e. not (contains_text set (entry_line e))) es → Holds set lines →
-      flags ≡ map (λ e. is_new lines e) es
-  unlisted_is set flags es lines is h =
-      is ∙ same_map (λ e. not (contains_text set (entry_line e))) (λ e. is_new lines e) (λ e. ap not (h (entry_line e))) es
+  -- ---- a test by the sets
 
   pub missing_is : (files current : BTreeSet (String Y)) (found baseline : List Entry) (names lines : List (List ℕ)) →
       found ≡ filter (λ e. contains_text files e.file && not (contains_text current (entry_line e))) baseline →

@@ -1,8 +1,7 @@
 -- Each entry of the findings of a file occurs once.
-use Rattle.std.proofs.Common.{◌≡◌, ℕ, ◌+◌, ◌^◌, ◌<◌, ◌≤◌, Bool, true, false, ◌||◌, List, [], ◌∷◌, ◌++◌, length, map}
-use Rattle.std.proofs.Common.{Some, option_and_then, refl, sym, ap, ◌∙◌, subst, arith, length-append, if◌then◌else◌}
+use Rattle.std.proofs.Common.{◌≡◌, ℕ, ◌+◌, ◌^◌, ◌<◌, ◌≤◌, Bool, true, false, List, [], ◌∷◌, ◌++◌, length, map}
+use Rattle.std.proofs.Common.{Some, option_and_then, refl, sym, ap, ◌∙◌, arith, length-append}
 use Rattle.std.specs.Prelude.{bytes_eq, ⊤}
-use Rattle.std.specs.List.{list_any}
 use Rattle.std.proofs.lemmas.Bool.{or_from}
 use Rattle.std.proofs.lemmas.Cmp.{nat_list_eq_equiv}
 use Rattle.std.proofs.lemmas.List.{map_push}
@@ -11,9 +10,9 @@ use Rattle.std.proofs.lemmas.Slice.Eq.{bytes_eq-Decides}
 use Rattle.json.specs.Json.{document}
 use Rattle.json.proofs.Printed.Decimals.{IsNumber-decimal}
 use Rattle.json.proofs.Printed.Trees.{document-print}
-use Rattle.yf_baseline.specs.Baselines.{entry_in, entry_json, entry_line, repeats_after}
+use Rattle.yf_baseline.specs.Baselines.{entry_in, entry_json, entry_line}
 use Rattle.yf_baseline.specs.Entries.{Kept, entries_after, entry_at, kept, mark}
-use Rattle.yf_baseline.specs.Laws.{EntriesComeOnce}
+use Rattle.yf_baseline.specs.Laws.{EntriesComeOnce, repeats_after}
 use Rattle.yf_baseline.specs.SeenTexts.{is_among, occurrences}
 use Rattle.yf_baseline.specs.declared.entry.Entry.{Entry}
 use Rattle.yf_baseline.proofs.CountLemmas.{occurrences-push}

@@ -1,9 +1,9 @@
 -- Reading a written baseline.
-use Rattle.std.proofs.Common.{◌≡◌, ◌≢◌, ℕ, ◌+◌, ◌-◌, ◌^◌, ◌<◌, Bool, true, false, List, [], ◌∷◌, ◌++◌, length, map, take, drop, get_or}
-use Rattle.std.proofs.Common.{Option, None, Some, Ok, Err, option_and_then, option_map, decimal, codes, ◌&&◌}
-use Rattle.std.proofs.Common.{refl, sym, ap, ◌∙◌, arith, append_assoc, append-nil, if◌then◌else◌}
+use Rattle.std.proofs.Common.{◌≡◌, ◌≢◌, ℕ, ◌+◌, ◌-◌, ◌^◌, ◌<◌, Bool, true, false, List, [], ◌∷◌, ◌++◌, length, take, drop, get_or}
+use Rattle.std.proofs.Common.{Option, None, Some, Ok, option_and_then, decimal, codes}
+use Rattle.std.proofs.Common.{refl, sym, ap, ◌∙◌, arith}
 use Rattle.std.specs.Option.{ok_or}
-use Rattle.std.specs.Prelude.{◌==◌, nat_lt, slice_index}
+use Rattle.std.specs.Prelude.{◌==◌, slice_index}
 use Rattle.std.specs.Str.{all_ascii_digits}
 use Rattle.std.specs.Str.Parse.{IsNumeral, ParsesUnsigned, digits_value, without_leading_plus}
 use Rattle.std.proofs.lemmas.Bool.{and_from, and_parts, eqb-true, lt-ltb, ltb-true}
@@ -15,10 +15,10 @@ use Rattle.std.specs.Prelude.{MatchOption}
 use Rattle.json.specs.Json.{Json, document}
 use Rattle.json.specs.Find.{as_number, get}
 use Rattle.yf_baseline.specs.Baselines.{AllFit, baseline_in, baseline_json, baseline_text, entries_from, entry_in}
-use Rattle.yf_baseline.specs.Baselines.{entry_items, entry_json, entry_line, if_each_once, if_json, is_number}
-use Rattle.yf_baseline.specs.Baselines.{number_from, number_in, repeats, text_in, without_feed}
+use Rattle.yf_baseline.specs.Baselines.{entry_items, entry_json, if_json, is_number}
+use Rattle.yf_baseline.specs.Baselines.{number_from, number_in, text_in, without_feed}
 use Rattle.yf_baseline.specs.declared.entry.Entry.{Entry}
-use Rattle.yf_baseline.proofs.TextLemmas.{body, document-body, without_feed-text}
+use Rattle.yf_baseline.proofs.TextLemmas.{document-body, without_feed-text}
 
 -- ---- the end of the text
 
@@ -120,12 +120,10 @@ entries_back : (es : List Entry) → AllFit es → entries_from (entry_items es)
 entries_back [] fits = refl
 entries_back (e ∷ es) fits = rw (entry_back e fits.0, entries_back es fits.1) refl
 
-value_back : (es : List Entry) → AllFit es → repeats (map (λ e. entry_line e) es) ≡ false →
-    if_json (Some (baseline_json es)) ≡ Ok es
-value_back es fits once = rw (entries_back es fits, once) refl
+value_back : (es : List Entry) → AllFit es → if_json (Some (baseline_json es)) ≡ Ok es
+value_back es fits = rw (entries_back es fits) refl
 
-pub reads_back : (es : List Entry) (text : List ℕ) → text ≡ baseline_text es → AllFit es →
-    repeats (map (λ e. entry_line e) es) ≡ false → baseline_in text ≡ Ok es
-reads_back es text e fits once =
+pub reads_back : (es : List Entry) (text : List ℕ) → text ≡ baseline_text es → AllFit es → baseline_in text ≡ Ok es
+reads_back es text e fits =
     ap baseline_in e ∙ ap (λ t. if_json (document t)) (without_feed-text es) ∙ ap if_json (document-body es fits)
-    ∙ value_back es fits once
+    ∙ value_back es fits

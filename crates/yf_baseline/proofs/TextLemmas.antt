@@ -1,15 +1,15 @@
 -- The text of a baseline is JSON: its tokens, with line feeds before some of them.
-use Rattle.std.proofs.Common.{◌≡◌, ℕ, ◌+◌, ◌-◌, ◌^◌, ◌<◌, ◌≤◌, Bool, true, false, List, [], ◌∷◌, ◌++◌, length, map, fold}
-use Rattle.std.proofs.Common.{take, Some, option_and_then, codes, decimal, inr}
+use Rattle.std.proofs.Common.{◌≡◌, ℕ, ◌-◌, ◌≤◌, Bool, true, false, List, [], ◌∷◌, ◌++◌, length, map, fold}
+use Rattle.std.proofs.Common.{Some, option_and_then, codes, decimal, inr}
 use Rattle.std.proofs.Common.{refl, sym, ap, ◌∙◌, subst, arith, append_assoc, append-nil, length-append}
-use Rattle.std.specs.Prelude.{◌==◌, slice_index, if◌then◌else◌}
+use Rattle.std.specs.Prelude.{slice_index}
 use Rattle.std.proofs.lemmas.List.{get_or_at, take_at}
 use Rattle.json.specs.Token.{Token}
 use Rattle.json.specs.Lex.{tokens}
 use Rattle.json.specs.Json.{document, if_last, value, max_depth}
 use Rattle.json.specs.Print.{print_from, ends, escape_byte, ArePrintable}
 use Rattle.json.specs.Spaced.{AreGaps, print_spaced}
-use Rattle.json.specs.Tree.{json_tokens, items_tokens, depth, items_depth, ItemsHaveNumbers}
+use Rattle.json.specs.Tree.{json_tokens, items_tokens, items_depth, ItemsHaveNumbers}
 use Rattle.json.specs.Word.{after_number}
 use Rattle.json.proofs.Printed.Tokens.{tokens-print_spaced}
 use Rattle.json.proofs.Printed.Trees.{ArePrintable-json_tokens, value-json_tokens}

@@ -1,6 +1,6 @@
 -- The text of a baseline, and the entries that a text holds.
-use Rattle.std.specs.Prelude.{◌≡◌, ℕ, ◌<◌, ◌^◌, ◌&&◌, ◌==◌, Bool, true, false, not, nat_lt, if◌then◌else◌, ⊤}
-use Rattle.std.specs.Prelude.{List, [], ◌∷◌, ◌++◌, map, length, codes, decimal, bytes_eq, take, ◌-◌, slice_index}
+use Rattle.std.specs.Prelude.{ℕ, ◌<◌, ◌^◌, ◌&&◌, ◌==◌, Bool, true, false, nat_lt, if◌then◌else◌, ⊤}
+use Rattle.std.specs.Prelude.{List, [], ◌∷◌, ◌++◌, length, codes, decimal, take, ◌-◌, slice_index}
 use Rattle.std.specs.Prelude.{Option, None, Some, option_map, option_and_then, Result, Ok, Err}
 use Rattle.std.specs.Str.{all_ascii_digits}
 use Rattle.std.specs.Str.Parse.{digits_value, without_leading_plus}
@@ -8,10 +8,9 @@ use Rattle.json.specs.Json.{Json, number, string, array, object, Items, no_items
 use Rattle.json.specs.Find.{get, as_str, as_number, as_array}
 use Rattle.json.specs.Print.{print}
 use Rattle.json.specs.Tree.{json_tokens}
-use Rattle.yf_baseline.specs.SeenTexts.{is_among}
 use Rattle.yf_baseline.specs.declared.entry.Entry.{Entry}
 use Rattle.yf_baseline.specs.declared.refusal.Refusal.{Refusal}
-use Rattle.yf_baseline.specs.declared.refusal.Refusal.TheVariants.{NotJson, Version, Shape, Repeated}
+use Rattle.yf_baseline.specs.declared.refusal.Refusal.TheVariants.{NotJson, Version, Shape}
 
 -- ---- from entries to a text
 
@@ -90,22 +89,13 @@ entries_from (item j js) = option_and_then (λ e. option_map (λ es. e ∷ es) (
 abbrev pub entries_in : Json → Option (List Entry)
 entries_in j = option_and_then entries_from (option_and_then as_array (get (codes "findings") j))
 
--- one of the lines is among those before it, or among others that were seen
-abbrev pub repeats_after : List (List ℕ) → List (List ℕ) → Bool
-repeats_after seen [] = false
-repeats_after seen (line ∷ lines) =
-    if is_among seen line then true else repeats_after (seen ++ line ∷ []) lines
-
-abbrev pub repeats : List (List ℕ) → Bool
-repeats lines = repeats_after [] lines
-
-abbrev pub if_each_once : Option (List Entry) → Result (List Entry) Refusal
-if_each_once None = Err Shape
-if_each_once (Some es) = if repeats (map (λ e. entry_line e) es) then Err Repeated else Ok es
+abbrev pub if_entries : Option (List Entry) → Result (List Entry) Refusal
+if_entries None = Err Shape
+if_entries (Some es) = Ok es
 
 abbrev pub if_version : Json → Option ℕ → Result (List Entry) Refusal
 if_version j None = Err Version
-if_version j (Some n) = if n == 1 then if_each_once (entries_in j) else Err Version
+if_version j (Some n) = if n == 1 then if_entries (entries_in j) else Err Version
 
 abbrev pub if_json : Option Json → Result (List Entry) Refusal
 if_json None = Err NotJson

@@ -1,24 +1,21 @@
 -- Consequences of the definitions.
-use Rattle.std.specs.Prelude.{◌≡◌, ◌<◌, ◌^◌, ◌⊎◌, List, [], ◌∷◌, ℕ, length, map, false, ⊤}
+use Rattle.std.specs.Prelude.{◌≡◌, ◌<◌, ◌^◌, ◌⊎◌, List, [], ◌∷◌, ◌++◌, ℕ, Bool, true, false, length, map, ⊤, if◌then◌else◌}
 use Rattle.std.specs.List.Sorted.{IsPermutation}
-use Rattle.yf_lines.specs.Lines.{Table}
-use Rattle.yf_baseline.specs.Baselines.{entry_line, repeats}
-use Rattle.yf_baseline.specs.Entries.{Kept, entries_of, kept_of, line_text}
+use Rattle.yf_baseline.specs.Baselines.{entry_line}
+use Rattle.yf_baseline.specs.Entries.{Kept, entries_of}
+use Rattle.yf_baseline.specs.SeenTexts.{is_among}
 use Rattle.yf_baseline.specs.declared.entry.Entry.{Entry}
-use Rattle.yf_baseline.specs.declared.entry.Found.{Found}
 
--- the rule of a finding, and the text of its line
-abbrev pub rule_and_text : Table → Found → List ℕ × List ℕ
-rule_and_text src f = (f.rule.now, line_text src f.line)
+-- one of the lines is among those before it, or among others that were seen
+abbrev pub repeats_after : List (List ℕ) → List (List ℕ) → Bool
+repeats_after seen [] = false
+repeats_after seen (line ∷ lines) =
+    if is_among seen line then true else repeats_after (seen ++ line ∷ []) lines
 
--- The numbers of lines don't matter: findings of the same rules on lines with the same texts, in the same order, have
--- the same entries.
-abbrev pub EntriesGoByTexts : Type 0
-EntriesGoByTexts = (file : List ℕ) (src other : Table) (some others : List Found)
-    → map (rule_and_text src) some ≡ map (rule_and_text other) others
-    → entries_of file (map (kept_of src) some) ≡ entries_of file (map (kept_of other) others)
+abbrev pub repeats : List (List ℕ) → Bool
+repeats lines = repeats_after [] lines
 
--- Each entry of the findings of a file occurs once, so a baseline of them is read.
+-- Each entry of the findings of a file occurs once, so it leaves out one finding.
 abbrev pub EntriesComeOnce : Type 0
 EntriesComeOnce = (file : List ℕ) (ks : List Kept) → length ks < 2 ^ 64
     → repeats (map (λ e. entry_line e) (entries_of file ks)) ≡ false

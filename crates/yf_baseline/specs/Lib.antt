@@ -4,13 +4,7 @@ pub mod SeenTexts
 pub mod Entries
 -- how a baseline is written and read
 pub mod Baselines
--- the order of entries
-pub mod Sorted
--- the items with set flags
-pub mod Chosen
--- the findings that a baseline lists, and the entries that no longer occur
+-- the entries of a baseline that no longer occur
 pub mod Listed
--- ranges with an asked line
-pub mod OnLines
 -- consequences of the definitions
 pub mod Laws

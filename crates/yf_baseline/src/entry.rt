@@ -20,6 +20,6 @@ pub struct Entry {
 pub struct Found<'a> {
     /// The rule's id.
     pub rule: &'a str,
-    /// The number of the line on which the finding begins, from 1.
-    pub line: usize,
+    /// The text of the line on which the finding begins, without its break.
+    pub text: &'a str,
 }

@@ -1,11 +1,10 @@
-//! The findings that a baseline lists, and its entries that no longer occur.
-ghost use Rattle.std.specs.Prelude.{◌≡◌, ◌≤◌, ◌&&◌, ℕ, List, length, map, not, IfOk};
+//! The entries of a baseline as a set, and those that no longer occur.
+ghost use Rattle.std.specs.Prelude.{◌≡◌, ◌&&◌, ℕ, List, map, not, IfOk};
 ghost use Rattle.std.specs.BTreeSet.{contains_text};
 ghost use Rattle.yf_baseline.specs.Baselines.{entry_line};
-ghost use Rattle.yf_baseline.specs.Listed.{missing, unlisted};
+ghost use Rattle.yf_baseline.specs.Listed.{missing};
 ghost use Rattle.yf_baseline.specs.SeenTexts.{Holds};
 
-use crate::chosen::chosen;
 use crate::entry::Entry;
 use crate::line::entry_line;
 use std::alloc::{AllocError, Global};
@@ -44,39 +43,6 @@ pub fn names_of(alloc: Global, files: &[&str]) -> Result<Texts, AllocError>
         set.insert(text)?;
     }
     Ok(set)
-}
-
-/// Returns the findings that a baseline doesn't list, in order. The first entry is that of the first finding,
-/// and so on. `listed` has the lines of the baseline's entries.
-///
-/// # Errors
-///
-/// `AllocError` if memory runs out.
-pub fn unlisted<F: Copy + Drop>(
-    alloc: Global,
-    findings: &[F],
-    entries: &[Entry],
-    listed: &Texts,
-) -> Result<Vec<F>, AllocError>
-    requires { length findings.now ≤ length entries.now }
-    ensures { IfOk result (λ found. (lines : List (List ℕ)) → Holds listed.now lines
-        → found.items ≡ unlisted lines findings.now entries.now) }
-{
-    let flags = new_flags(alloc, entries, listed)?;
-    chosen(alloc, findings, flags.as_slice())
-}
-
-// Returns for each entry whether the set doesn't have its line.
-fn new_flags(alloc: Global, entries: &[Entry], listed: &Texts) -> Result<Vec<bool>, AllocError>
-    ensures { IfOk result (λ flags. flags.items
-        ≡ map (λ e. not (contains_text listed.now (entry_line e))) entries.now) }
-{
-    let mut flags = Vec::new(alloc);
-    for entry in entries {
-        let line = entry_line(alloc, entry)?;
-        flags.push(!listed.contains(line.as_str()))?;
-    }
-    Ok(flags)
 }
 
 /// Returns the entries of a baseline that no longer occur, in order, without those of files that were not checked.

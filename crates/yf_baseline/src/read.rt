@@ -1,20 +1,18 @@
 //! Reading a baseline.
-ghost use Rattle.std.specs.Prelude.{◌≡◌, ◌≢◌, ◌==◌, Ok, Err, Some, None, codes, map, option_map, option_and_then};
+ghost use Rattle.std.specs.Prelude.{◌≡◌, ◌≢◌, ◌==◌, Ok, Err, Some, None, codes, option_map, option_and_then};
 ghost use Rattle.std.specs.Prelude.{is_some, IfErr, IfOk, IfSome, MatchOption};
 ghost use Rattle.json.specs.Json.{document};
 ghost use Rattle.json.specs.Find.{as_array, get};
 ghost use Rattle.json.specs.Value.{items_view, value_view};
-ghost use Rattle.yf_baseline.specs.Baselines.{baseline_in, entries_from, entries_in, entry_in, entry_line, if_each_once};
-ghost use Rattle.yf_baseline.specs.Baselines.{if_json, if_version, number_in, repeats, text_in, without_feed};
+ghost use Rattle.yf_baseline.specs.Baselines.{baseline_in, entries_from, entries_in, entry_in, if_entries};
+ghost use Rattle.yf_baseline.specs.Baselines.{if_json, if_version, number_in, text_in, without_feed};
 ghost use Rattle.yf_baseline.specs.declared.refusal.Refusal.TheVariants as refusal;
 
 use crate::entries::owned;
 use crate::entry::Entry;
-use crate::line::entry_line;
 use crate::refusal::Refusal;
 use json::{Error, Scratch, Value};
 use std::alloc::{AllocError, Global};
-use std::collections::BTreeSet;
 
 /// Returns the entries of a baseline, in their order in the text.
 ///
@@ -50,24 +48,19 @@ fn entries_of_value(alloc: Global, value: &Value<'_>) -> Result<Vec<Entry>, Refu
     ensures refused { IfErr result (λ e. e ≢ Refusal.Memory → if_json (Some (value_view value.now)) ≡ Err e) }
 {
     match number_in(value, "version") {
-        Some(1) => entries_each_once(alloc, value),
+        Some(1) => entries_listed(alloc, value),
         _ => Err(Refusal::Version),
     }
 }
 
-// Returns the entries of a value, if each occurs once.
-fn entries_each_once(alloc: Global, value: &Value<'_>) -> Result<Vec<Entry>, Refusal>
-    ensures ok { IfOk result (λ es. if_each_once (entries_in (value_view value.now)) ≡ Ok es.items) }
+// Returns the entries of a value, if it has some.
+fn entries_listed(alloc: Global, value: &Value<'_>) -> Result<Vec<Entry>, Refusal>
+    ensures ok { IfOk result (λ es. if_entries (entries_in (value_view value.now)) ≡ Ok es.items) }
     ensures refused { IfErr result (λ e. e ≢ Refusal.Memory
-        → if_each_once (entries_in (value_view value.now)) ≡ Err e) }
+        → if_entries (entries_in (value_view value.now)) ≡ Err e) }
 {
     match entries_in(alloc, value)? {
-        Some(entries) => {
-            if repeats(alloc, entries.as_slice())? {
-                return Err(Refusal::Repeated);
-            }
-            Ok(entries)
-        }
+        Some(entries) => Ok(entries),
         None => Err(Refusal::Shape),
     }
 }
@@ -142,19 +135,4 @@ fn number_in(value: &Value<'_>, name: &str) -> Option<u64>
         Some(member) => member.as_u64(),
         None => None,
     }
-}
-
-// Returns whether an entry occurs twice.
-fn repeats(alloc: Global, entries: &[Entry]) -> Result<bool, AllocError>
-    ensures { IfOk result (λ found. found ≡ repeats (map (λ e. entry_line e) entries.now)) }
-{
-    let mut seen = BTreeSet::new(alloc);
-    for entry in entries {
-        let line = entry_line(alloc, entry)?;
-        if seen.contains(line.as_str()) {
-            return Ok(true);
-        }
-        seen.insert(line)?;
-    }
-    Ok(false)
 }

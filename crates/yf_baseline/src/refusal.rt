@@ -13,8 +13,6 @@ pub enum Refusal {
     Version,
     /// The member `findings` is not an array of entries.
     Shape,
-    /// An entry occurs twice.
-    Repeated,
 }
 
 impl From<AllocError> for Refusal {
