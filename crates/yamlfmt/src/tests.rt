@@ -4,6 +4,7 @@
 mod answer;
 mod answer_rows;
 mod answers;
+mod baselines;
 mod check;
 mod check_options;
 mod command_line;

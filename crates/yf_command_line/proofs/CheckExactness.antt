@@ -6,7 +6,7 @@ use Rattle.std.specs.declared.alloc.Global.{Global}
 use Rattle.clap.specs.Words.{Row, Text}
 use Rattle.yf_line_ranges.specs.declared.range.LineRange.{LineRange}
 use Rattle.yf_command_line.specs.Lines.{are_lines, lines_in}
-use Rattle.yf_command_line.specs.Requests.{IsCheck, IsNoCheck, all_inputs, files_given, input_of, inputs_of}
+use Rattle.yf_command_line.specs.Requests.{IsCheck, IsNoCheck, all_inputs, baseline_given, files_given, input_of, inputs_of}
 use Rattle.yf_command_line.specs.Requests.{lines_given, names_given}
 use Rattle.yf_command_line.specs.Requests.IsNoCheck.{no_rule, wrong_lines, several_checked, no_printing}
 use Rattle.yf_command_line.specs.Without.{are_rules}
@@ -21,6 +21,7 @@ pub record SameCheck (a b : Check) : Type 0 where
   pub inputs : all_inputs a.inputs ≡ all_inputs b.inputs
   pub without : a.without.items ≡ b.without.items
   pub lines : a.lines.items ≡ b.lines.items
+  pub baseline : a.baseline ≡ b.baseline
   pub printing : a.printing ≡ b.printing
 
 pub check_once : (rules : List Text) (given : List Row) (a b : Check) → IsCheck rules given a → IsCheck rules given b
@@ -29,6 +30,7 @@ check_once rules given a b p q = record {
   inputs = sym p.inputs ∙ q.inputs;
   without = p.without ∙ sym q.without;
   lines = p.lines ∙ sym q.lines;
+  baseline = p.baseline ∙ sym q.baseline;
   printing = printing_once given a.printing b.printing p.printing q.printing;
 }
 
@@ -77,6 +79,7 @@ module _ (inputs : List Input → Vec Input Global) (inputs_are : (l : List Inpu
               inputs = list.0;
               without = texts (names_given given);
               lines = ranges (lines_in (lines_given given));
+              baseline = baseline_given given;
               printing = way.0;
             },
             record {
@@ -86,6 +89,7 @@ module _ (inputs : List Input → Vec Input Global) (inputs_are : (l : List Inpu
               lines = ranges_are (lines_in (lines_given given));
               written = el;
               alone = alone;
+              baseline = refl;
               printing = way.1;
             },
           )

@@ -9,7 +9,7 @@ use Rattle.yf_command_line.specs.declared.command.Output.{Output}
 
 -- The `--format` of a task of `fmt`. Only `--check` takes one.
 abbrev pub HasFormat : List Row → Fmt → Type 0
--- `fmt --check [--format FORMAT] [FILE..]`, and FORMAT is the name of a format
+-- `fmt --check [--format FORMAT] [FILE..]`, and FORMAT is the name of a format of `fmt`
 HasFormat given (fmt.Check inputs output) = reported (format_given given) ≡ Some output
 HasFormat given (fmt.Print input) = format_given given ≡ None
 HasFormat given (fmt.Diff inputs) = format_given given ≡ None
@@ -46,5 +46,5 @@ pub data RefusesFormat (given : List Row) : Type 0 where
   compared_format : format_given given ≢ None → diffs given ≡ true → RefusesFormat given
   -- with `--lines`
   format_of_lines : format_given given ≢ None → lines_given given ≢ [] → RefusesFormat given
-  -- with a name that no format has
+  -- with a name that no format of `fmt` has
   unknown_format : reported (format_given given) ≡ None → RefusesFormat given

@@ -54,6 +54,10 @@ abbrev pub without_option : Rule
 without_option =
     record (new_rule (codes "without")) { long = Some (codes "without"); value_names = 1; action = Some Append }
 
+-- `--baseline FILE`
+abbrev pub baseline_option : Rule
+baseline_option = record (new_rule (codes "baseline")) { long = Some (codes "baseline"); value_names = 1 }
+
 -- `--format FORMAT`
 abbrev pub format_option : Rule
 format_option = record (new_rule (codes "format")) { long = Some (codes "format"); value_names = 1 }
@@ -115,18 +119,19 @@ reading_command name = with_rule (configured name) file_word
 abbrev pub naming : Text → App
 naming name = with_rule (configured name) names_flag
 
--- `check SETTINGS READING [--names] [--without RULES] [--lines LINES]`
+-- CHOOSING, what `check` checks and reports: `check SETTINGS READING [--names] [--without RULES] [--lines LINES]
+-- [--baseline FILE]`
 abbrev pub choosing_command : App
-choosing_command = with_rule (with_rule (naming (codes "check")) without_option) lines_option
+choosing_command =
+    with_rule (with_rule (with_rule (naming (codes "check")) without_option) lines_option) baseline_option
 
--- `check SETTINGS READING [--names] [--without RULES] [--lines LINES] PRINTING`. PRINTING is `[--format FORMAT]
--- [--statistics] [--max-findings N] [--color WHEN]`.
+-- `check CHOOSING PRINTING`. PRINTING is `[--format FORMAT] [--statistics] [--max-findings N] [--color WHEN]`.
 abbrev pub printing_command : App
 printing_command =
     with_rule (with_rule (with_rule (with_rule choosing_command format_option) statistics_flag) max_findings_option)
     color_option
 
--- `check SETTINGS READING [--names] [--without RULES] [--lines LINES] PRINTING [FILE..]`
+-- `check CHOOSING PRINTING [FILE..]`
 abbrev pub checking_command : App
 checking_command = with_rule printing_command file_words
 

@@ -2,7 +2,7 @@
 use Rattle.std.specs.Prelude.{◌≡◌, ◌≢◌, ◌⊎◌, ℕ, Bool, true, false, List, Option, Some, None, codes, if◌then◌else◌}
 use Rattle.std.specs.Str.{bytes_eq}
 use Rattle.yf_line_ranges.specs.Numbers.{is_number, number_of}
-use Rattle.yf_command_line.specs.Formats.{output_named}
+use Rattle.yf_command_line.specs.Formats.{output_named, problems_named}
 use Rattle.yf_command_line.specs.declared.command.Colors.{Colors}
 use Rattle.yf_command_line.specs.declared.command.Colors.TheVariants.{Auto, Always, Never}
 use Rattle.yf_command_line.specs.declared.command.Output.{Output}
@@ -29,11 +29,11 @@ IsNoFormat (Some name) = output_named name ≡ None
 abbrev pub IsNoOutput : Bool → Option (List ℕ) → Type 0
 IsNoOutput counts format = ((counts ≡ true) × (format ≢ None)) ⊎ IsNoFormat format
 
--- How `fmt --check` reports, by the value of `--format`, or none if no format has the name. Without `--format` each
--- report is a line.
+-- How `fmt --check` reports, by the value of `--format`, or none if it has no format with the name. Without `--format`
+-- each report is a line.
 abbrev pub reported : Option (List ℕ) → Option Output
 reported None = Some Lines
-reported (Some name) = output_named name
+reported (Some name) = problems_named name
 
 -- When the output has colors, by the value of `--color`, or none for another word.
 abbrev pub colors_named : List ℕ → Option Colors

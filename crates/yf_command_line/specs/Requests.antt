@@ -12,8 +12,8 @@ use Rattle.yf_command_line.specs.FmtFormats.{HasFormat, RefusesFormat}
 use Rattle.yf_command_line.specs.Lines.{are_lines, lines_in}
 use Rattle.yf_command_line.specs.Options.{yamlfmt}
 use Rattle.yf_command_line.specs.Printing.{IsLimit, IsNoFormat, IsNoLimit, IsOutput, colors_of}
-pub use Rattle.yf_command_line.specs.Rows.{all_given, checks, color_given, config_given, counts, diffs, explained_given}
-pub use Rattle.yf_command_line.specs.Rows.{files_given, format_given, is_flag, is_set, limit_given, lines_given}
+pub use Rattle.yf_command_line.specs.Rows.{all_given, baseline_given, checks, color_given, config_given, counts, diffs}
+pub use Rattle.yf_command_line.specs.Rows.{explained_given, files_given, format_given, is_flag, is_set, limit_given, lines_given}
 pub use Rattle.yf_command_line.specs.Rows.{names_given, stdin_name_given, takes_defaults, writes}
 use Rattle.yf_command_line.specs.Without.{are_rules}
 use Rattle.yf_command_line.specs.declared.command.Check.{Check}
@@ -134,7 +134,7 @@ pub record IsPrinting (given : List Row) (printing : Printing) : Type 0 where
   -- N is a decimal number of 64 bits
   pub limit : IsLimit (limit_given given) printing.limit
 
--- The task of `check` with these rows: `check [--without RULES] [--lines LINES] PRINTING [FILE..]`.
+-- The task of `check` with these rows: `check [--without RULES] [--lines LINES] [--baseline FILE] PRINTING [FILE..]`.
 -- (rules: the names of all rules)
 pub record IsCheck (rules : List Text) (given : List Row) (check : Check) : Type 0 where
   pub inputs : inputs_of (files_given given) ≡ all_inputs check.inputs
@@ -145,6 +145,7 @@ pub record IsCheck (rules : List Text) (given : List Row) (check : Check) : Type
   pub lines : check.lines.items ≡ lines_in (lines_given given)
   pub written : are_lines (lines_given given) ≡ true
   pub alone : lines_given given ≢ [] → length (files_given given) ≤ 1
+  pub baseline : check.baseline ≡ baseline_given given
   pub printing : IsPrinting given check.printing
 
 -- The command with this name and these rows. (rules: the names of all rules)

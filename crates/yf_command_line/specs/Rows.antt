@@ -55,6 +55,10 @@ names_given given = names_in (all_given (codes "without") given)
 abbrev pub explained_given : List Page → List Row → Option Text
 explained_given pages given = explanation pages (first_of (codes "name") given)
 
+-- The FILE of `--baseline`, if it is given.
+abbrev pub baseline_given : List Row → Option Text
+baseline_given given = first_of (codes "baseline") given
+
 -- The value of `--format`, if it is given.
 abbrev pub format_given : List Row → Option Text
 format_given given = first_of (codes "format") given

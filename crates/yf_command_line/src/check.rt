@@ -1,4 +1,4 @@
-//! `check`: its rules to leave out, its lines and its inputs.
+//! `check`: its rules to leave out, its lines, its baseline and its inputs.
 ghost use Rattle.std.specs.Prelude.{◌≢◌, ◌<◌, ◌≤◌, [], length, map, MatchBool, MatchResult};
 ghost use Rattle.clap.specs.Words.{found_of, rows_of};
 ghost use Rattle.yf_command_line.specs.Requests.{IsCheck, IsNoCheck, RefusedBy, files_given, lines_given};
@@ -6,12 +6,12 @@ ghost use Rattle.yf_command_line.specs.Requests.{IsCheck, IsNoCheck, RefusedBy, 
 use crate::command::Check;
 use crate::inputs::inputs_of;
 use crate::lines::lines_met;
-use crate::options::{FILE, LINES, WITHOUT};
+use crate::options::{BASELINE, FILE, LINES, WITHOUT};
 use crate::printing::printing_met;
 use crate::refused_words::SEVERAL_CHECKED;
 use crate::usage::{Usage, refusal};
 use crate::without::{names_in, refusal_of_name, unknown_name};
-use crate::words::words_given;
+use crate::words::{text_given, words_given};
 use clap::ArgMatches;
 use std::alloc::Global;
 
@@ -39,11 +39,13 @@ pub(crate) fn check_met(
         Ok(printing) => printing,
         Err(usage) => return Err(usage),
     };
+    let baseline = text_given(alloc, given, BASELINE)?;
     let inputs = inputs_of(alloc, words_given(given, FILE))?;
     Ok(Check {
         inputs,
         without,
         lines,
+        baseline,
         printing,
     })
 }

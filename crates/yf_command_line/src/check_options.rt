@@ -1,12 +1,12 @@
 //! `check` and its options, as the library for command lines takes them.
 ghost use Rattle.std.specs.Prelude.{IfOk};
-ghost use Rattle.yf_command_line.specs.Options.{IsOption, IsPart, checking_command, choosing_command, color_option};
-ghost use Rattle.yf_command_line.specs.Options.{max_findings_option, printing_command};
-ghost use Rattle.yf_command_line.specs.Options.{statistics_flag, without_option};
+ghost use Rattle.yf_command_line.specs.Options.{IsOption, IsPart, baseline_option, checking_command, choosing_command};
+ghost use Rattle.yf_command_line.specs.Options.{color_option, max_findings_option, printing_command, statistics_flag};
+ghost use Rattle.yf_command_line.specs.Options.{without_option};
 
 use crate::options::{
-    CHECK, COLOR, MAX_FINDINGS, STATISTICS, WITHOUT, file_words, format_option, lines_option,
-    naming, with_arg,
+    BASELINE, CHECK, COLOR, MAX_FINDINGS, STATISTICS, WITHOUT, file_words, format_option,
+    lines_option, naming, with_arg,
 };
 use clap::{Arg, ArgAction, Command};
 use std::alloc::{AllocError, Global};
@@ -17,13 +17,13 @@ pub(crate) fn check_command<'a>(alloc: Global) -> Result<Command<'a>, AllocError
     with_arg(printing_command(alloc), file_words(alloc))
 }
 
-// Returns `check` with `--without`, `--lines`, and the options on how findings are printed.
+// Returns `check` with all its options.
 fn printing_command<'a>(alloc: Global) -> Result<Command<'a>, AllocError>
     ensures { IfOk result (λ c. IsPart c printing_command) }
 {
     let format = format_option(
         alloc,
-        "Print the findings as line, full, json, sarif, github, gitlab, junit or checkstyle",
+        "Print the findings as line, full, json, sarif, github, gitlab, junit, checkstyle or baseline",
     );
     let printing = with_arg(choosing_command(alloc), format);
     let counting = with_arg(printing, statistics_flag(alloc));
@@ -31,7 +31,7 @@ fn printing_command<'a>(alloc: Global) -> Result<Command<'a>, AllocError>
     with_arg(limiting, color_option(alloc))
 }
 
-// Returns `check` with the options of `naming`, `--without` and `--lines`.
+// Returns `check` with the options of `naming`, `--without`, `--lines` and `--baseline`.
 fn choosing_command<'a>(alloc: Global) -> Result<Command<'a>, AllocError>
     ensures { IfOk result (λ c. IsPart c choosing_command) }
 {
@@ -41,7 +41,8 @@ fn choosing_command<'a>(alloc: Global) -> Result<Command<'a>, AllocError>
         alloc,
         "Print only the findings on these lines, for example 3-7,12",
     );
-    with_arg(leaving_out, lines)
+    let choosing = with_arg(leaving_out, lines);
+    with_arg(choosing, baseline_option(alloc))
 }
 
 fn without_option<'a>(alloc: Global) -> Arg<'a>
@@ -52,6 +53,15 @@ fn without_option<'a>(alloc: Global) -> Arg<'a>
         .value_name("RULES")
         .action(ArgAction::Append)
         .help("Skip the rules with these ids (comma-separated)")
+}
+
+fn baseline_option<'a>(alloc: Global) -> Arg<'a>
+    ensures { IsOption result baseline_option }
+{
+    Arg::new(alloc, BASELINE)
+        .long(BASELINE)
+        .value_name("FILE")
+        .help("Leave out the findings that this baseline lists")
 }
 
 fn statistics_flag<'a>(alloc: Global) -> Arg<'a>

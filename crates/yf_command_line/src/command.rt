@@ -78,6 +78,8 @@ pub enum Output {
     Full,
     /// The number of findings of each rule (`--statistics`).
     Statistics,
+    /// A baseline of all inputs (`--format baseline`).
+    Baseline,
     /// One report of all inputs, for programs.
     Report(Format),
 }
@@ -113,6 +115,8 @@ pub struct Check {
     pub without: Vec<OwnedText>,
     /// The lines to check (`--lines`), in the order of the command line. If there are none, all lines are checked.
     pub lines: Vec<LineRange>,
+    /// The name of the file with the baseline, whose findings are left out (`--baseline`).
+    pub baseline: Option<OwnedText>,
     /// How the findings are printed.
     pub printing: Printing,
 }

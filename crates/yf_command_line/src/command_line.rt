@@ -28,8 +28,8 @@ use yf_rule_pages::page::Page;
 /// `explain` prints. `--explain` may also come before the command. The commands are:
 ///
 /// - `events [SETTINGS] [READING] [FILE]`
-/// - `check [SETTINGS] [READING] [--names] [--without RULES] [--lines LINES] [PRINTING] [FILE..]`. RULES are names of
-///   rules, separated by commas. The option may be given more than once.
+/// - `check [SETTINGS] [READING] [--names] [--without RULES] [--lines LINES] [--baseline FILE] [PRINTING] [FILE..]`.
+///   RULES are names of rules, separated by commas. The option may be given more than once.
 /// - `fmt [SETTINGS] [READING] [--names] [--write] [--check] [--diff] [--lines LINES] [--format FORMAT] [FILE..]`.
 ///   `--write` needs a FILE, and no FILE may be `-`. It excludes `--check` and `--diff`. Several FILEs need one of
 ///   these three options. `--format` needs `--check`, and excludes `--diff` and `--lines`.
@@ -38,8 +38,8 @@ use yf_rule_pages::page::Page;
 ///
 /// SETTINGS is `--config FILE` or `--no-config`, and `--show-settings`. READING is `--explain`, `--any-text` and
 /// `--stdin-name NAME`. PRINTING is `--format FORMAT` or `--statistics`, and `--max-findings N` and `--color WHEN`:
-/// FORMAT is `line`, `full`, `json`, `sarif`, `github`, `gitlab`, `junit` or `checkstyle`, N is a decimal number, and
-/// WHEN is `auto`, `always` or `never`.
+/// FORMAT is `line`, `full`, `json`, `sarif`, `github`, `gitlab`, `junit`, `checkstyle` or, for `check`, `baseline`.
+/// N is a decimal number, and WHEN is `auto`, `always` or `never`.
 ///
 /// `--lines` takes at most one FILE. LINES are numbers of lines and ranges, as in `3-7,12`. The option may be given
 /// more than once.

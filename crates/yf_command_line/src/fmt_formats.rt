@@ -6,14 +6,17 @@ ghost use Rattle.yf_command_line.specs.Requests.{RefusedBy};
 ghost use Rattle.yf_command_line.specs.Rows.{format_given};
 
 use crate::command::{Fmt, Output};
-use crate::formats::output_named;
+use crate::formats::problems_named;
 use crate::options::{CHECK, DIFF, FORMAT, LINES, WRITE};
-use crate::printing::NO_FORMAT;
 use crate::refused_words::FORMAT_UNCHECKED;
 use crate::usage::{Usage, refusal, refusal_of_value};
 use crate::words::{is_given, value_given, words_given};
 use clap::ArgMatches;
 use std::alloc::Global;
+
+/// Why `fmt` refuses a name of a format.
+const NO_FORMAT: &str =
+    "\n  [possible values: line, full, json, sarif, github, gitlab, junit, checkstyle]";
 
 // Returns the task with this output, if it reports.
 pub(crate) fn with_output(output: Output, fmt: Fmt) -> Fmt
@@ -35,7 +38,7 @@ pub(crate) fn fmt_output_met(alloc: Global, given: &ArgMatches<'_>) -> Result<Ou
 {
     match value_given(given, FORMAT) {
         None => Ok(Output::Lines),
-        Some(name) => match output_named(name) {
+        Some(name) => match problems_named(name) {
             Some(output) => {
                 if takes_format(given) {
                     return Ok(output);

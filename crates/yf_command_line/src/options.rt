@@ -40,6 +40,8 @@ pub(crate) const NAMES: &str = "names";
 
 pub(crate) const WITHOUT: &str = "without";
 
+pub(crate) const BASELINE: &str = "baseline";
+
 pub(crate) const FORMAT: &str = "format";
 
 pub(crate) const STATISTICS: &str = "statistics";

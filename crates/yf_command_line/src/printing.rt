@@ -14,9 +14,9 @@ use clap::ArgMatches;
 use std::alloc::Global;
 use yf_line_ranges::number::read_number;
 
-/// Why a name of a format is refused.
-pub(crate) const NO_FORMAT: &str =
-    "\n  [possible values: line, full, json, sarif, github, gitlab, junit, checkstyle]";
+/// Why `check` refuses a name of a format.
+const NO_FORMAT: &str =
+    "\n  [possible values: line, full, json, sarif, github, gitlab, junit, checkstyle, baseline]";
 
 /// Why a word of `--color` is refused.
 const NO_COLORS: &str = "\n  [possible values: auto, always, never]";

@@ -6,6 +6,7 @@ pub mod TextLemmas
 pub mod ChangeLemmas
 pub mod FileLemmas
 pub mod SelectionLemmas
+pub mod BaselineLemmas
 pub mod StatisticsLemmas
 pub mod PieceLemmas
 pub mod EscapeLemmas

@@ -13,4 +13,5 @@ pub mod Statistics
 pub mod Pieces
 pub mod Excerpt
 pub mod Full
+pub mod Baselines
 pub mod Printed

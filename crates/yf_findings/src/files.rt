@@ -92,8 +92,8 @@ fn listed<'a>(
     Ok(all)
 }
 
-// Returns the name of a file, if it has one.
-fn name_in(file: &Option<OwnedText>) -> Option<&str>
+/// Returns the name of a file, if it has one.
+pub(crate) fn name_in(file: &Option<OwnedText>) -> Option<&str>
     ensures { option_map (λ s. s.now) result ≡ file.now }
 {
     match file {

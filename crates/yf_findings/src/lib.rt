@@ -5,6 +5,7 @@
 //! forms for people, for example a line for each finding.
 #![tactic(auto)]
 
+pub mod baselines;
 pub mod changes;
 mod columns;
 pub mod differences;

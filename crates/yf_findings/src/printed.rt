@@ -2,6 +2,7 @@
 ghost use Rattle.std.specs.Prelude.{◌≡◌, IfOk};
 ghost use Rattle.yf_findings.specs.Printed.{Printed, has_fixes, shows_changes};
 
+use crate::baselines::baseline_of;
 use crate::files::{FileProblems, report_of};
 use crate::full::full_of;
 use crate::lines::lines_of;
@@ -19,6 +20,8 @@ pub enum Form {
     Full { colored: bool },
     /// The number of findings of each rule.
     Statistics,
+    /// A baseline, as `yf_baseline` writes it.
+    Baseline,
     /// For programs.
     Report(Format),
 }
@@ -31,6 +34,7 @@ pub fn shows_changes(form: Form) -> bool
         Form::Lines { named: _ } => false,
         Form::Full { colored: _ } => false,
         Form::Statistics => false,
+        Form::Baseline => false,
         Form::Report(format) => has_fixes(format),
     }
 }
@@ -61,6 +65,7 @@ pub fn printed(alloc: Global, form: Form, files: &[FileProblems]) -> Result<Vec<
         Form::Lines { named } => lines_of(alloc, named, files),
         Form::Full { colored } => full_of(alloc, colored, files),
         Form::Statistics => statistics_of(alloc, files),
+        Form::Baseline => baseline_of(alloc, files),
         Form::Report(format) => report_of(alloc, format, files),
     }
 }

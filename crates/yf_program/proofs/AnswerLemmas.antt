@@ -27,8 +27,8 @@ use Rattle.yf_program.specs.Answer.{EndsRewriting, Ran, RanLeftOut, RewritesInpu
 use Rattle.yf_host.specs.Memory.{ToldMemory, empty_memory}
 use Rattle.yf_program.specs.Answer.{host_in, name_of, task_of}
 use Rattle.yf_program.specs.Answer.DoesEach.{one_done, one_more}
-use Rattle.yf_program.specs.Forms.{check_form, compare_form, explains_in, limit_in, writes_at_once}
-use Rattle.yf_program.specs.Reports.{DoesReport, compare_task, report_task}
+use Rattle.yf_program.specs.Forms.{check_form, checks_at_once, compare_form, explains_in, writes_at_once}
+use Rattle.yf_program.specs.Reports.{DoesReport, ReportsNew, compare_task}
 use Rattle.yf_program.specs.Run.{DoesWith}
 use Rattle.yf_program.specs.Run.DoesWith.{other_version, without_memory, are_taken}
 use Rattle.yf_program.specs.Guarded.{ReaderClaim, is_standard, prints_text}
@@ -37,6 +37,7 @@ use Rattle.yf_program.specs.Settings.Scoped.{left_out, no_memory, included}
 use Rattle.yf_program.specs.declared.scope.Scope.{Scope}
 use Rattle.yf_program.specs.declared.search.InForce.{InForce}
 use Rattle.yf_settings.specs.declared.file_settings.FileSettings.{FileSettings}
+use Rattle.yf_program.proofs.BaselineLemmas.{new_before}
 use Rattle.yf_program.proofs.ReportLemmas.{report_before}
 use Rattle.yf_host.specs.Rewriting.{FormatsBytes, new_text_of}
 use Rattle.yf_host.specs.declared.guarded_text.NoNewText.{NoNewText}
@@ -156,9 +157,9 @@ module _ {F : Type 0} (earlier later : Host F) (known : StillKnown earlier.input
   check_before : (check : Check) (scope : Scope) (explain : Bool) (style : Style) (form : Form) (status : ℕ) (before after : World F)
       → DoesCheck later check scope explain style form status before after → DoesCheck earlier check scope explain style form status before after
   check_before check scope explain style form status before after d =
-      either_check (writes_at_once form check.lines.items check.printing.limit)
+      either_check (checks_at_once form check)
       (all_before scope (task_of (work.Check check.without) explain style) (all_inputs check.inputs) status before after)
-      (report_before earlier later known scope (report_task check explain style form) (all_inputs check.inputs) status before after) d
+      (new_before earlier later known check scope explain style form status before after) d
 
   compare_before : (inputs : InputList) (scope : Scope) (explain : Bool) (style : Style) (form : Form) (status : ℕ) (before after : World F)
       → DoesCompare later inputs scope explain style form status before after → DoesCompare earlier inputs scope explain style form status before after
@@ -197,24 +198,20 @@ module _ {F : Type 0} (host : Host F) (check : Check) (scope : Scope) (explain :
   in_form : DoesCheck host check scope explain style form status before after → DoesIn host (command.Check check) scope explain style status before after
   in_form d = subst (λ (f : Form). DoesCheck host check scope explain style f status before after) same d
 
-  pub checked_at_once : writes_at_once form check.lines.items check.printing.limit ≡ true
+  pub checked_at_once : checks_at_once form check ≡ true
       → DoesAll scope (ScopedInput host scope (task_of (work.Check check.without) explain style)) (all_inputs check.inputs) status before after
       → DoesIn host (command.Check check) scope explain style status before after
   checked_at_once at_once d =
       let Each = DoesAll scope (ScopedInput host scope (task_of (work.Check check.without) explain style)) (all_inputs check.inputs) status before after in
-      let Report = DoesReport host scope (report_task check explain style form) (all_inputs check.inputs) status before after in
+      let Report = ReportsNew host check scope explain style form status before after in
       in_form (subst (λ (b : Bool). MatchBool b Each Report) (sym at_once) d)
 
-  pub checked_in_report : (told : Bool) → told ≡ explains_in form explain → (cut : Option ℕ) → cut ≡ limit_in form check.printing.limit
-      → writes_at_once form check.lines.items check.printing.limit ≡ false
-      → DoesReport host scope (record (report_task check explain style form) { explain = told; limit = cut }) (all_inputs check.inputs) status before after
+  pub checked_in_report : checks_at_once form check ≡ false → ReportsNew host check scope explain style form status before after
       → DoesIn host (command.Check check) scope explain style status before after
-  checked_in_report told explains cut limits later d =
+  checked_in_report later d =
       let Each = DoesAll scope (ScopedInput host scope (task_of (work.Check check.without) explain style)) (all_inputs check.inputs) status before after in
-      let Report = DoesReport host scope (report_task check explain style form) (all_inputs check.inputs) status before after in
-      let with_limit = subst (λ (l : Option ℕ). DoesReport host scope (record (report_task check explain style form) { explain = told; limit = l }) (all_inputs check.inputs) status before after) limits d in
-      let reported = subst (λ (b : Bool). DoesReport host scope (record (report_task check explain style form) { explain = b }) (all_inputs check.inputs) status before after) explains with_limit in
-      in_form (subst (λ (b : Bool). MatchBool b Each Report) (sym later) reported)
+      let Report = ReportsNew host check scope explain style form status before after in
+      in_form (subst (λ (b : Bool). MatchBool b Each Report) (sym later) d)
 
 -- the comparison in its form: each line was written at once, or one report of all was written
 module _ {F : Type 0} (host : Host F) (inputs : InputList) (output : Output) (scope : Scope) (explain : Bool) (style : Style) (form : Form) (same : form ≡ compare_form inputs output scope explain) (status : ℕ) (before after : World F) where

@@ -10,6 +10,7 @@ pub mod AnswerLemmas
 pub mod VersionLemmas
 -- `report_inputs`
 pub mod ReportLemmas
+pub mod BaselineLemmas
 -- `report_input`, `tell_file`, `tell_findings`
 pub mod FurtherLemmas
 -- `show_in_force`

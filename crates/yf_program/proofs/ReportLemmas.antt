@@ -16,7 +16,6 @@ use Rattle.yf_guard.specs.declared.guarded.Guarded.TheVariants.{Vault}
 use Rattle.yf_guarded.specs.Judged.{GivesJudged}
 use Rattle.yf_guarded.specs.declared.read.Verdict.{Verdict}
 use Rattle.yf_guarded.specs.declared.read.Verdict.TheVariants as verdict
-use Rattle.yf_line_ranges.specs.declared.range.LineRange.{LineRange}
 use Rattle.yf_lines.specs.declared.fault.Fault.{Fault}
 use Rattle.yf_lines.specs.declared.fault.Fault.TheVariants as fault
 use Rattle.yf_rules.specs.Runs.ByteStream.{ByteStream, NoFailure, NothingWritten, WrittenOrFailed}
@@ -26,7 +25,7 @@ use Rattle.yf_host.specs.Ends.{AnyLines, EndsTold, InputsOpened, IsFile, Opens, 
 use Rattle.yf_program.specs.Guarded.{held, is_judged}
 use Rattle.yf_host.specs.LeftAlone.{left_line, left_status}
 use Rattle.yf_program.specs.Reports.{AddsFile, AreAsked, DoesReport, GaveUp, GivesAll, GivesAsJudged, GivesEach, GivesInput, GivesJudgedText, GivesNamed, GivesOver, GivesRead, GivesScoped, GivesUnopened}
-use Rattle.yf_program.specs.Reports.{Finds, FindsBeside, IsOnly, OpensReader, ReadClaim, ReportState, StopsAt, asked_lines, empty_report, file_name}
+use Rattle.yf_program.specs.Reports.{Finds, FindsBeside, IsOnly, OpensReader, ReadClaim, ReportState, StopsAt, empty_report, file_name}
 use Rattle.yf_host.specs.Memory.{ToldErrors, empty_stream}
 use Rattle.yf_program.specs.Reports.GivesScoped.{left_out, included}
 use Rattle.yf_program.specs.Reports.GivesEach.{none_given, one_more}
@@ -47,16 +46,8 @@ module _ (before after : InputClaim) (known : StillKnown before after) (scope : 
   given_before : (input : Input) (status : ℕ) (old new : ReportState)
       → GivesInput after scope task input status old new → GivesInput before scope task input status old new
   given_before input status old new d =
-      let P = GivesRead scope task input d.1.0 status old.errors new.errors in (
-        (λ noted. d.0 (known.notes noted)),
-        (
-          d.1.0,
-          d.1.1,
-          either_before input d.1.0 status old.errors new.errors P
-              d.1.2,
-          d.1.3,
-        ),
-      )
+      let P = GivesRead scope task input d.1.0 status old.errors new.errors in
+      ((λ noted. d.0 (known.notes noted)), (d.1.0, d.1.1, either_before input d.1.0 status old.errors new.errors P d.1.2, d.1.3))
 
   scoped_before : (input : Input) (status : ℕ) (old new : ReportState)
       → GivesScoped after scope task input status old new → GivesScoped before scope task input status old new
@@ -173,14 +164,11 @@ module _ (claim : InputClaim) (scope : Scope) (task : ReportTask) (before after 
 
 -- the problems of a text that was checked, and the problem of one that was refused
 module _ (task : ReportTask) (name : Option (List ℕ)) (status : ℕ) (reader left before after : ByteStream) (old new : List FileProblems) where
-  pub found_over : (asked : List LineRange) (all : CheckedText) → asked ≡ asked_lines task.work
-      → Finds task.work task.form task.style reader.contents all → NoFailure reader left
+  pub found_over : (all : CheckedText) → Finds task.work task.form task.style reader.contents all → NoFailure reader left
       → NothingWritten before after
-      → AddsFile name (λ added. AreAsked asked all.problems.items all.changes.items added status) old new
+      → AddsFile name (λ added. AreAsked task.work all.problems.items all.changes.items added status) old new
       → AddsFile name (λ added. GivesOver task added status reader left before after) old new
-  found_over asked all lines found works nothing d =
-      let kept = subst (λ (a : List LineRange). AreAsked a all.problems.items all.changes.items d.0 status) lines d.2 in
-      (d.0, d.1, inl (all, found, kept, works, nothing), d.3)
+  found_over all found works nothing d = (d.0, d.1, inl (all, found, d.2, works, nothing), d.3)
 
   pub refused_over : (f : Fault) (bytes : List ℕ) → Runs.RefusedText reader left f → Runs.Keeps reader.contents bytes f
       → EndsTold task.explain (Explains bytes f) f status before after → AddsFile name (IsOnly (RefusalProblem bytes f)) old new
@@ -209,14 +197,11 @@ module _ (task : ReportTask) (name : Option (List ℕ)) (status : ℕ) (before a
       → AddsFile name (λ added. GivesAsJudged task verdict.Encrypted t added status before after) old new
   encrypted_given problems changes none same ends told d = (d.0, d.1, (d.2.0 ∙ none, d.2.1 ∙ same, ends, told), d.3)
 
-  pub no_data_given : (f : Finding) (asked : List LineRange) (found : CheckedText) (all : List OwnedProblem)
-      → asked ≡ asked_lines task.work → FindsBeside task.work task.style (Some t) found
-      → WithGuard t f found.problems.items all → NothingWritten before after
-      → AddsFile name (λ added. AreAsked asked all [] added status) old new
+  pub no_data_given : (f : Finding) (found : CheckedText) (all : List OwnedProblem)
+      → FindsBeside task.work task.style (Some t) found → WithGuard t f found.problems.items all
+      → NothingWritten before after → AddsFile name (λ added. AreAsked task.work all [] added status) old new
       → AddsFile name (λ added. GivesAsJudged task (verdict.NoData f) t added status before after) old new
-  no_data_given f asked found all lines checked guarded nothing d =
-      let kept = subst (λ (a : List LineRange). AreAsked a all [] d.0 status) lines d.2 in
-      (d.0, d.1, inl (found, all, checked, guarded, kept, nothing), d.3)
+  no_data_given f found all checked guarded nothing d = (d.0, d.1, inl (found, all, checked, guarded, d.2, nothing), d.3)
 
   pub no_data_refused : (f : Finding) (rest : List ℕ) (g : Fault) (bytes : List ℕ) → Runs.RefusedText (held t) (held rest) g
       → Runs.Keeps (Some t) bytes g → EndsTold task.explain (Explains bytes g) g status before after
@@ -232,8 +217,7 @@ module _ (claim : InputClaim) (scope : Scope) (task : ReportTask) (input : Input
       (GivesOver task added status reader left before.errors after.errors)) before.files after.files
       → GivesInput claim scope task input status before after
   opened_given reader left judges name judged named opened opens d =
-      let read = subst (λ (b : Bool). MatchBool b (GivesJudgedText task d.0 status reader left before.errors
-      after.errors)
+      let read = subst (λ (b : Bool). MatchBool b (GivesJudgedText task d.0 status reader left before.errors after.errors)
       (GivesOver task d.0 status reader left before.errors after.errors)) judged d.2 in
       (opened, (d.0, d.1 ∙ named, inr (reader, left, opens, read), d.3))
 

@@ -40,8 +40,8 @@ use Rattle.yf_rules.specs.Runs.Run.{Gave, NotationWritten, RefusedEvents, Refuse
 pub use Rattle.yf_host.specs.Ends.{AnyLines, AreTold, EndsBy, EndsOver, EndsTold, EndsWell, InputsOpened, IsFile, Opens}
 pub use Rattle.yf_host.specs.Ends.{TellsMore, name_of}
 use Rattle.yf_rules.specs.Quoted.{quoted}
-use Rattle.yf_program.specs.Forms.{check_form, compare_form, writes_at_once}
-use Rattle.yf_program.specs.Reports.{DoesReport, compare_task, report_task}
+use Rattle.yf_program.specs.Forms.{check_form, checks_at_once, compare_form, writes_at_once}
+use Rattle.yf_program.specs.Reports.{DoesReport, ReportsNew, compare_task}
 use Rattle.yf_guard.specs.declared.guarded.Guarded.TheVariants.{Vault}
 use Rattle.yf_guarded.specs.Checked.{CheckedBroke, CheckedRun}
 use Rattle.yf_guarded.specs.Judged.{GivesText, IsByteFault}
@@ -318,10 +318,10 @@ ScopedRewrite host scope explain Text =
 -- was checked, or one report of all inputs was written.
 abbrev pub DoesCheck : {F : Type 0} → Host F → Check → Scope → Bool → Style → Form → WorkClaim F
 DoesCheck host check scope explain style form status before after =
-    MatchBool (writes_at_once form check.lines.items check.printing.limit)
+    MatchBool (checks_at_once form check)
     (DoesAll scope (ScopedInput host scope (task_of (work.Check check.without) explain style)) (all_inputs check.inputs)
     status before after)
-    (DoesReport host scope (report_task check explain style form) (all_inputs check.inputs) status before after)
+    (ReportsNew host check scope explain style form status before after)
 
 -- `fmt --check` was done in this form with the inputs that are not left out: the line of each input was written as soon
 -- as it was compared, or one report of all inputs was written.

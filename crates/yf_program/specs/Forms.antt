@@ -31,6 +31,7 @@ abbrev pub form_in : Output → Bool → Bool → Form
 form_in output.Lines colored named = form.Lines named
 form_in output.Full colored named = form.Full colored
 form_in output.Statistics colored named = form.Statistics
+form_in output.Baseline colored named = form.Baseline
 form_in (output.Report format) colored named = form.Report format
 
 -- The form of the findings:
@@ -39,7 +40,7 @@ form_in (output.Report format) colored named = form.Report format
 -- |-----------------|-----------------|-------------------------------------------------|
 -- | `--format line` | any             | a line for each finding, with names if `named`  |
 -- | `--format full` | any             | for people, with colors if `has_colors`         |
--- | `--format NAME` | any             | a report for programs                           |
+-- | `--format NAME` | any             | a report for programs, or a baseline            |
 -- | `--statistics`  | any             | the number of findings of each rule             |
 -- | none            | a terminal      | as with `--format full`                         |
 -- | none            | no terminal     | as with `--format line`                         |
@@ -71,9 +72,14 @@ abbrev pub writes_at_once : Form → List LineRange → Option ℕ → Bool
 writes_at_once (form.Lines named) lines limit = (length lines == 0) && not (is_some limit)
 writes_at_once _ lines limit = false
 
--- The limit of findings to print. `--statistics` counts all findings, whatever the limit.
+-- Whether a check writes the findings of an input as soon as it is checked. A baseline may leave findings out.
+abbrev pub checks_at_once : Form → Check → Bool
+checks_at_once form check = not (is_some check.baseline) && writes_at_once form check.lines.items check.printing.limit
+
+-- The limit of findings to print. `--statistics` counts all findings, and a baseline lists all, whatever the limit.
 abbrev pub limit_in : Form → Option ℕ → Option ℕ
 limit_in form.Statistics limit = None
+limit_in form.Baseline limit = None
 limit_in _ limit = limit
 
 -- Whether refusals are explained: with `--explain`, and always in the form for people.

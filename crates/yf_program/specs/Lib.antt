@@ -1,5 +1,6 @@
 -- what the program does, from its arguments to its exit status
 pub mod Forms
+pub mod BaselineFile
 pub mod Reports
 pub mod Settings
 pub mod Guarded

@@ -5,7 +5,8 @@
 use Rattle.std.specs.Prelude.{◌≡◌, ◌⊎◌, ◌++◌, ◌∷◌, ◌-◌, ◌==◌, ℕ, max, List, [], map, Bool, true, false}
 use Rattle.std.specs.Prelude.{Option, Some, None}
 use Rattle.std.specs.List.{concat}
-use Rattle.std.specs.Prelude.{MatchBool, codes, decimal, if◌then◌else◌}
+use Rattle.std.specs.Prelude.{MatchBool, codes, decimal, unwrap_or, if◌then◌else◌}
+use Rattle.yf_command_line.specs.Requests.{all_inputs}
 use Rattle.yf_command_line.specs.declared.command.Check.{Check}
 use Rattle.yf_command_line.specs.declared.command.Input.{Input}
 use Rattle.yf_command_line.specs.declared.command.Input.TheVariants.{Standard, File}
@@ -26,7 +27,6 @@ use Rattle.yf_guard.specs.declared.guarded.Guarded.TheVariants.{Vault}
 use Rattle.yf_guarded.specs.Judged.{GivesJudged}
 use Rattle.yf_guarded.specs.declared.read.Verdict.{Verdict}
 use Rattle.yf_guarded.specs.declared.read.Verdict.TheVariants as verdict
-use Rattle.yf_line_ranges.specs.declared.range.LineRange.{LineRange}
 use Rattle.yf_lines.specs.declared.fault.Fault.{Fault}
 use Rattle.yf_lines.specs.declared.fault.Fault.TheVariants as fault
 use Rattle.yf_rules.specs.Runs.ByteStream.{ByteStream, NoFailure, NothingWritten, Writes, BreaksOff, WrittenOrFailed}
@@ -34,20 +34,22 @@ use Rattle.yf_rules.specs.Runs.Run as Runs
 use Rattle.yf_rules.specs.declared.finding.Finding.{Finding}
 use Rattle.yf_host.specs.Ends.{AnyLines, EndsBy, EndsTold, InputsOpened, IsFile, Opens, name_of}
 use Rattle.yf_host.specs.Memory.{ToldErrors, empty_stream}
+use Rattle.yf_program.specs.BaselineFile.{BaselineTaken, BaselineUntaken, Listed, TellsUntaken, baseline_inputs, not_listed}
 use Rattle.yf_program.specs.Forms.{explains_in, limit_in}
 use Rattle.yf_program.specs.Guarded.{held, is_judged}
 use Rattle.yf_host.specs.LeftAlone.{left_line, left_status}
 use Rattle.yf_host.specs.Report.{check_status}
 use Rattle.yf_program.specs.Settings.{IsLeftOut, TellsLeftOut}
 use Rattle.yf_host.specs.World.{Host, InputClaim, OutputStreams, WorkClaim, World, streams_of}
+use Rattle.yf_program.specs.declared.baseline_file.NoBaseline.{NoBaseline}
 use Rattle.yf_program.specs.declared.report_inputs.ReportTask.{ReportTask}
 use Rattle.yf_program.specs.declared.report_work.ReportWork.{ReportWork}
 use Rattle.yf_program.specs.declared.report_work.ReportWork.TheVariants as work
 use Rattle.yf_program.specs.declared.scope.Scope.{Scope}
 
-abbrev pub report_task : Check → Bool → Style → Form → ReportTask
-report_task check explain style form = record {
-  work = work.Check check.without check.lines;
+abbrev pub report_task : Check → Listed → Bool → Style → Form → ReportTask
+report_task check listed explain style form = record {
+  work = work.Check check.without check.lines listed;
   style = style;
   form = form;
   limit = limit_in form check.printing.limit;
@@ -68,22 +70,25 @@ compare_task explain style form = record {
 
 -- ---- The problems of a text
 
--- The lines whose problems are listed, or no lines if all are.
-abbrev pub asked_lines : ReportWork → List LineRange
-asked_lines (work.Check without lines) = lines.items
-asked_lines work.Compare = []
-
 -- The work found these problems in the text that was read. A check lists the changes between the text and its formatting
 -- if the form of the report shows them. A comparison lists no changes.
 abbrev pub Finds : ReportWork → Form → Style → Option (List ℕ) → CheckedText → Type 0
-Finds (work.Check without lines) form style known all = ReadProblems (shows_changes form) without.items style known all
+Finds (work.Check without lines baseline) form style known all =
+    ReadProblems (shows_changes form) without.items style known all
 Finds work.Compare form style known all = ReadDifference style known all.problems.items × (all.changes.items ≡ [])
 
 -- The work found these problems in a text that is no data, besides the problem that says so. A text that is no data is
 -- not compared.
 abbrev pub FindsBeside : ReportWork → Style → Option (List ℕ) → CheckedText → Type 0
-FindsBeside (work.Check without lines) style known found = ReadProblems false without.items style known found
+FindsBeside (work.Check without lines baseline) style known found =
+    ReadProblems false without.items style known found
 FindsBeside work.Compare style known found = found.problems.items ≡ []
+
+-- Those of the problems of the input with this name that are asked for: on the asked lines, and without the findings that
+-- the baseline lists. A comparison asks for all problems.
+abbrev pub asked_problems : ReportWork → Option (List ℕ) → List OwnedProblem → List OwnedProblem
+asked_problems (work.Check without lines baseline) name all = on_lines lines.items (not_listed baseline name all)
+asked_problems work.Compare name all = all
 
 -- ---- The problems of an input
 
@@ -105,19 +110,19 @@ GivesFault task file status reader left before after =
     (f : Fault) × (bytes : List ℕ) × Runs.RefusedText reader left f × Runs.Keeps reader.contents bytes f
     × IsOnly (RefusalProblem bytes f) file × EndsTold task.explain (Explains bytes f) f status before after
 
--- The file has the problems of all that are on the asked lines, and these changes. The status is that of a check that
--- found these problems.
-abbrev pub AreAsked : List LineRange → List OwnedProblem → List Change → FileProblems → ℕ → Type 0
-AreAsked lines all changes file status =
-    (file.problems.items ≡ on_lines lines all) × (file.changes.items ≡ changes)
+-- The file has those of these problems that are asked for, and these changes. The status is that of a check that found
+-- the problems of the file.
+abbrev pub AreAsked : ReportWork → List OwnedProblem → List Change → FileProblems → ℕ → Type 0
+AreAsked work all changes file status =
+    (file.problems.items ≡ asked_problems work file.file all) × (file.changes.items ≡ changes)
     × (status ≡ check_status (has_problem file.problems.items))
 
--- The work was done with the text that a reader has, and these are its problems on the asked lines, with its changes;
--- or it was refused.
+-- The work was done with the text that a reader has, and these are its problems that are asked for, with its changes; or
+-- it was refused.
 abbrev pub GivesOver : ReportTask → FileProblems → ℕ → ByteStream → ByteStream → ByteStream → ByteStream → Type 0
 GivesOver task file status reader left before after =
     ((all : CheckedText) × Finds task.work task.form task.style reader.contents all
-    × AreAsked (asked_lines task.work) all.problems.items all.changes.items file status × NoFailure reader left
+    × AreAsked task.work all.problems.items all.changes.items file status × NoFailure reader left
     × NothingWritten before after)
     ⊎ GivesFault task file status reader left before after
 
@@ -127,7 +132,7 @@ abbrev pub GivesNoData : ReportTask → Finding → List ℕ → FileProblems �
 GivesNoData task f t file status before after =
     ((found : CheckedText) × (all : List OwnedProblem)
     × FindsBeside task.work task.style (Some t) found × WithGuard t f found.problems.items all
-    × AreAsked (asked_lines task.work) all [] file status × NothingWritten before after)
+    × AreAsked task.work all [] file status × NothingWritten before after)
     ⊎ ((rest : List ℕ) × GivesFault task file status (held t) (held rest) before after)
 
 -- What the check of a text gives, by the verdict on the text. An encrypted text has no problem, and a line says that it
@@ -317,3 +322,23 @@ DoesReport host scope task inputs status before after =
     (errors : ByteStream) × (after.files ≡ before.files)
     × (ReportsAll host scope task inputs errors status before after
     ⊎ ReportsNone host scope task inputs errors status before after)
+
+-- ---- The baseline
+
+-- The baseline is not taken, and no other input was opened.
+abbrev pub TakesNoBaseline : {F : Type 0} → Host F → Check → Bool → WorkClaim F
+TakesNoBaseline host check explain status before after =
+    (why : NoBaseline) × BaselineUntaken host.inputs check.baseline why × (after.files ≡ before.files)
+    × InputsOpened host.inputs before.opened after.opened (baseline_inputs check.baseline)
+    × NothingWritten before.streams.output after.streams.output
+    × TellsUntaken explain (unwrap_or check.baseline []) why status before.streams.errors after.streams.errors
+
+-- The baseline, if there is one, was read first. Then one report of all inputs was written, without the findings that the
+-- baseline lists.
+abbrev pub ReportsNew : {F : Type 0} → Host F → Check → Scope → Bool → Style → Form → WorkClaim F
+ReportsNew host check scope explain style form status before after =
+    TakesNoBaseline host check explain status before after
+    ⊎ ((listed : Listed) × (opened : List Input) × BaselineTaken host.inputs check.baseline listed
+    × InputsOpened host.inputs before.opened opened (baseline_inputs check.baseline)
+    × DoesReport host scope (report_task check listed explain style form) (all_inputs check.inputs) status
+    (record before { opened = opened }) after)

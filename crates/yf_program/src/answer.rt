@@ -1,9 +1,12 @@
 //! The whole program, over whatever it reads and writes: from the words of the command line to the status.
 ghost use Rattle.std.specs.Prelude.{map, string_bytes};
+ghost use Rattle.yf_command_line.specs.Requests.{all_inputs};
 ghost use Rattle.yf_program.specs.Answer.{DoesIn, host_in};
+ghost use Rattle.yf_program.specs.Reports.{DoesReport, ReportsNew, report_task};
 ghost use Rattle.yf_program.specs.Run.{ProgramRuns};
 ghost use Rattle.yf_host.specs.World.{world_in};
 
+use crate::baseline_file::{listed_by, report_untaken};
 use crate::each::{do_inputs, do_scoped};
 use crate::parts::do_part;
 use crate::program::{answer_usage, written_out};
@@ -13,11 +16,15 @@ use crate::reports::report_inputs;
 use crate::rewrites::rewrite_files;
 use crate::scope::Scope;
 use crate::task::{Task, Work};
-use crate::terminal::{Terminal, explains_in, form_of, is_named, limit_in, writes_at_once};
-use crate::with_settings::do_request;
+use crate::terminal::{
+    Terminal, checks_at_once, explains_in, form_of, is_named, limit_in, writes_at_once,
+};
+use crate::with_settings::{do_request, name_or_empty};
 use std::alloc::Global;
+use yf_baseline::listed::Texts;
 use yf_command_line::command::{Check, Colors, Command, Fmt, Input, InputList, Output, Printing};
 use yf_command_line::command_line::parse_line;
+use yf_findings::printed::Form;
 use yf_forms::style::Style;
 use yf_host::files::{Links, NewText};
 use yf_host::guarded_text::GuardedText;
@@ -105,16 +112,15 @@ fn do_check<I: Inputs, S: Links, W: Sink, E: Sink>(
     ensures { DoesIn (host_in I.claim S.tells S.state S.leads sources.old) (Command.Check check) scope.now explain style
         result (world_in I.opened sources.old streams.old) (world_in I.opened sources.new streams.new) }
 {
-    let Check {
-        inputs,
-        without,
-        lines,
-        printing,
-    } = check;
-    let named = is_named(scope.names, &inputs);
-    let form = form_of(printing, scope.terminal, named, explain);
-    let at_once = writes_at_once(form, lines.as_slice(), printing.limit);
+    let named = is_named(scope.names, &check.inputs);
+    let form = form_of(check.printing, scope.terminal, named, explain);
+    let at_once = checks_at_once(form, &check);
     if at_once {
+        let Check {
+            inputs,
+            without,
+            ..
+        } = check;
         let task = Task {
             work: Work::Check(without),
             style,
@@ -122,8 +128,67 @@ fn do_check<I: Inputs, S: Links, W: Sink, E: Sink>(
         };
         return do_inputs(alloc, &task, scope, &inputs, sources, streams);
     }
+    report_new(alloc, check, form, scope, explain, style, sources, streams)
+}
+
+// Reads the baseline, if there is one, and reports the findings that it doesn't list.
+fn report_new<I: Inputs, S: Links, W: Sink, E: Sink>(
+    alloc: Global,
+    check: Check,
+    form: Form,
+    scope: &Scope,
+    explain: bool,
+    style: Style,
+    sources: &mut Sources<I, S>,
+    streams: &mut Streams<W, E>,
+) -> u8
+    ensures { ReportsNew (host_in I.claim S.tells S.state S.leads sources.old) check scope.now explain style form result
+        (world_in I.opened sources.old streams.old) (world_in I.opened sources.new streams.new) }
+{
+    match listed_by(alloc, &check.baseline, &mut sources.inputs) {
+        Ok(listed) => report_unlisted(
+            alloc, check, listed, form, scope, explain, style, sources, streams,
+        ),
+        Err(why) => report_untaken(
+            alloc,
+            explain,
+            &sources.inputs,
+            name_or_empty(&check.baseline),
+            &why,
+            &mut streams.errors,
+        ),
+    }
+}
+
+// Reports the findings that are not listed.
+fn report_unlisted<I: Inputs, S: Links, W: Sink, E: Sink>(
+    alloc: Global,
+    check: Check,
+    listed: Option<Texts>,
+    form: Form,
+    scope: &Scope,
+    explain: bool,
+    style: Style,
+    sources: &mut Sources<I, S>,
+    streams: &mut Streams<W, E>,
+) -> u8
+    ensures { DoesReport (host_in I.claim S.tells S.state S.leads sources.old) scope.now
+        (report_task check listed explain style form) (all_inputs check.inputs) result
+        (world_in I.opened sources.old streams.old) (world_in I.opened sources.new streams.new) }
+{
+    let Check {
+        inputs,
+        without,
+        lines,
+        printing,
+        ..
+    } = check;
     let task = ReportTask {
-        work: ReportWork::Check { without, lines },
+        work: ReportWork::Check {
+            without,
+            lines,
+            baseline: listed,
+        },
         style,
         form,
         limit: limit_in(form, printing.limit),

@@ -5,6 +5,7 @@
 #![tactic(auto)]
 
 pub mod answer;
+pub mod baseline_file;
 pub mod each;
 pub mod formatted;
 pub mod further;

@@ -13,20 +13,18 @@ ghost use Rattle.yf_rules.specs.Runs.ByteStream.{NothingWritten, stream_of};
 
 use crate::further::report_input;
 use crate::report_inputs::ReportTask;
-use crate::report_work::{asked_lines, read_beside, read_found};
+use crate::report_work::{ReportWork, asked_problems, read_beside, read_found};
 use std::alloc::{AllocError, Global};
 use yf_findings::changes::Change;
 use yf_findings::files::FileProblems;
 use yf_findings::guards::with_guard;
 use yf_findings::owned::OwnedProblem;
 use yf_findings::refusals::refusal;
-use yf_findings::selection::on_lines;
 use yf_guard::guarded::Guarded;
 use yf_guarded::held::Held;
 use yf_guarded::read::{Verdict, read_judged};
 use yf_host::left_alone::report_left;
 use yf_host::report::{FINDINGS, GOOD};
-use yf_line_ranges::range::LineRange;
 use yf_lines::fault::Fault;
 use yf_lines::text::OwnedText;
 use yf_lines::watched::{Sink, Source};
@@ -163,9 +161,8 @@ fn give_no_data<E: Sink>(
     let mut kept = Vec::new(alloc);
     match read_beside(alloc, &task.work, &task.style, &mut held, &mut kept) {
         Ok(checked) => {
-            let asked = asked_lines(&task.work);
             let problems = checked.problems;
-            add_guarded(alloc, asked, name, finding, bytes, problems, files)
+            add_guarded(alloc, &task.work, name, finding, bytes, problems, files)
         }
         Err(fault) => {
             let read = kept.as_slice();
@@ -174,11 +171,11 @@ fn give_no_data<E: Sink>(
     }
 }
 
-// Adds the problems of these bytes on some lines, and among them that of a finding that says why the bytes are no data.
-// Returns the status.
+// Adds the problems of these bytes that are asked for. Among all problems is that of a finding that says why the bytes are
+// no data. Returns the status.
 fn add_guarded(
     alloc: Global,
-    asked: &[LineRange],
+    work: &ReportWork,
     name: Option<&str>,
     finding: &Finding,
     bytes: &[u8],
@@ -186,11 +183,11 @@ fn add_guarded(
     files: &mut Vec<FileProblems>,
 ) -> Result<u8, AllocError>
     ensures { IfOk result (λ status. (all : List OwnedProblem) × WithGuard bytes.now finding.now problems.items all
-        × AddsFile (option_map (λ n. n.now) name.entry) (λ added. AreAsked asked.now all [] added status)
+        × AddsFile (option_map (λ n. n.now) name.entry) (λ added. AreAsked work.now all [] added status)
         files.old.items files.new.items) }
 {
     let all = with_guard(alloc, bytes, finding, problems)?;
-    add_found(alloc, asked, name, all, Vec::new(alloc), files)
+    add_found(alloc, work, name, all, Vec::new(alloc), files)
 }
 
 // Adds the problems of what a reader has, and returns the status.
@@ -213,8 +210,14 @@ fn give_text<R: Source, E: Sink>(
     let mut kept = Vec::new(alloc);
     match read_found(alloc, &task.work, task.form, &task.style, reader, &mut kept) {
         Ok(checked) => {
-            let asked = asked_lines(&task.work);
-            add_found(alloc, asked, name, checked.problems, checked.changes, files)
+            add_found(
+                alloc,
+                &task.work,
+                name,
+                checked.problems,
+                checked.changes,
+                files,
+            )
         }
         Err(fault) => {
             let bytes = kept.as_slice();
@@ -223,20 +226,20 @@ fn give_text<R: Source, E: Sink>(
     }
 }
 
-// Adds the problems of a text on some lines, with the changes of the text, and returns the status of a check that found
+// Adds the problems of a text that are asked for, with the changes of the text. Returns the status of a check that found
 // these problems.
 fn add_found(
     alloc: Global,
-    asked: &[LineRange],
+    work: &ReportWork,
     name: Option<&str>,
     problems: Vec<OwnedProblem>,
     changes: Vec<Change>,
     files: &mut Vec<FileProblems>,
 ) -> Result<u8, AllocError>
     ensures { IfOk result (λ status. AddsFile (option_map (λ n. n.now) name.entry)
-        (λ added. AreAsked asked.now problems.items changes.items added status) files.old.items files.new.items) }
+        (λ added. AreAsked work.now problems.items changes.items added status) files.old.items files.new.items) }
 {
-    let kept = on_lines(asked, problems);
+    let kept = asked_problems(alloc, work, name, problems)?;
     let status = status_of(kept.as_slice());
     match add(alloc, name, kept, changes, files) {
         Ok(()) => Ok(status),

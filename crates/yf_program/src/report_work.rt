@@ -1,14 +1,18 @@
 //! The work on the text of an input, for a report.
-ghost use Rattle.std.specs.Prelude.{◌≡◌, [], IfErr, IfOk, MatchResult, OnOk};
-ghost use Rattle.yf_program.specs.Reports.{Finds, FindsBeside, asked_lines};
+ghost use Rattle.std.specs.Prelude.{◌≡◌, [], IfErr, IfOk, MatchResult, OnOk, option_map};
+ghost use Rattle.yf_program.specs.BaselineFile.{not_listed};
+ghost use Rattle.yf_program.specs.Reports.{Finds, FindsBeside, asked_problems};
 ghost use Rattle.yf_rules.specs.Runs.ByteStream.{stream_of};
 ghost use Rattle.yf_rules.specs.Runs.Run.{Gave, Keeps, RefusedText};
 
-use std::alloc::Global;
+use std::alloc::{AllocError, Global};
+use yf_baseline::listed::Texts;
+use yf_findings::baselines::unlisted;
 use yf_findings::differences::read_difference;
 use yf_findings::owned::OwnedProblem;
 use yf_findings::printed::{Form, shows_changes};
 use yf_findings::reading::read_problems;
+use yf_findings::selection::on_lines;
 use yf_findings::texts::CheckedText;
 use yf_forms::style::Style;
 use yf_line_ranges::range::LineRange;
@@ -25,19 +29,11 @@ pub enum ReportWork {
         without: Vec<OwnedText>,
         /// The lines to check, or no lines if all are checked.
         lines: Vec<LineRange>,
+        /// The lines of the entries of the baseline whose findings are left out, if there is one.
+        baseline: Option<Texts>,
     },
     /// The first position at which it differs from its formatting is listed.
     Compare,
-}
-
-/// Returns the lines whose problems are listed, or no lines if all are.
-pub fn asked_lines(work: &ReportWork) -> &[LineRange]
-    ensures { result.now ≡ asked_lines work.now }
-{
-    match work {
-        ReportWork::Check { lines, .. } => lines.as_slice(),
-        ReportWork::Compare => &[],
-    }
 }
 
 /// Reads all bytes, and returns the problems that the work finds in the text. A check also returns the changes between
@@ -108,5 +104,49 @@ fn unchanged(alloc: Global, problems: Vec<OwnedProblem>) -> CheckedText
     CheckedText {
         problems,
         changes: Vec::new(alloc),
+    }
+}
+
+/// Returns those of the problems of an input that the work asks for: on the lines to check, and without the findings that
+/// the baseline lists. A comparison asks for all problems.
+///
+/// # Errors
+///
+/// `AllocError` if memory is refused.
+pub fn asked_problems(
+    alloc: Global,
+    work: &ReportWork,
+    name: Option<&str>,
+    problems: Vec<OwnedProblem>,
+) -> Result<Vec<OwnedProblem>, AllocError>
+    ensures { IfOk result (λ asked. asked.items
+        ≡ asked_problems work.now (option_map (λ n. n.now) name.entry) problems.items) }
+{
+    match work {
+        ReportWork::Check {
+            lines,
+            baseline,
+            ..
+        } => {
+            let new = not_listed(alloc, baseline, name, problems)?;
+            Ok(on_lines(lines.as_slice(), new))
+        }
+        ReportWork::Compare => Ok(problems),
+    }
+}
+
+// Returns the problems of an input without the findings that the baseline lists.
+fn not_listed(
+    alloc: Global,
+    baseline: &Option<Texts>,
+    name: Option<&str>,
+    problems: Vec<OwnedProblem>,
+) -> Result<Vec<OwnedProblem>, AllocError>
+    ensures { IfOk result (λ left. left.items
+        ≡ not_listed baseline.now (option_map (λ n. n.now) name.entry) problems.items) }
+{
+    match baseline {
+        Some(listed) => unlisted(alloc, listed, name, problems),
+        None => Ok(problems),
     }
 }

@@ -1,9 +1,9 @@
 //! The form of the findings that `check` prints, by its options, the terminal and the environment.
 ghost use Rattle.std.specs.Prelude.{◌≡◌, ◌||◌, unwrap_or};
-ghost use Rattle.yf_program.specs.Forms.{default_output, explains_in, form_of, has_colors, has_several, limit_in};
-ghost use Rattle.yf_program.specs.Forms.{writes_at_once};
+ghost use Rattle.yf_program.specs.Forms.{checks_at_once, default_output, explains_in, form_of, has_colors};
+ghost use Rattle.yf_program.specs.Forms.{has_several, limit_in, writes_at_once};
 
-use yf_command_line::command::{Colors, InputList, Output, Printing};
+use yf_command_line::command::{Check, Colors, InputList, Output, Printing};
 use yf_findings::printed::Form;
 use yf_line_ranges::range::LineRange;
 
@@ -26,6 +26,7 @@ pub fn form_of(printing: Printing, terminal: Terminal, named: bool, explain: boo
         Output::Lines => Form::Lines { named },
         Output::Full => Form::Full { colored },
         Output::Statistics => Form::Statistics,
+        Output::Baseline => Form::Baseline,
         Output::Report(format) => Form::Report(format),
     }
 }
@@ -75,16 +76,24 @@ pub fn writes_at_once(form: Form, lines: &[LineRange], limit: Option<usize>) -> 
 {
     match form {
         Form::Lines { .. } => lines.is_empty() && limit.is_none(),
-        Form::Full { .. } | Form::Statistics | Form::Report(_) => false,
+        Form::Full { .. } | Form::Statistics | Form::Baseline | Form::Report(_) => false,
     }
 }
 
-/// Returns the limit of findings to print. `--statistics` counts all findings, whatever the limit.
+/// Returns whether a check writes the findings of an input as soon as it is checked. A baseline may leave findings out.
+pub fn checks_at_once(form: Form, check: &Check) -> bool
+    ensures { result ≡ checks_at_once form check.now }
+{
+    check.baseline.is_none() && writes_at_once(form, check.lines.as_slice(), check.printing.limit)
+}
+
+/// Returns the limit of findings to print. `--statistics` counts all findings, and a baseline lists all, whatever the
+/// limit.
 pub fn limit_in(form: Form, limit: Option<usize>) -> Option<usize>
     ensures { result ≡ limit_in form limit }
 {
     match form {
-        Form::Statistics => None,
+        Form::Statistics | Form::Baseline => None,
         Form::Lines { .. } | Form::Full { .. } | Form::Report(_) => limit,
     }
 }
@@ -95,6 +104,6 @@ pub fn explains_in(form: Form, explain: bool) -> bool
 {
     match form {
         Form::Full { .. } => true,
-        Form::Lines { .. } | Form::Statistics | Form::Report(_) => explain,
+        Form::Lines { .. } | Form::Statistics | Form::Baseline | Form::Report(_) => explain,
     }
 }

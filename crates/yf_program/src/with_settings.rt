@@ -179,8 +179,8 @@ fn report_unset<I: Inputs, E: Sink>(
     status
 }
 
-// Returns the name of a settings file, or the empty name if there is none.
-fn name_or_empty(config: &Option<OwnedText>) -> &str
+/// Returns the name of a file, or the empty name if there is none.
+pub(crate) fn name_or_empty(config: &Option<OwnedText>) -> &str
     ensures { result.now ≡ unwrap_or config.now [] }
 {
     match config {

@@ -2,6 +2,7 @@
 
 use crate::tests::answer_rows::{BEFORE, ROWS, Row};
 use crate::tests::answers::{NO_TERMINAL, words_of};
+use crate::tests::baselines::{LISTED, NO_LIST, OTHER_VERSION};
 use crate::tests::report_rows::REPORT_ROWS;
 use std::alloc::{AllocError, Global};
 use yf_files::{FileSystem, MemoryFiles};
@@ -13,7 +14,14 @@ use yf_program::terminal::Terminal;
 use yf_rule_pages::pages::PAGES;
 
 /// The files and their contents.
-static FILES: [Stored; 13] = [
+static FILES: [Stored; 17] = [
+    LISTED,
+    OTHER_VERSION,
+    NO_LIST,
+    Stored {
+        name: "two.yaml",
+        bytes: b"---\n- 'x'\n- 'x'\n",
+    },
     Stored {
         name: "good.toml",
         bytes: b"quotes = \"single\"\n",

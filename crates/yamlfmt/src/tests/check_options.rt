@@ -47,7 +47,7 @@ Usage: yamlfmt fmt [OPTIONS] [FILE]...
 For more information, try '--help'.
 ";
 
-static ROWS: [(&str, Wanted); 69] = [
+static ROWS: [(&str, Wanted); 74] = [
     ("check", Wanted::Check(&[], "", "auto", None)),
     ("check a b", Wanted::Check(&[], "", "auto", None)),
     (
@@ -94,6 +94,13 @@ static ROWS: [(&str, Wanted); 69] = [
         "check --lines 2 --format sarif -",
         Wanted::Check(&[[2, 2]], "report", "auto", None),
     ),
+    (
+        "check --baseline=b.json --format baseline a",
+        Wanted::Check(&[], "baseline", "auto", None),
+    ),
+    ("check --baseline", Wanted::Wrong),
+    ("check --baseline a --baseline a a", Wanted::Wrong),
+    ("fmt --baseline a b", Wanted::Wrong),
     ("check --max-findings 18446744073709551616 a", Wanted::Wrong),
     ("check --max-findings", Wanted::Wrong),
     ("check --max-findings= a", Wanted::Wrong),
@@ -176,6 +183,16 @@ For more information, try '--help'.
         "check --format text a",
         Wanted::Refused(
             "error: invalid value 'text' for '--format <FORMAT>'
+  [possible values: line, full, json, sarif, github, gitlab, junit, checkstyle, baseline]
+
+For more information, try '--help'.
+",
+        ),
+    ),
+    (
+        "fmt --check --format baseline a",
+        Wanted::Refused(
+            "error: invalid value 'baseline' for '--format <FORMAT>'
   [possible values: line, full, json, sarif, github, gitlab, junit, checkstyle]
 
 For more information, try '--help'.
@@ -220,6 +237,7 @@ fn form(output: Option<Output>) -> &'static str {
         Some(Output::Lines) => "line",
         Some(Output::Full) => "full",
         Some(Output::Statistics) => "statistics",
+        Some(Output::Baseline) => "baseline",
         Some(Output::Report(_)) => "report",
     }
 }

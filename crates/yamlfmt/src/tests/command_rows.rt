@@ -229,7 +229,8 @@ Options:
       --names              Print the name of the input before each line, also for a single input
       --without <RULES>    Skip the rules with these ids (comma-separated)
       --lines <LINES>      Print only the findings on these lines, for example 3-7,12
-      --format <FORMAT>    Print the findings as line, full, json, sarif, github, gitlab, junit or checkstyle
+      --baseline <FILE>    Leave out the findings that this baseline lists
+      --format <FORMAT>    Print the findings as line, full, json, sarif, github, gitlab, junit, checkstyle or baseline
       --statistics         Print the number of findings of each rule
       --max-findings <N>   Print at most N findings
       --color <WHEN>       When --format full has colors: auto, always or never

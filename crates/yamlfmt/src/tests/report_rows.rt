@@ -156,7 +156,7 @@ pub static REPORT_ROWS: [Row; 19] = [
         "check --format xml\u{1b} --config bad.toml a.yaml",
         3,
         "",
-        "error: invalid value 'xml\\x1B' for '--format <FORMAT>'\n  [possible values: line, full, json, sarif, github, gitlab, junit, checkstyle]\n\nFor more information, try '--help'.\n",
+        "error: invalid value 'xml\\x1B' for '--format <FORMAT>'\n  [possible values: line, full, json, sarif, github, gitlab, junit, checkstyle, baseline]\n\nFor more information, try '--help'.\n",
         "",
         BEFORE,
     ),

@@ -12,8 +12,7 @@ returns-in-Ok-clause-gives g c =
     IfOk-weaker c.add_guarded.result _ _
     (λ status d. no_data_given c.args.task.now (option_map (λ n. n.now) c.args.name) status stream stream
     c.args.files.now.items c.add_guarded.new.files.items c.args.bytes.now c.args.finding.now
-    c.asked_lines-asked.result.now c.in-Ok.checked d.0
-    c.asked_lines-asked.ensures c.in-Ok.ensures.problems d.1 (record { contents = refl; same = refl }) d.2)
+    c.in-Ok.checked d.0 c.in-Ok.ensures.problems d.1 (record { contents = refl; same = refl }) d.2)
     c.add_guarded.ensures
 
 pub returns-clause-gives : goal.returns-clause-gives

@@ -13,8 +13,7 @@ returns-in-Ok-clause-gives g c =
     (λ status d. found_over c.args.task.now (option_map (λ n. n.now) c.args.name) status
     (stream_of g.R.Read.remaining g.R.Source.has_failed c.args.reader.now)
     (stream_of g.R.Read.remaining g.R.Source.has_failed c.read_found.new.reader) stream stream
-    c.args.files.now.items c.add_found.new.files.items c.asked_lines-asked.result.now c.in-Ok.checked
-    c.asked_lines-asked.ensures c.in-Ok.ensures.problems c.in-Ok.ensures.reader
+    c.args.files.now.items c.add_found.new.files.items c.in-Ok.checked c.in-Ok.ensures.problems c.in-Ok.ensures.reader
     (record { contents = refl; same = refl }) d)
     c.add_found.ensures
 
