@@ -2,6 +2,7 @@
 use Rattle.std.proofs.Common.{◌≡◌, ℕ, List, [], ◌∷◌, map, Bool, Option, None, Some, option_and_then, codes}
 use Rattle.std.proofs.Common.{refl, ap, ◌∙◌}
 use Rattle.std.proofs.lemmas.Slice.Eq.{bytes_eq-Decides}
+use Rattle.std.specs.Prelude.{bytes_eq}
 use Rattle.json.specs.Json.{Json, Members, object, member, no_members, string, array, item, no_items, document}
 use Rattle.yf_report.specs.declared.problem.Range.{Range}
 use Rattle.yf_report.specs.declared.problem.Severity.{Severity}

@@ -1,4 +1,4 @@
-use Rattle.std.proofs.Common.{subst, sym}
+use Rattle.std.proofs.Common.{Some, None, subst, sym}
 use Rattle.std.specs.Str.{IsCharBoundary}
 use Rattle.yf_findings.specs.Ranges.FindingDetail.{of_reading, of_text}
 use Rattle.yf_ranges.specs.Details.{DetailAt, DetailOf}

@@ -1,4 +1,4 @@
-use Rattle.std.proofs.Common.{subst, sym}
+use Rattle.std.proofs.Common.{◌≡◌, subst, sym}
 use Rattle.yf_findings.specs.Ranges.{FindingDetail, StartOf, rule_of}
 use Rattle.yf_findings.proofs.DetailLemmas.{detail_start}
 use Rattle.yf_findings.proofs.located.locate.Goals as goal
