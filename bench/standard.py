@@ -151,7 +151,7 @@ plain and quoted scalars (131, 120, 109), the content of literal and folded scal
 174), comments (79), separation (80), aliases (104), node properties (96), flow nodes (161), block nodes (196) and
 streams (211). The laws on quoted scalars, block scalars and nodes hold for those that cover no forbidden line. So if a
 text has a reading, each of its derivations means the documents, directives, comments and bad escapes of that reading.
-The tokens have neither the offsets of nodes, entries and documents, nor whether `...` ends a document.
+The tokens have no offsets of nodes, entries and documents. `Ends.antt` of yf_promises says which documents `...` ends.
 
 ## The productions
 """

@@ -71,7 +71,8 @@ document_fits d e =
 document_breaches_none : (d : Document) → DocumentFits (document_said d) → document_breaches d ≡ []
 document_breaches_none d f =
     both_from f.directives
-    (both_from (nodes_breach (declarations [] d.directives) [] d.events f.nodes) (ap (λ es. escape_breaches es) f.escapes))
+    (both_from (nodes_breach (declarations [] d.directives) [] d.events f.nodes)
+    (ap (λ es. escape_breaches es) f.escapes))
 
 pub documents_fit : (ds : List Document) → breaches ds ≡ [] → DocumentsFit (map document_said ds)
 documents_fit [] e = tt

@@ -3,7 +3,7 @@
 use Rattle.std.specs.Prelude.{◌≡◌, ⊤, ℕ, Bool, true, false, List, [], ◌∷◌, ◌++◌, Option, Some, None, map}
 use Rattle.std.specs.List.{flat_map, zip}
 use Rattle.yf_props.specs.Handles.{Declaration}
-use Rattle.yf_events.specs.Content.{BeforeValue, ContentOf, ContentValue, a_document, before_document, items_of_directive, items_of_event}
+use Rattle.yf_events.specs.Content.{BeforeValue, ContentOf, before_document, items_of_directive, items_of_event}
 use Rattle.yf_events.specs.Event.{EventValue, document_ends, document_starts, props_of, stream_ends, stream_starts}
 use Rattle.yf_events.specs.Tree.{unplaced}
 use Rattle.yf_forms.specs.Nodes.Lines.{trimmed}
@@ -51,17 +51,23 @@ pub record IsAccepted (t : List ℕ) : Type 0 where
 
 -- ---- The events
 
--- These are the events of documents. The mark of a document's end, `...`, is free.
-pub data EventsSaid : List DocumentSaid → List EventValue → Type 0 where
-  no_events : EventsSaid [] []
-  events_of_one : {ds : List DocumentSaid} {es : List EventValue} (d : DocumentSaid) (closed : Bool) → EventsSaid ds es
-      → EventsSaid (d ∷ ds) (document_starts d.marked ∷ (d.events ++ (document_ends closed ∷ es)))
+-- An event, with the resolved tag of the node that it begins (section 6.9.1).
+abbrev pub TaggedEvent : Type 0
+TaggedEvent = EventValue × Option (List ℕ)
+
+-- These are the events of documents, if `...` ends those of them that the flags say.
+pub data EventsSaid : List DocumentSaid → List Bool → List TaggedEvent → Type 0 where
+  no_events : EventsSaid [] [] []
+  events_of_one : {ds : List DocumentSaid} {ends : List Bool} {tags : List (Option (List ℕ))} {es : List TaggedEvent}
+      (d : DocumentSaid) (closed : Bool) → EventTags (declarations [] d.directives) (map unplaced d.events) tags
+      → EventsSaid ds ends es → EventsSaid (d ∷ ds) (closed ∷ ends)
+      ((document_starts d.marked, None) ∷ (zip d.events tags ++ ((document_ends closed, None) ∷ es)))
 
 -- These are the events of a stream.
-pub record StreamEvents (s : StreamSaid) (es : List EventValue) : Type 0 where
-  pub inside : List EventValue
-  pub documents : EventsSaid s.documents inside
-  pub whole : es ≡ stream_starts ∷ (inside ++ (stream_ends ∷ []))
+pub record StreamEvents (s : StreamSaid) (ends : List Bool) (es : List TaggedEvent) : Type 0 where
+  pub inside : List TaggedEvent
+  pub documents : EventsSaid s.documents ends inside
+  pub whole : es ≡ (stream_starts, None) ∷ (inside ++ ((stream_ends, None) ∷ []))
 
 -- ---- The content
 
@@ -69,22 +75,15 @@ pub record StreamEvents (s : StreamSaid) (es : List EventValue) : Type 0 where
 abbrev pub directives_said : DocumentSaid → List BeforeValue
 directives_said d = before_document ∷ flat_map items_of_directive d.directives
 
--- The nodes that events begin and end, with the resolved tags of the nodes.
-abbrev pub nodes_with : List EventValue → List (Option (List ℕ)) → List ContentValue
-nodes_with es tags = flat_map (λ e. items_of_event e.0 e.1) (zip es tags)
-
--- The nodes of documents, each with its resolved tag (section 6.9.1).
-pub data NodesSaid : List DocumentSaid → List ContentValue → Type 0 where
-  no_nodes : NodesSaid [] []
-  nodes_of_one : {ds : List DocumentSaid} {tags : List (Option (List ℕ))} {rest : List ContentValue} (d : DocumentSaid)
-      → EventTags (declarations [] d.directives) (map unplaced d.events) tags → NodesSaid ds rest
-      → NodesSaid (d ∷ ds) (a_document ∷ (nodes_with d.events tags ++ rest))
-
--- A stream says this content: its directives, and its nodes with anchors, resolved tags and texts. Of the styles only this
--- is part of it: whether a scalar without a tag is plain and steady, so that a schema may give it a type.
+-- A stream says this content: its directives, and its nodes with anchors, resolved tags and texts. Of the styles only
+-- this is part of it: whether a scalar without a tag is plain and steady, so that a schema may give it a type.
 pub record ContentSaid (s : StreamSaid) (c : ContentOf) : Type 0 where
   pub directives : c.directives ≡ flat_map directives_said s.documents
-  pub nodes : NodesSaid s.documents c.nodes
+  -- which documents `...` ends is not part of it
+  pub ends : List Bool
+  pub events : List TaggedEvent
+  pub said : StreamEvents s ends events
+  pub nodes : c.nodes ≡ flat_map (λ e. items_of_event e.0 e.1) events
 
 -- Two texts have one content, whichever derivations are taken.
 abbrev pub SameContent : List ℕ → List ℕ → Type 0
@@ -100,4 +99,5 @@ comments_said s = map (λ c. trimmed c.text) s.comments
 
 -- Two texts have the same comments in one order, whichever derivations are taken.
 abbrev pub SameComments : List ℕ → List ℕ → Type 0
-SameComments t u = (d : IsStandardStream t) (e : IsStandardStream u) → comments_said (said_by d) ≡ comments_said (said_by e)
+SameComments t u =
+    (d : IsStandardStream t) (e : IsStandardStream u) → comments_said (said_by d) ≡ comments_said (said_by e)

@@ -9,6 +9,7 @@ returns c =
       one = c.headline.ensures.one;
       streams = c.headline.ensures.streams;
       formatted = c.headline.ensures.formatted;
+      textual = c.headline.ensures.textual;
     } in
     record {
       promises = promises_hold laws;
