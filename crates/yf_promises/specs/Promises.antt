@@ -55,8 +55,8 @@ pub record Promises (tool : Tool) : Type 0 where
   pub comments : (t : List ℕ) (s : tool.Style) (u : List ℕ) → IsUtf8 t → tool.Formats t s u → SameComments t u
   -- Formatting it again changes nothing.
   pub again : (t : List ℕ) (s : tool.Style) (u : List ℕ) → IsUtf8 t → tool.Formats t s u → tool.Formats u s u
-  -- Each rule finds one set of offsets in each accepted text: it is not so that no list has them, and all lists of them
-  -- have equal members.
+  -- Each rule finds one set of offsets in each accepted text: some list has them (written as a double negation, because
+  -- the logic is constructive), and all lists of them have equal members.
   pub finds : (rule : tool.Rule) (t : List ℕ) (s : tool.Style) → IsUtf8 t → IsAccepted t
       → ((offsets : List ℕ) → tool.Finds rule t s offsets → ⊥) → ⊥
   pub finds_one : (rule : tool.Rule) (t : List ℕ) (s : tool.Style) (offsets others : List ℕ) → IsUtf8 t

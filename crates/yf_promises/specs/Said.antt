@@ -55,7 +55,7 @@ pub record IsAccepted (t : List ℕ) : Type 0 where
 abbrev pub TaggedEvent : Type 0
 TaggedEvent = EventValue × Option (List ℕ)
 
--- These are the events of documents, if `...` ends those of them that the flags say.
+-- These are the events of documents. For each document, a flag says whether `...` ends it.
 pub data EventsSaid : List DocumentSaid → List Bool → List TaggedEvent → Type 0 where
   no_events : EventsSaid [] [] []
   events_of_one : {ds : List DocumentSaid} {ends : List Bool} {tags : List (Option (List ℕ))} {es : List TaggedEvent}
