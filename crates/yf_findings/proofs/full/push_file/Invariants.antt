@@ -1,9 +1,8 @@
-use Rattle.std.proofs.Common.{◌≡◌, ◌++◌, drop}
-use Rattle.std.specs.List.{flat_map}
-use Rattle.yf_findings.specs.Full.{problem_pieces}
-use Rattle.yf_findings.proofs.full.push_problems.Given as goal
+use Rattle.std.proofs.Common.{◌≡◌, ◌++◌, drop, false}
+use Rattle.yf_findings.specs.Full.{walk}
+use Rattle.yf_findings.proofs.full.push_file.Given as goal
 
 abbrev pub invariant-loop-problem : goal.invariant-loop-problem
 invariant-loop-problem l =
-    l.pieces.items ++ flat_map (problem_pieces l.name) (drop l.problem-index l.problems)
-    ≡ l.initial.pieces.items ++ flat_map (problem_pieces l.name) l.problems
+    l.pieces.items ++ walk l.name l.due (drop l.problem-index l.problems) l.left
+    ≡ l.initial.pieces.items ++ walk l.name false l.problems l.changes
