@@ -1,6 +1,6 @@
 -- The rows of a change, one after another, and the walk over the problems of an input.
 use Rattle.std.proofs.Common.{◌≡◌, ◌++◌, ◌∷◌, ◌∙◌, ◌+◌, ◌-◌, ◌<◌, ◌≤◌, ◌==◌, ℕ, zero, suc, List, [], Bool, true, false, length, drop, get_or, refl, ap, arith, append_assoc, append-nil, subst, sym}
-use Rattle.std.proofs.lemmas.Bool.{true≢false}
+use Rattle.std.proofs.lemmas.Bool.{eqb-true, true≢false}
 use Rattle.std.proofs.lemmas.List.{drop_more}
 use Rattle.std.specs.Prelude.{Result, OnOk}
 use Rattle.yf_findings.specs.Full.{problem_pieces, walk}
@@ -10,12 +10,12 @@ use Rattle.yf_findings.specs.declared.owned.OwnedProblem.{OwnedProblem}
 use Rattle.yf_findings.specs.declared.pieces.Piece.{Piece}
 
 -- no rows, the last row, and the first one of more rows
-rows_none : (n : ℕ) (cs : List ℕ) → (length cs == 0) ≡ true → rows n cs ≡ []
+rows_none : (n : ℕ) (cs : List ℕ) → length cs ≡ 0 → rows n cs ≡ []
 unfolding rows
 rows_none zero [] h = refl
 rows_none (suc n) [] h = refl
-rows_none zero (c ∷ cs) h = absurd (true≢false (sym h))
-rows_none (suc n) (c ∷ cs) h = absurd (true≢false (sym h))
+rows_none zero (c ∷ cs) h = absurd (omega (arith, h))
+rows_none (suc n) (c ∷ cs) h = absurd (omega (arith, h))
 
 rows_last : (cs : List ℕ) → rows 0 cs ≡ more_row cs
 unfolding rows
@@ -29,7 +29,7 @@ rows_more n (c ∷ cs) h = refl
 
 -- a loop over the lines, at its end and after one more line
 pub no_rows : (n : ℕ) (cs : List ℕ) (old whole : List Piece) → (length cs == 0) ≡ true → old ++ rows n cs ≡ whole → old ≡ whole
-no_rows n cs old whole h before = sym (append-nil old) ∙ ap (λ x. old ++ x) (sym (rows_none n cs h)) ∙ before
+no_rows n cs old whole h before = sym (append-nil old) ∙ ap (λ x. old ++ x) (sym (rows_none n cs (eqb-true (length cs) 0 h))) ∙ before
 
 pub last_row : {A E : Type 0} (r : Result A E) (n : ℕ) (cs : List ℕ) (old new whole : List Piece) → n ≤ 0
     → old ++ rows n cs ≡ whole → OnOk r (new ≡ old ++ more_row cs) → OnOk r (new ≡ whole)
@@ -51,27 +51,21 @@ next_row n cs line rest old new whole h some before added first after =
     ∙ ap (λ x. old ++ x) (sym (ap (λ k. rows k cs) more ∙ rows_more (n - 1) cs some))
     ∙ before
 
--- a walk after one more problem, and after all problems
-pub walk_step : (name : List ℕ) (due now : Bool) (k : ℕ) (ps : List OwnedProblem) (p : OwnedProblem) (left rest : List Change)
+-- a walk after one more problem
+pub walk_step : (name : List ℕ) (due before_it now : Bool) (k : ℕ) (ps : List OwnedProblem) (p : OwnedProblem) (left rest : List Change)
     (old shown new whole : List Piece)
     → k < length ps → p ≡ get_or ps k p → old ++ walk name due (drop k ps) left ≡ whole
-    → shown ≡ old ++ due_pieces (due_before due p left) left → new ≡ shown ++ problem_pieces name p
+    → before_it ≡ due_before due p left → shown ≡ old ++ due_pieces before_it left → new ≡ shown ++ problem_pieces name p
     → now ≡ due_after due p left → rest ≡ left_at p.range.line left
     → new ++ walk name now (drop (k + 1) ps) rest ≡ whole
-walk_step name due now k ps p left rest old shown new whole h is before e f d l =
+walk_step name due before_it now k ps p left rest old shown new whole h is before b e f d l =
     let over = due_pieces (due_before due p left) left in
     let later = walk name (due_after due p left) (drop (k + 1) ps) (left_at p.range.line left) in
     let one = ap (λ q. q ∷ drop (k + 1) ps) is ∙ sym (drop_more ps k p h) in
     ap (λ x. new ++ walk name x (drop (k + 1) ps) rest) d
     ∙ ap (λ x. new ++ walk name (due_after due p left) (drop (k + 1) ps) x) l
-    ∙ ap (λ x. x ++ later) (f ∙ ap (λ x. x ++ problem_pieces name p) e)
+    ∙ ap (λ x. x ++ later) (f ∙ ap (λ x. x ++ problem_pieces name p) (e ∙ ap (λ x. old ++ due_pieces x left) b))
     ∙ append_assoc (old ++ over) (problem_pieces name p) later
     ∙ append_assoc old over (problem_pieces name p ++ later)
     ∙ ap (λ x. old ++ walk name due x left) one
     ∙ before
-
-pub walk_end : {A E : Type 0} (r : Result A E) (name : List ℕ) (due : Bool) (k : ℕ) (ps : List OwnedProblem) (left : List Change)
-    (old new whole : List Piece) → drop k ps ≡ [] → old ++ walk name due (drop k ps) left ≡ whole
-    → OnOk r (new ≡ old ++ due_pieces due left) → OnOk r (new ≡ whole)
-walk_end r name due k ps left old new whole e before added =
-    subst (λ x. OnOk r (new ≡ x)) (ap (λ x. old ++ walk name due x left) (sym e) ∙ before) added

@@ -21,14 +21,14 @@ pub const LINES: usize = 10;
 /// The most columns of such a line that are shown.
 pub const WIDTH: usize = 100;
 
-/// Returns the changes from the first one on whose lines don't end before a line.
+/// Returns the changes that are left at a line: without those at the start that end before the line.
 pub(crate) fn left_at<'a>(line: usize, changes: &'a [Change]) -> &'a [Change]
     ensures { result.now ≡ spec.left_at line changes.now }
 {
     &changes[over_count(line, changes)..]
 }
 
-// Returns the number of changes at the start whose lines end before a line.
+// Returns the number of changes at the start that end before a line.
 fn over_count(line: usize, changes: &[Change]) -> usize
     ensures count { result ≡ prefix_len (spec.ends_before line) changes.now }
     ensures within { result ≤ length changes.now }
@@ -43,7 +43,7 @@ fn over_count(line: usize, changes: &[Change]) -> usize
     count
 }
 
-// Returns whether the lines of the first change end before a line.
+// Returns whether the first change ends before a line.
 fn first_is_over(line: usize, changes: &[Change]) -> bool
     ensures { result ≡ spec.first_is_over line changes.now }
 {
@@ -53,7 +53,7 @@ fn first_is_over(line: usize, changes: &[Change]) -> bool
     }
 }
 
-// Returns whether the lines of the first change begin on a line or before it.
+// Returns whether the first change begins on a line or before it.
 fn first_has_begun(line: usize, changes: &[Change]) -> bool
     ensures { result ≡ spec.first_has_begun line changes.now }
 {
@@ -63,14 +63,15 @@ fn first_has_begun(line: usize, changes: &[Change]) -> bool
     }
 }
 
-/// Returns whether the first change is due and is shown before a problem.
+/// Returns whether the first change is due and ends before a problem, so that it is shown before the problem.
 pub(crate) fn is_due_before(due: bool, problem: &OwnedProblem, changes: &[Change]) -> bool
     ensures { result ≡ spec.due_before due problem.now changes.now }
 {
     due && first_is_over(problem.range.line, changes)
 }
 
-/// Returns whether the first change that is left at a problem is due after it.
+/// Returns whether the first change that is left at a problem is to be shown: `fmt` fixes the problem, and the change has
+/// begun; or it was due already.
 pub(crate) fn due_after(due: bool, problem: &OwnedProblem, changes: &[Change]) -> bool
     ensures { result ≡ spec.due_after due problem.now changes.now }
 {
