@@ -1,5 +1,5 @@
 #!/usr/bin/env python3
-"""Makes the fixes of `check --format sarif`, and compares the results with `fmt`.
+"""Makes the fixes of `check --format sarif` and `fmt --check --format sarif`, and compares the results with `fmt`.
 
 Usage: bench/fixes.py PROGRAM [FILE..]
 
@@ -58,11 +58,11 @@ def fixed(text, fix):
     return done + text[at:]
 
 
-def fault_in(program, path):
-    """What is wrong with the fixes of a file, or None; and whether it has a fix."""
+def fault_in(program, command, path):
+    """What is wrong with the fixes that a command gives for a file, or None; and whether it has a fix."""
     with open(path, 'rb') as file:
         data = file.read()
-    status, log = run(program, 'check', '--no-config', '--format', 'sarif', path)
+    status, log = run(program, *command, '--no-config', '--format', 'sarif', path)
     results = json.loads(log)['runs'][0]['results']
     fixable = [result for result in results if result['properties']['fixable']]
     given = [result for result in results if 'fixes' in result]
@@ -87,12 +87,13 @@ def main():
             with open(paths[-1], 'wb') as file:
                 file.write(text)
         for path in paths:
-            fault, has_fix = fault_in(program, path)
-            fixes += has_fix
-            if fault:
-                faults += 1
-                print('%s: %s' % (path, fault))
-    print('%d texts, %d with a fix, %d faults' % (len(paths), fixes, faults))
+            for command in (['check'], ['fmt', '--check']):
+                fault, has_fix = fault_in(program, command, path)
+                fixes += has_fix
+                if fault:
+                    faults += 1
+                    print('%s: %s: %s' % (path, ' '.join(command), fault))
+    print('%d texts, %d fixes, %d faults' % (len(paths), fixes, faults))
     sys.exit(1 if faults else 0)
 
 

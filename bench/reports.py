@@ -16,7 +16,7 @@ import subprocess
 import sys
 import tempfile
 
-FORMATS = ('line', 'json', 'sarif', 'github', 'gitlab', 'junit', 'checkstyle')
+FORMATS = ('line', 'full', 'json', 'sarif', 'github', 'gitlab', 'junit', 'checkstyle')
 
 
 def text_of(findings):
@@ -32,8 +32,8 @@ def count(name, path):
         return len(json.loads(report))
     if name == 'sarif':
         return len(json.loads(report)['runs'][0]['results'])
-    mark = {'line': rb' \(fixable\)\n', 'github': rb'(?m)^::warning ', 'junit': rb'<failure', 'checkstyle': rb'<error'}
-    return len(re.findall(mark[name], report))
+    marks = {'github': rb'(?m)^::warning ', 'junit': rb'<failure', 'checkstyle': rb'<error'}
+    return len(re.findall(marks.get(name, rb' \(fixable\)\n'), report))
 
 
 def run(program, name, path, out):

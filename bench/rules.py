@@ -4,7 +4,7 @@
 Usage: bench/rules.py --write | --check | --try PROGRAM
 
 --write writes the page. --check fails if it is stale, or if the names of the pages are not those of the rules, of the
-refusals and of the texts that the program skips. --try runs PROGRAM on the examples: `check` must report the rule for
+refusals, of texts that are not formatted and of the texts that the program skips. --try runs PROGRAM on the examples: `check` must report the rule for
 each text under "Wrong" and nothing for the text under "Right", and `fmt` must turn the one into the other if the page
 says that it fixes it. `explain` must print each page and the list. In examples <space>, <CR LF>, <end of the file> and
 <U+HHHH> stand for characters.
@@ -49,11 +49,12 @@ def all_pages():
 
 
 def known_names():
-    """The names of the rules, of the refusals, and of the texts that the program skips."""
+    """The names of the rules, of the refusals, of texts that are not formatted, and of those that the program skips."""
     rules = read('yf_rules/src/asked.rt').split('RULE_NAMES: [&str;', 1)[1].split('];', 1)[0]
     refusals = re.findall(r'Fault::\w+(?: \{ \.\. \})? => "([a-z0-9-]+)",', read('yf_findings/src/refusals.rt'))
+    compared = re.findall(r'rule: "([a-z-]+)",', read('yf_findings/src/differences.rt'))
     skipped = re.findall(r'id: "([a-z-]+)",', read('yf_guarded/src/findings.rt'))
-    return [*re.findall(STRING, rules), *refusals, *skipped, 'encrypted']
+    return [*re.findall(STRING, rules), *refusals, *compared, *skipped, 'encrypted']
 
 
 def page():

@@ -12,7 +12,7 @@ use Rattle.yf_findings.specs.Full.{FullText, full_pieces}
 use Rattle.yf_findings.specs.Pieces.{all_painted, begin, end, painted, without_escapes, without_from}
 use Rattle.yf_findings.specs.declared.files.FileProblems.{FileProblems}
 use Rattle.yf_findings.specs.declared.pieces.Look.{Look}
-use Rattle.yf_findings.specs.declared.pieces.Look.TheVariants.{Plain, Bold, Yellow}
+use Rattle.yf_findings.specs.declared.pieces.Look.TheVariants.{Plain, Bold, Yellow, Green}
 use Rattle.yf_findings.specs.declared.pieces.Piece.{Piece}
 use Rattle.yf_lines.proofs.CoreSteady.{both_parts}
 
@@ -33,6 +33,7 @@ look_kept : (look : Look) (page rest : List ℕ) → AreWritten page
 look_kept Plain page rest h = ap (λ x. without_from false (x ++ rest)) (append-nil page) ∙ page_kept page rest h
 look_kept Bold page rest h = ap (without_from false) (append_assoc page (end Bold) rest) ∙ page_kept page (end Bold ++ rest) h
 look_kept Yellow page rest h = ap (without_from false) (append_assoc page (end Yellow) rest) ∙ page_kept page (end Yellow ++ rest) h
+look_kept Green page rest h = ap (without_from false) (append_assoc page (end Green) rest) ∙ page_kept page (end Green ++ rest) h
 
 all_kept : (ps : List Piece) → AreWritten (all_painted false ps) → without_from false (all_painted true ps) ≡ all_painted false ps
 all_kept [] h = refl

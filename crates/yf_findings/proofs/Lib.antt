@@ -10,3 +10,4 @@ pub mod BaselineLemmas
 pub mod StatisticsLemmas
 pub mod PieceLemmas
 pub mod EscapeLemmas
+pub mod FullLemmas

@@ -13,7 +13,7 @@ use Rattle.yf_findings.specs.Pieces.{all_as_shown, begin, end}
 use Rattle.yf_findings.specs.declared.excerpt.Window.{Window}
 use Rattle.yf_findings.specs.declared.owned.OwnedProblem.{OwnedProblem}
 use Rattle.yf_findings.specs.declared.pieces.Look.{Look}
-use Rattle.yf_findings.specs.declared.pieces.Look.TheVariants.{Plain, Bold, Yellow}
+use Rattle.yf_findings.specs.declared.pieces.Look.TheVariants.{Plain, Bold, Yellow, Green}
 use Rattle.yf_findings.specs.declared.pieces.Piece.{Piece}
 
 -- a page after one more character of a text
@@ -29,11 +29,13 @@ pub begin_chars : (look : Look) → chars (begin look) ≡ begin look
 begin_chars Plain = chars-nil
 begin_chars Bold = chars-IsAscii _ (IsAscii-from_all (begin Bold) (search rules))
 begin_chars Yellow = chars-IsAscii _ (IsAscii-from_all (begin Yellow) (search rules))
+begin_chars Green = chars-IsAscii _ (IsAscii-from_all (begin Green) (search rules))
 
 pub end_chars : (look : Look) → chars (end look) ≡ end look
 end_chars Plain = chars-nil
 end_chars Bold = chars-IsAscii _ (IsAscii-from_all (end Bold) (search rules))
 end_chars Yellow = chars-IsAscii _ (IsAscii-from_all (end Yellow) (search rules))
+end_chars Green = chars-IsAscii _ (IsAscii-from_all (end Green) (search rules))
 
 -- the characters of a text after another one
 pub text_added : {A E : Type 0} (r : Result A E) (old new text : List ℕ) → IsUtf8 old

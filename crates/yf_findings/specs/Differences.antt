@@ -1,8 +1,11 @@
--- The problem of a text that is not its own formatting.
-use Rattle.std.specs.Prelude.{◌≡◌, ◌∷◌, ℕ, List, [], codes, true, MatchOption, Option, Some, None}
+-- The problem of a text that is not its own formatting, and the changes between both.
+use Rattle.std.specs.Prelude.{◌≡◌, ◌∷◌, ℕ, List, [], codes, Bool, true, MatchBool, MatchOption, Option, Some, None}
+use Rattle.yf_findings.specs.Changes.{AreChanges}
 use Rattle.yf_findings.specs.Guards.{IsLineOf}
 use Rattle.yf_findings.specs.Refusals.{empty_at}
+use Rattle.yf_findings.specs.declared.changes.Change.{Change}
 use Rattle.yf_findings.specs.declared.owned.OwnedProblem.{OwnedProblem}
+use Rattle.yf_findings.specs.declared.texts.CheckedText.{CheckedText}
 use Rattle.yf_forms.specs.declared.style.Style.{Style}
 use Rattle.yf_lines.specs.declared.place.Position.{Position}
 use Rattle.yf_report.specs.declared.problem.Severity.TheVariants.{Warning}
@@ -30,9 +33,14 @@ pub record DifferenceFrom (t u : List ℕ) (ps : List OwnedProblem) : Type 0 whe
   pub first : MatchOption place (t ≡ u) (DiffersFirst t u)
   pub problems : DifferenceProblems t place ps
 
+-- the changes between the texts t and u if they are asked for, and otherwise none
+abbrev pub AskedChanges : Bool → List ℕ → List ℕ → List Change → Type 0
+AskedChanges asked t u cs = MatchBool asked (AreChanges t u cs) (cs ≡ [])
+
 -- A text was read, and these are its problems: one at the position at which it first differs from its formatting, or
--- none if it is its own formatting.
-pub record ReadDifference (style : Style) (known : Option (List ℕ)) (ps : List OwnedProblem) : Type 0 where
+-- none if it is its own formatting. The changes between both are listed if they are asked for.
+pub record ReadDifference (asked : Bool) (style : Style) (known : Option (List ℕ)) (c : CheckedText) : Type 0 where
   pub formatted : List ℕ
   pub rendered : FormattingGiven style known formatted
-  pub problems : DifferenceFrom rendered.text formatted ps
+  pub problems : DifferenceFrom rendered.text formatted c.problems.items
+  pub changes : AskedChanges asked rendered.text formatted c.changes.items

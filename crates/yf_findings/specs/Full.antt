@@ -1,13 +1,16 @@
--- The findings of several inputs for people: for each one its message, the line of the text, and marks under its range.
+-- The findings of several inputs for people: for each one its message, the line of the text, and marks under its range;
+-- and the changes of lines that fix findings.
 use Rattle.std.specs.Prelude.{◌≡◌, ℕ, Bool, false, nat_eq, List, [], ◌∷◌, ◌++◌, codes, decimal, length, replicate}
 use Rattle.std.specs.Prelude.{if◌then◌else◌}
 use Rattle.std.specs.List.{count_by, flat_map}
 use Rattle.std.specs.Str.{IsUtf8, chars}
 use Rattle.yf_explain.specs.Shown.{AreWritten, all_shown}
 use Rattle.yf_findings.specs.Excerpt.{excerpt, window_of}
+use Rattle.yf_findings.specs.FullChanges.{due_after, due_before, due_pieces, left_at}
 use Rattle.yf_findings.specs.LineForm.{is_finding, name_of}
 use Rattle.yf_findings.specs.Pieces.{all_painted, all_as_shown, piece, as_shown, without_escapes}
 use Rattle.yf_findings.specs.Statistics.{kinds_in}
+use Rattle.yf_findings.specs.declared.changes.Change.{Change}
 use Rattle.yf_findings.specs.declared.excerpt.Window.{Window}
 use Rattle.yf_findings.specs.declared.files.FileProblems.{FileProblems}
 use Rattle.yf_findings.specs.declared.owned.OwnedProblem.{OwnedProblem}
@@ -43,8 +46,15 @@ line_pieces p cs = marked_pieces p cs (window_of cs p.range)
 abbrev pub problem_pieces : List ℕ → OwnedProblem → List Piece
 problem_pieces name p = if is_finding p then head_pieces name p ++ line_pieces p (chars p.line_text) else []
 
+-- the pieces of problems, and of the changes that fix them: each after the last problem that begins on its lines
+abbrev pub walk : List ℕ → Bool → List OwnedProblem → List Change → List Piece
+walk name due [] cs = due_pieces due cs
+walk name due (p ∷ ps) cs =
+    due_pieces (due_before due p cs) cs ++ (problem_pieces name p
+    ++ walk name (due_after due p cs) ps (left_at p.range.line cs))
+
 abbrev pub file_pieces : FileProblems → List Piece
-file_pieces f = flat_map (problem_pieces (name_of f.file)) f.problems.items
+file_pieces f = walk (name_of f.file) false f.problems.items f.changes.items
 
 -- the last line, if there are findings: their number, and the number of those that `fmt` fixes
 abbrev pub plural : ℕ → List ℕ

@@ -12,6 +12,7 @@ pub mod LineForm
 pub mod Statistics
 pub mod Pieces
 pub mod Excerpt
+pub mod FullChanges
 pub mod Full
 pub mod Baselines
 pub mod Printed

@@ -4,7 +4,7 @@ use Rattle.std.specs.List.{flat_map}
 use Rattle.std.specs.Str.{chars}
 use Rattle.yf_explain.specs.Shown.{all_shown}
 use Rattle.yf_findings.specs.declared.pieces.Look.{Look}
-use Rattle.yf_findings.specs.declared.pieces.Look.TheVariants.{Plain, Bold, Yellow}
+use Rattle.yf_findings.specs.declared.pieces.Look.TheVariants.{Plain, Bold, Yellow, Green}
 use Rattle.yf_findings.specs.declared.pieces.Piece.{Piece}
 
 -- texts as they are shown: the usual characters as they are, all others by their numbers
@@ -22,11 +22,13 @@ abbrev pub begin : Look → List ℕ
 begin Plain = []
 begin Bold = 27 ∷ codes "[1m"
 begin Yellow = 27 ∷ codes "[33m"
+begin Green = 27 ∷ codes "[32m"
 
 abbrev pub end : Look → List ℕ
 end Plain = []
 end Bold = 27 ∷ codes "[0m"
 end Yellow = 27 ∷ codes "[0m"
+end Green = 27 ∷ codes "[0m"
 
 -- a piece with its escapes, or without
 abbrev pub painted : Bool → Piece → List ℕ

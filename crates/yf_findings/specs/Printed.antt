@@ -24,7 +24,7 @@ has_fixes format.Checkstyle = false
 -- whether a report in this form shows changes between a text and its formatting
 abbrev pub shows_changes : Form → Bool
 shows_changes (Lines named) = false
-shows_changes (Full colored) = false
+shows_changes (Full colored) = true
 shows_changes Statistics = false
 shows_changes Baseline = false
 shows_changes (Report kind) = has_fixes kind

@@ -1,12 +1,14 @@
-//! The problem of a text that is not its own formatting.
+//! The problem of a text that is not its own formatting, and the changes between both.
 ghost use Rattle.std.specs.Prelude.{◌≡◌, IfErr, IfOk, MatchResult, OnOk};
-ghost use Rattle.yf_findings.specs.Differences.{DifferenceFrom, DifferenceProblem, ReadDifference};
+ghost use Rattle.yf_findings.specs.Differences.{AskedChanges, DifferenceFrom, DifferenceProblem, ReadDifference};
 ghost use Rattle.yf_findings.specs.Guards.{IsLineOf};
 ghost use Rattle.yf_rules.specs.Runs.ByteStream.{stream_of};
 ghost use Rattle.yf_rules.specs.Runs.Run.{Gave, Keeps, RefusedText};
 
+use crate::changes::{Change, changes_between};
 use crate::owned::{OwnedProblem, line_text};
 use crate::refusals::empty_at;
+use crate::texts::CheckedText;
 use std::alloc::{AllocError, Global};
 use yf_forms::style::Style;
 use yf_lines::fault::Fault;
@@ -21,18 +23,20 @@ use yf_rules::input::{read_all, text_of};
 use yf_rules::run::INPUT_LIMIT;
 
 /// Reads all bytes, and returns a problem at the position at which the text first differs from its formatting. Returns
-/// no problem if the text is its own formatting. The bytes are kept for the caller.
+/// no problem if the text is its own formatting. If `asked`, it also returns the changes between the text and its
+/// formatting. The bytes are kept for the caller.
 ///
 /// # Errors
 ///
 /// Fails like `yf_rules::run::run_events`, except with the faults of a writer.
 pub fn read_difference<R: Source>(
     alloc: Global,
+    asked: bool,
     style: &Style,
     reader: &mut R,
     kept: &mut Vec<u8>,
-) -> Result<Vec<OwnedProblem>, Fault>
-    ensures problems { IfOk result (λ ps. ReadDifference style.now (R.remaining reader.old) ps.items) }
+) -> Result<CheckedText, Fault>
+    ensures problems { IfOk result (ReadDifference asked style.now (R.remaining reader.old)) }
     ensures reader { OnOk result (R.has_failed reader.new ≡ R.has_failed reader.old) }
     ensures bytes { MatchResult result (λ _. Gave (R.remaining reader.old) kept.new.items)
         (Keeps (R.remaining reader.old) kept.new.items) }
@@ -42,10 +46,37 @@ pub fn read_difference<R: Source>(
     *kept = read_all(alloc, reader, INPUT_LIMIT)?;
     let text = text_of(kept.as_slice())?;
     let formatted = format(alloc, text, style)?;
-    match problems_of_difference(alloc, text, formatted.as_str()) {
-        Ok(problems) => Ok(problems),
+    match compared(alloc, asked, text, formatted.as_str()) {
+        Ok(found) => Ok(found),
         Err(AllocError) => Err(Fault::Memory),
     }
+}
+
+// Returns a problem at the position at which a text first differs from another one, or none if they are equal; and the
+// changes between them if they are asked for.
+fn compared(alloc: Global, asked: bool, text: &str, other: &str) -> Result<CheckedText, AllocError>
+    ensures problems { IfOk result (λ c. DifferenceFrom text.now other.now c.problems.items) }
+    ensures changes { IfOk result (λ c. AskedChanges asked text.now other.now c.changes.items) }
+{
+    let problems = problems_of_difference(alloc, text, other)?;
+    let changes = changes_if(alloc, asked, text, other)?;
+    Ok(CheckedText { problems, changes })
+}
+
+// Returns the changes between two texts if they are asked for, and otherwise none.
+fn changes_if(
+    alloc: Global,
+    asked: bool,
+    text: &str,
+    other: &str,
+) -> Result<Vec<Change>, AllocError>
+    ensures { IfOk result (λ cs. AskedChanges asked text.now other.now cs.items) }
+{
+    if asked {
+        let src = Src::new(alloc, text)?;
+        return changes_between(alloc, &src, other);
+    }
+    Ok(Vec::new(alloc))
 }
 
 // Returns a problem at the position at which a text first differs from another one, or none if they are equal.

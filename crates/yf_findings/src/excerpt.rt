@@ -83,8 +83,8 @@ fn end_of(line: &[char], range: Range) -> usize
     line.len()
 }
 
-// Returns the longest front of these characters that takes at most the given number of columns.
-fn fitting(line: &[char], most: usize) -> Fitted
+/// Returns the longest front of these characters that takes at most the given number of columns.
+pub(crate) fn fitting(line: &[char], most: usize) -> Fitted
     ensures count { result.count ≡ fitting most line.now }
     ensures columns { result.columns ≡ columns (take result.count line.now) }
     ensures within { result.count ≤ length line.now }
@@ -184,8 +184,8 @@ fn marks_of(line: &[char], at: usize, stop: usize, end: usize) -> usize
     fitting(&line[at..last], ALL).columns.max(1)
 }
 
-// Returns three dots if a part is cut off.
-fn dots(cut: bool) -> &'static str
+/// Returns three dots if a part is cut off.
+pub(crate) fn dots(cut: bool) -> &'static str
     ensures { result.now ≡ dots cut }
 {
     if cut { "..." } else { "" }

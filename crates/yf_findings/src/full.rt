@@ -1,21 +1,26 @@
 //! The findings of several inputs for people.
 ghost use Rattle.std.specs.List.{count_by, flat_map};
-ghost use Rattle.std.specs.Prelude.{◌≡◌, ◌∷◌, ◌++◌, ◌≤◌, [], IfOk, OnOk, codes, decimal, length, map, replicate};
+ghost use Rattle.std.specs.Prelude.{◌≡◌, ◌∷◌, ◌++◌, ◌≤◌, [], false, IfOk, OnOk, codes, decimal, length, map, replicate};
 ghost use Rattle.std.specs.Str.{chars};
 ghost use Rattle.yf_explain.specs.Shown.{all_shown};
 ghost use Rattle.yf_findings.specs.Excerpt.{window_of};
 ghost use Rattle.yf_findings.specs.Full.{FullText, body_of, file_pieces, full_pieces, head_pieces, is_fixable, line_pieces, message_text};
-ghost use Rattle.yf_findings.specs.Full.{marked_pieces, plural, problem_pieces, summary, summary_of, summary_text};
+ghost use Rattle.yf_findings.specs.Full.{marked_pieces, plural, problem_pieces, summary, summary_of, summary_text, walk};
 ghost use Rattle.yf_findings.specs.Pieces.{all_as_shown, piece, as_shown};
 ghost use Rattle.yf_findings.specs.Statistics.{found_value, kinds_in};
 ghost use Rattle.yf_findings.specs.declared.pieces.Look.TheVariants.{Bold, Plain, Yellow};
 ghost use Rattle.yf_rules.specs.Runs.Run.{fixable_word};
 
+use crate::changes::Change;
 use crate::excerpt::{Window, push_excerpt, window_of};
 use crate::files::FileProblems;
+use crate::full_changes::{due_after, is_due_before, left_at, push_due};
 use crate::lines::{fixable_word, is_finding, name_of};
 use crate::owned::OwnedProblem;
-use crate::pieces::{Look, Piece, push_all_shown, push_piece, push_repeated, push_shown, text_of};
+use crate::pieces::{
+    Look, Piece, characters, push_all_shown, push_break, push_piece, push_repeated, push_shown,
+    text_of,
+};
 use crate::statistics::{FoundRule, found_in};
 use itoa::Buffer;
 use std::alloc::{AllocError, Global};
@@ -44,7 +49,7 @@ fn pieces_of(alloc: Global, files: &[FileProblems]) -> Result<Vec<Piece>, AllocE
     Ok(pieces)
 }
 
-// Adds the pieces of all findings.
+// Adds the pieces of all findings, and of the changes that fix them.
 fn push_files(
     alloc: Global,
     pieces: &mut Vec<Piece>,
@@ -53,25 +58,37 @@ fn push_files(
     ensures { OnOk result (pieces.new.items ≡ pieces.old.items ++ flat_map file_pieces files.now) }
 {
     for file in files {
-        push_problems(alloc, pieces, name_of(&file.file), file.problems.as_slice())?;
+        let name = name_of(&file.file);
+        push_file(
+            alloc,
+            pieces,
+            name,
+            file.problems.as_slice(),
+            file.changes.as_slice(),
+        )?;
     }
     Ok(())
 }
 
-// Adds the pieces of the findings of one input.
-fn push_problems(
+// Adds the pieces of the findings of one input. A change is added after the last problem that begins on its lines.
+fn push_file(
     alloc: Global,
     pieces: &mut Vec<Piece>,
     name: &str,
     problems: &[OwnedProblem],
+    changes: &[Change],
 ) -> Result<(), AllocError>
-    ensures { OnOk result (pieces.new.items
-        ≡ pieces.old.items ++ flat_map (problem_pieces name.now) problems.now) }
+    ensures { OnOk result (pieces.new.items ≡ pieces.old.items ++ walk name.now false problems.now changes.now) }
 {
+    let mut left = changes;
+    let mut due = false;
     for problem in problems {
+        push_due(alloc, pieces, is_due_before(due, problem, left), left)?;
         push_problem(alloc, pieces, name, problem)?;
+        due = due_after(due, problem, left);
+        left = left_at(problem.range.line, left);
     }
-    Ok(())
+    push_due(alloc, pieces, due, left)
 }
 
 // Adds the pieces of a finding, or none for a refusal.
@@ -145,17 +162,6 @@ fn push_line(
     push_marked(alloc, pieces, problem, line.as_slice(), window)
 }
 
-// Returns the characters of a text.
-fn characters(alloc: Global, text: &str) -> Result<Vec<char>, AllocError>
-    ensures { IfOk result (λ cs. cs.items ≡ chars text.now) }
-{
-    let mut line = Vec::new(alloc);
-    for c in text.chars() {
-        line.push(c)?;
-    }
-    Ok(line)
-}
-
 // Adds the message, the shown part of the line, and the marks.
 fn push_marked(
     alloc: Global,
@@ -182,15 +188,6 @@ fn push_marks(alloc: Global, pieces: &mut Vec<Piece>, count: usize) -> Result<()
     let mut page = Page::new(alloc);
     push_repeated(&mut page, '^', count)?;
     push_piece(pieces, Look::Yellow, page)
-}
-
-// Adds the end of a line.
-fn push_break(alloc: Global, pieces: &mut Vec<Piece>) -> Result<(), AllocError>
-    ensures { OnOk result (pieces.new.items ≡ pieces.old.items ++ piece Plain (10 ∷ []) ∷ []) }
-{
-    let mut page = Page::new(alloc);
-    page.push_break()?;
-    push_piece(pieces, Look::Plain, page)
 }
 
 // Returns the message, the shown part of the line, and the blanks before the marks.

@@ -13,6 +13,7 @@ mod ends;
 mod excerpt;
 pub mod files;
 mod full;
+mod full_changes;
 pub mod guards;
 mod lines;
 pub mod listing;

@@ -4,6 +4,7 @@ ghost use Rattle.std.specs.Prelude.{◌≡◌, ◌++◌, ◌∷◌, [], false, I
 ghost use Rattle.std.specs.Str.{IsUtf8, chars};
 ghost use Rattle.std.specs.String.{string_bytes};
 ghost use Rattle.yf_explain.specs.Shown.{AreWritten, all_shown};
+ghost use Rattle.yf_findings.specs.declared.pieces.Look.TheVariants.{Plain};
 ghost use Rattle.yf_findings.specs.Pieces.{all_painted, all_as_shown, begin, end, painted, piece, as_shown};
 
 use std::alloc::{AllocError, Global};
@@ -15,6 +16,7 @@ pub enum Look {
     Plain,
     Bold,
     Yellow,
+    Green,
 }
 
 /// A part of a report.
@@ -72,6 +74,26 @@ pub(crate) fn push_piece(pieces: &mut Vec<Piece>, look: Look, page: Page) -> Res
     Ok(())
 }
 
+/// Adds the end of a line.
+pub(crate) fn push_break(alloc: Global, pieces: &mut Vec<Piece>) -> Result<(), AllocError>
+    ensures { OnOk result (pieces.new.items ≡ pieces.old.items ++ piece Plain (10 ∷ []) ∷ []) }
+{
+    let mut page = Page::new(alloc);
+    page.push_break()?;
+    push_piece(pieces, Look::Plain, page)
+}
+
+/// Returns the characters of a text.
+pub(crate) fn characters(alloc: Global, text: &str) -> Result<Vec<char>, AllocError>
+    ensures { IfOk result (λ cs. cs.items ≡ chars text.now) }
+{
+    let mut line = Vec::new(alloc);
+    for c in text.chars() {
+        line.push(c)?;
+    }
+    Ok(line)
+}
+
 /// Returns the text of pieces, with colors or without.
 pub(crate) fn text_of(alloc: Global, colored: bool, pieces: &[Piece]) -> Result<Vec<u8>, AllocError>
     ensures utf8 { IfOk result (λ b. IsUtf8 b.items) }
@@ -115,6 +137,7 @@ fn begin(look: Look) -> &'static str
         Look::Plain => "",
         Look::Bold => "\u{1B}[1m",
         Look::Yellow => "\u{1B}[33m",
+        Look::Green => "\u{1B}[32m",
     }
 }
 
@@ -126,5 +149,6 @@ fn end(look: Look) -> &'static str
         Look::Plain => "",
         Look::Bold => "\u{1B}[0m",
         Look::Yellow => "\u{1B}[0m",
+        Look::Green => "\u{1B}[0m",
     }
 }

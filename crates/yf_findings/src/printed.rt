@@ -16,7 +16,8 @@ pub enum Form {
     /// A line for each finding: `LINE:COLUMN RULE`, and ` (fixable)` if `fmt` fixes it. If `named`, it begins with
     /// `NAME:`.
     Lines { named: bool },
-    /// For people: the message, the line of the text, and marks under the range. If `colored`, it has colors.
+    /// For people: the message, the line of the text, marks under the range, and what `fmt` writes. If `colored`, it has
+    /// colors.
     Full { colored: bool },
     /// The number of findings of each rule.
     Statistics,
@@ -32,7 +33,7 @@ pub fn shows_changes(form: Form) -> bool
 {
     match form {
         Form::Lines { named: _ } => false,
-        Form::Full { colored: _ } => false,
+        Form::Full { colored: _ } => true,
         Form::Statistics => false,
         Form::Baseline => false,
         Form::Report(format) => has_fixes(format),

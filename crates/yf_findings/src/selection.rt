@@ -54,8 +54,8 @@ pub fn meets(range: Range, lines: LineRange) -> bool
     true
 }
 
-// Returns the number of the last line that a range has a part of.
-fn last_line(range: Range) -> usize
+/// Returns the number of the last line that a range has a part of.
+pub(crate) fn last_line(range: Range) -> usize
     ensures exact { result ≡ last_line range }
     ensures order { range.line ≤ result }
 {

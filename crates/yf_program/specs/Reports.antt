@@ -70,12 +70,12 @@ compare_task explain style form = record {
 
 -- ---- The problems of a text
 
--- The work found these problems in the text that was read. A check lists the changes between the text and its formatting
--- if the form of the report shows them. A comparison lists no changes.
+-- The work found these problems in the text that was read. The changes between the text and its formatting are listed if
+-- the form of the report shows them.
 abbrev pub Finds : ReportWork → Form → Style → Option (List ℕ) → CheckedText → Type 0
 Finds (work.Check without lines baseline) form style known all =
     ReadProblems (shows_changes form) without.items style known all
-Finds work.Compare form style known all = ReadDifference style known all.problems.items × (all.changes.items ≡ [])
+Finds work.Compare form style known all = ReadDifference (shows_changes form) style known all
 
 -- The work found these problems in a text that is no data, besides the problem that says so. A text that is no data is
 -- not compared.

@@ -1,5 +1,5 @@
 //! The work on the text of an input, for a report.
-ghost use Rattle.std.specs.Prelude.{◌≡◌, [], IfErr, IfOk, MatchResult, OnOk, option_map};
+ghost use Rattle.std.specs.Prelude.{◌≡◌, IfErr, IfOk, MatchResult, OnOk, option_map};
 ghost use Rattle.yf_program.specs.BaselineFile.{not_listed};
 ghost use Rattle.yf_program.specs.Reports.{Finds, FindsBeside, asked_problems};
 ghost use Rattle.yf_rules.specs.Runs.ByteStream.{stream_of};
@@ -36,9 +36,8 @@ pub enum ReportWork {
     Compare,
 }
 
-/// Reads all bytes, and returns the problems that the work finds in the text. A check also returns the changes between
-/// the text and its formatting, if a report in this form shows them and `fmt` fixes a problem. The bytes are kept for
-/// the caller.
+/// Reads all bytes, and returns the problems that the work finds in the text, and the changes between the text and its
+/// formatting if a report in this form shows them and `fmt` fixes a problem. The bytes are kept for the caller.
 ///
 /// # Errors
 ///
@@ -58,15 +57,12 @@ pub fn read_found<R: Source>(
     ensures refusals { IfErr result (λ fault. RefusedText (stream_of R.remaining R.has_failed reader.old)
         (stream_of R.remaining R.has_failed reader.new) fault) }
 {
+    let changes = shows_changes(form);
     match work {
         ReportWork::Check { without, .. } => {
-            let changes = shows_changes(form);
             read_problems(alloc, changes, without.as_slice(), style, reader, kept)
         }
-        ReportWork::Compare => match read_difference(alloc, style, reader, kept) {
-            Ok(problems) => Ok(unchanged(alloc, problems)),
-            Err(fault) => Err(fault),
-        },
+        ReportWork::Compare => read_difference(alloc, changes, style, reader, kept),
     }
 }
 
@@ -92,18 +88,10 @@ pub fn read_beside<R: Source>(
         ReportWork::Check { without, .. } => {
             read_problems(alloc, false, without.as_slice(), style, reader, kept)
         }
-        ReportWork::Compare => Ok(unchanged(alloc, Vec::new(alloc))),
-    }
-}
-
-// Returns these problems, without changes.
-fn unchanged(alloc: Global, problems: Vec<OwnedProblem>) -> CheckedText
-    ensures problems { result.problems.items ≡ problems.items }
-    ensures changes { result.changes.items ≡ [] }
-{
-    CheckedText {
-        problems,
-        changes: Vec::new(alloc),
+        ReportWork::Compare => Ok(CheckedText {
+            problems: Vec::new(alloc),
+            changes: Vec::new(alloc),
+        }),
     }
 }
 

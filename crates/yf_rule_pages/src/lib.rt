@@ -1,5 +1,5 @@
-//! What `yamlfmt explain` prints: pages for people on the rules of style, on the refusals, and on the texts that the
-//! program skips; and the list of these pages.
+//! What `yamlfmt explain` prints: pages for people on the rules of style, on the refusals, and on texts that are not
+//! formatted or that the program skips; and the list of these pages.
 //!
 //! A page is found by its name, exactly. The crate knows no YAML: `bench/rules.py` runs the examples in the pages.
 #![tactic(auto)]

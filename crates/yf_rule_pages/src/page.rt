@@ -2,7 +2,7 @@
 ghost use Rattle.std.specs.Prelude.{◌≡◌, option_map};
 ghost use Rattle.yf_rule_pages.specs.Pages.{named, page_at};
 
-/// A page on a rule, on a refusal, or on a text that the program skips.
+/// A page on a rule, on a refusal, or on a text that is not formatted or that the program skips.
 #[derive(Clone, Copy, Drop)]
 pub struct Page {
     /// The name of the rule or of the kind of refusal.

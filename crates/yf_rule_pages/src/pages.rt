@@ -2,8 +2,9 @@
 
 use crate::page::Page;
 use crate::refusals::{
-    BAD_VERSION, CONFIG, ENCRYPTED, ESCAPE_VALUE, NO_DATA, NO_MEMORY, NOT_UTF8, READ_FAILED,
-    REPEATED_DIRECTIVE, SYNTAX, TEMPLATE, TOO_DEEP, UNKNOWN_ALIAS, UNKNOWN_HANDLE, WRITE_FAILED,
+    BAD_VERSION, CONFIG, ENCRYPTED, ESCAPE_VALUE, NO_DATA, NO_MEMORY, NOT_FORMATTED, NOT_UTF8,
+    READ_FAILED, REPEATED_DIRECTIVE, SYNTAX, TEMPLATE, TOO_DEEP, UNKNOWN_ALIAS, UNKNOWN_HANDLE,
+    WRITE_FAILED,
 };
 use crate::rules::{
     BLANK_LINES, BYTE_ORDER_MARK, COMMENT_SPACE, DOCUMENT_START, FINAL_BREAK, FLOW_LAYOUT,
@@ -11,9 +12,9 @@ use crate::rules::{
     TRAILING_BLANKS,
 };
 
-/// All pages: on the rules of style in the order of their numbers, then on the refusals, then on the texts that the
-/// program skips.
-pub const PAGES: [Page; 29] = [
+/// All pages: on the rules of style in the order of their numbers, then on the refusals, then on texts that are not
+/// formatted or that the program skips.
+pub const PAGES: [Page; 30] = [
     TRAILING_BLANKS,
     INDENTATION,
     QUOTING,
@@ -40,6 +41,7 @@ pub const PAGES: [Page; 29] = [
     WRITE_FAILED,
     NO_MEMORY,
     CONFIG,
+    NOT_FORMATTED,
     NO_DATA,
     TEMPLATE,
     ENCRYPTED,

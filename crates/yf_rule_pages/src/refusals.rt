@@ -1,4 +1,4 @@
-//! The pages on the refusals, and on the texts that the program skips.
+//! The pages on the refusals, on texts that are not formatted, and on the texts that the program skips.
 
 use crate::page::Page;
 
@@ -77,6 +77,15 @@ pub(crate) const CONFIG: Page = Page {
     text: concat!(
         "The line names the key, if the file is TOML. `--explain` shows its line in the file, and the values that\n",
         "it may have.\n",
+    ),
+};
+
+pub(crate) const NOT_FORMATTED: Page = Page {
+    name: "not-formatted",
+    summary: "A text that `fmt` would change.",
+    text: concat!(
+        "`yamlfmt fmt --check` reports it, at the first position that would change.\n\n",
+        "`yamlfmt fmt --diff` prints the changes, and `yamlfmt fmt --write` makes them.\n",
     ),
 };
 

@@ -3,6 +3,7 @@
 use crate::tests::answer_rows::{BEFORE, ROWS, Row};
 use crate::tests::answers::{NO_TERMINAL, words_of};
 use crate::tests::baselines::{LISTED, NO_LIST, OTHER_VERSION};
+use crate::tests::findings_for_people::{BARE, BLANK, LONG, MANY};
 use crate::tests::report_rows::REPORT_ROWS;
 use std::alloc::{AllocError, Global};
 use yf_files::{FileSystem, MemoryFiles};
@@ -14,7 +15,11 @@ use yf_program::terminal::Terminal;
 use yf_rule_pages::pages::PAGES;
 
 /// The files and their contents.
-static FILES: [Stored; 17] = [
+static FILES: [Stored; 22] = [
+    LONG,
+    MANY,
+    BLANK,
+    BARE,
     LISTED,
     OTHER_VERSION,
     NO_LIST,
@@ -37,6 +42,10 @@ static FILES: [Stored; 17] = [
     Stored {
         name: "a.yaml",
         bytes: b"---\na: \"x\" # c\n",
+    },
+    Stored {
+        name: "percent.yaml",
+        bytes: b"---\n[a% , b]\n",
     },
     Stored {
         name: "refused.yaml",

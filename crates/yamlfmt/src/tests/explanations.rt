@@ -54,6 +54,7 @@ read-failed: A file can't be opened or read, or it has more than 1 GiB.
 write-failed: The output or a file can't be written.
 no-memory: Memory was refused, or the formatting would have more than 1 GiB.
 config: A settings file is not TOML, or one of its keys is unknown or has a wrong value.
+not-formatted: A text that `fmt` would change.
 no-data: A document is only plain text over several lines.
 template: The text contains a template such as `{{ x }}`.
 encrypted: The text begins with `$ANSIBLE_VAULT;`, so Ansible Vault has encrypted it.
@@ -65,7 +66,8 @@ pub const NO_PAGE: &str = concat!(
     "  [possible values: trailing-blanks, indentation, quoting, document-start, final-break, line-breaks, ",
     "byte-order-mark, blank-lines, flow-layout, comment-space, line-length, repeated-keys, key-mark, ",
     "hidden-character, not-utf8, syntax, too-deep, unknown-handle, unknown-alias, repeated-directive, ",
-    "bad-version, escape-value, read-failed, write-failed, no-memory, config, no-data, template, encrypted]\n\n",
+    "bad-version, escape-value, read-failed, write-failed, no-memory, config, not-formatted, no-data, template, ",
+    "encrypted]\n\n",
     "For more information, try '--help'.\n",
 );
 

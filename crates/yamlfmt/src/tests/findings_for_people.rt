@@ -2,9 +2,34 @@
 
 use crate::tests::answer::{answers_line, answers_on};
 use crate::tests::answer_rows::{BEFORE, Row};
+use yf_host::memory_inputs::Stored;
 use yf_program::terminal::Terminal;
 
-static ROWS: [Row; 14] = [
+/// A text with a long line.
+pub const LONG: Stored = Stored {
+    name: "long.yaml",
+    bytes: b"---\na: xxxxxxxxxxxxxxxxxxxxxxxxxxxxxxxxxxxxxxxxxxxxxxxxxxxxxxxxxxxxxxxxxxxxxxxxxxxxxxxxxxxxxxxxxxxxxxxxxx # c\n",
+};
+
+/// A text with twelve findings on the lines 2 to 13.
+pub const MANY: Stored = Stored {
+    name: "many.yaml",
+    bytes: b"---\n- 'x'\n- 'x'\n- 'x'\n- 'x'\n- 'x'\n- 'x'\n- 'x'\n- 'x'\n- 'x'\n- 'x'\n- 'x'\n- 'x'\n",
+};
+
+/// A text with blank lines that `fmt` removes.
+pub const BLANK: Stored = Stored {
+    name: "blank.yaml",
+    bytes: b"---\na\n\n\n---\nb\n",
+};
+
+/// A text to which `fmt` only adds a line.
+pub const BARE: Stored = Stored {
+    name: "bare.yaml",
+    bytes: b"a: b\nc: d\n",
+};
+
+static ROWS: [Row; 20] = [
     // the status counts only findings on the lines that are asked for
     (
         "check --lines 2 a.yaml",
@@ -93,7 +118,7 @@ static ROWS: [Row; 14] = [
     (
         "check --format full a.yaml",
         1,
-        "a.yaml:2:8 comment-space: one space before the comment, expected 2 (fixable)\n  | a: \"x\" # c\n  |        ^\n1 finding, 1 fixable by yamlfmt fmt\n",
+        "a.yaml:2:8 comment-space: one space before the comment, expected 2 (fixable)\n  | a: \"x\" # c\n  |        ^\n  = fmt rewrites line 2:\n  + a: \"x\"  # c\n1 finding, 1 fixable by yamlfmt fmt\n",
         "",
         "a.yaml ",
         BEFORE,
@@ -102,6 +127,55 @@ static ROWS: [Row; 14] = [
         "check --format full --without comment-space a.yaml",
         0,
         "",
+        "",
+        "a.yaml ",
+        BEFORE,
+    ),
+    // the changes that fix findings: a line, lines that are cut or left out, lines that are added or removed
+    (
+        "check --format full",
+        1,
+        "-:1:1 document-start: no `---` before the document (fixable)\n  | - 'a'\n  | ^\n-:1:3 quoting: single quotes, expected double quotes (fixable)\n  | - 'a'\n  |   ^^^\n  = fmt rewrites line 1:\n  + ---\n  + - \"a\"\n2 findings, 2 fixable by yamlfmt fmt\n",
+        "",
+        "- ",
+        BEFORE,
+    ),
+    (
+        "check --format full --without line-length long.yaml",
+        1,
+        "long.yaml:2:103 comment-space: one space before the comment, expected 2 (fixable)\n  | ...xxxxxxxxxxxxxxxxxxxxxxxxxxxxxxxxx # c\n  |                                      ^\n  = fmt rewrites line 2:\n  + a: xxxxxxxxxxxxxxxxxxxxxxxxxxxxxxxxxxxxxxxxxxxxxxxxxxxxxxxxxxxxxxxxxxxxxxxxxxxxxxxxxxxxxxxxxxxxxxxxx...\n1 finding, 1 fixable by yamlfmt fmt\n",
+        "",
+        "long.yaml ",
+        BEFORE,
+    ),
+    (
+        "check --format full --max-findings 1 many.yaml",
+        1,
+        "many.yaml:2:3 quoting: single quotes, expected double quotes (fixable)\n  | - 'x'\n  |   ^^^\n  = fmt rewrites lines 2 to 13:\n  + - \"x\"\n  + - \"x\"\n  + - \"x\"\n  + - \"x\"\n  + - \"x\"\n  + - \"x\"\n  + - \"x\"\n  + - \"x\"\n  + - \"x\"\n  + - \"x\"\n  + ...\n1 finding, 1 fixable by yamlfmt fmt\n",
+        "11 more findings are not printed\n",
+        "many.yaml ",
+        BEFORE,
+    ),
+    (
+        "check --format full blank.yaml",
+        1,
+        "blank.yaml:3:1 blank-lines: needless blank line (fixable)\n  | \n  | ^\nblank.yaml:4:1 blank-lines: needless blank line (fixable)\n  | \n  | ^\n  = fmt removes lines 3 to 4\n2 findings, 2 fixable by yamlfmt fmt\n",
+        "",
+        "blank.yaml ",
+        BEFORE,
+    ),
+    (
+        "check --format full bare.yaml",
+        1,
+        "bare.yaml:1:1 document-start: no `---` before the document (fixable)\n  | a: b\n  | ^\n  = fmt adds before line 1:\n  + ---\n1 finding, 1 fixable by yamlfmt fmt\n",
+        "",
+        "bare.yaml ",
+        BEFORE,
+    ),
+    (
+        "check --format full --color always a.yaml",
+        1,
+        COLORED,
         "",
         "a.yaml ",
         BEFORE,
@@ -117,12 +191,38 @@ static ROWS: [Row; 14] = [
     ),
 ];
 
+/// A finding in colors.
+const COLORED: &str =
+    "a.yaml:\u{1B}[1m2:8\u{1B}[0m \u{1B}[33mcomment-space\u{1B}[0m: one space before the comment, expected 2 (fixable)\n  | a: \"x\" # c\n  |        \u{1B}[33m^\u{1B}[0m\n  = fmt rewrites line 2:\n\u{1B}[32m  + a: \"x\"  # c\u{1B}[0m\n1 finding, 1 fixable by yamlfmt fmt\n";
+
+/// Results on a terminal with colors.
+static COLOR_ROWS: [Row; 2] = [
+    ("check a.yaml", 1, COLORED, "", "a.yaml ", BEFORE),
+    (
+        "check --color never --without comment-space a.yaml",
+        0,
+        "",
+        "",
+        "a.yaml ",
+        BEFORE,
+    ),
+];
+
 /// Results on a terminal without colors.
-static TERMINAL_ROWS: [Row; 6] = [
+static TERMINAL_ROWS: [Row; 7] = [
+    // an option overrides the environment
+    (
+        "check --color always a.yaml",
+        1,
+        COLORED,
+        "",
+        "a.yaml ",
+        BEFORE,
+    ),
     (
         "check a.yaml",
         1,
-        "a.yaml:2:8 comment-space: one space before the comment, expected 2 (fixable)\n  | a: \"x\" # c\n  |        ^\n1 finding, 1 fixable by yamlfmt fmt\n",
+        "a.yaml:2:8 comment-space: one space before the comment, expected 2 (fixable)\n  | a: \"x\" # c\n  |        ^\n  = fmt rewrites line 2:\n  + a: \"x\"  # c\n1 finding, 1 fixable by yamlfmt fmt\n",
         "",
         "a.yaml ",
         BEFORE,
@@ -130,7 +230,7 @@ static TERMINAL_ROWS: [Row; 6] = [
     (
         "check --color never a.yaml",
         1,
-        "a.yaml:2:8 comment-space: one space before the comment, expected 2 (fixable)\n  | a: \"x\" # c\n  |        ^\n1 finding, 1 fixable by yamlfmt fmt\n",
+        "a.yaml:2:8 comment-space: one space before the comment, expected 2 (fixable)\n  | a: \"x\" # c\n  |        ^\n  = fmt rewrites line 2:\n  + a: \"x\"  # c\n1 finding, 1 fixable by yamlfmt fmt\n",
         "",
         "a.yaml ",
         BEFORE,
@@ -181,5 +281,12 @@ fn findings_are_printed_for_people(rt: HostRuntime) {
     };
     for row in &TERMINAL_ROWS {
         assert!(rt; answers_on(rt.alloc(), row, terminal), "{}", row.0);
+    }
+    let colors = Terminal {
+        output: true,
+        no_color: false,
+    };
+    for row in &COLOR_ROWS {
+        assert!(rt; answers_on(rt.alloc(), row, colors), "{}", row.0);
     }
 }

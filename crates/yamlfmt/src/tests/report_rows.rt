@@ -3,7 +3,7 @@
 
 use crate::tests::answer_rows::{BEFORE, Row};
 
-pub static REPORT_ROWS: [Row; 19] = [
+pub static REPORT_ROWS: [Row; 22] = [
     (
         "check --format line a.yaml",
         1,
@@ -42,6 +42,31 @@ pub static REPORT_ROWS: [Row; 19] = [
         "::error title=unknown-alias,file=refused.yaml,line=2,endLine=2,col=6,endColumn=6::no anchor with this name comes before it in this document\n::error title=read-failed,file=none.yaml,line=1,endLine=1,col=1,endColumn=1::input can't be read\n::warning title=comment-space,file=a.yaml,line=2,endLine=2,col=8,endColumn=9::one space before the comment, expected 2\n",
         "refused.yaml:2:6 refused: unknown-alias\nnone.yaml: read failed\n",
         "a.yaml refused.yaml none.yaml ",
+        BEFORE,
+    ),
+    // signs that GitHub's commands and XML write otherwise, in messages and in names
+    (
+        "check --format github percent.yaml",
+        1,
+        "::warning title=flow-layout,file=percent.yaml,line=2,endLine=2,col=1,endColumn=9::a space after `%25`, expected none\n",
+        "",
+        "percent.yaml ",
+        BEFORE,
+    ),
+    (
+        "check --format github a%\r\n:,b",
+        3,
+        "::error title=read-failed,file=a%25%0D%0A%3A%2Cb,line=1,endLine=1,col=1,endColumn=1::input can't be read\n",
+        "read failed\n",
+        "a%\r\n:,b ",
+        BEFORE,
+    ),
+    (
+        "check --format checkstyle <\"&\t>",
+        3,
+        "<?xml version=\"1.0\" encoding=\"UTF-8\"?>\n<checkstyle version=\"4.3\">\n<file name=\"&lt;&quot;&amp;&#9;&gt;\">\n<error line=\"1\" column=\"1\" severity=\"error\" message=\"input can't be read\" source=\"read-failed\"/>\n</file>\n</checkstyle>\n",
+        "read failed\n",
+        "<\"&\t> ",
         BEFORE,
     ),
     (
@@ -138,7 +163,7 @@ pub static REPORT_ROWS: [Row; 19] = [
     (
         "fmt --check --format full a.yaml",
         1,
-        "a.yaml:2:8 not-formatted: not formatted (fixable)\n  | a: \"x\" # c\n  |        ^\n1 finding, 1 fixable by yamlfmt fmt\n",
+        "a.yaml:2:8 not-formatted: not formatted (fixable)\n  | a: \"x\" # c\n  |        ^\n  = fmt rewrites line 2:\n  + a: \"x\"  # c\n1 finding, 1 fixable by yamlfmt fmt\n",
         "",
         "a.yaml ",
         BEFORE,

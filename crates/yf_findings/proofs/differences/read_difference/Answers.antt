@@ -1,6 +1,6 @@
 use Rattle.std.proofs.Common.{◌≤◌, ℕ, IfErr, List, length, rules, string_bytes, subst}
 use Rattle.std.proofs.lemmas.Result.{IfErr-weaker}
-use Rattle.yf_findings.specs.Differences.{DifferenceFrom}
+use Rattle.yf_findings.specs.Differences.{AskedChanges, DifferenceFrom}
 use Rattle.yf_rules.specs.Runs.ByteStream.{stream_of}
 use Rattle.yf_rules.specs.Runs.Input.{IsNoText}
 use Rattle.yf_rules.specs.declared.run.TheConstants.{INPUT_LIMIT}
@@ -35,9 +35,12 @@ returns-in-Ok-clause-problems g c =
     let text = c.in_ok-text.ensures in
     let given = given_text read.ensures.whole within c.as_slice.ensures.value text.utf8 text.same in
     let t = c.in_ok-text.text.now in
-    let found = c.in-Ok.problems.items in
+    let found = c.in-Ok.found in
     record {
       formatted = string_bytes c.in_ok-formatted.formatted;
       rendered = record { text = t; gave = given.gave; headline = c.in_ok-formatted.ensures.headline };
-      problems = subst (λ (u : List ℕ). DifferenceFrom t u found) c.as_str.ensures.value c.in-Ok.ensures;
+      problems = subst (λ (u : List ℕ). DifferenceFrom t u found.problems.items) c.as_str.ensures.value
+          c.in-Ok.ensures.problems;
+      changes = subst (λ (u : List ℕ). AskedChanges c.args.asked t u found.changes.items) c.as_str.ensures.value
+          c.in-Ok.ensures.changes;
     }

@@ -1,7 +1,7 @@
 use Rattle.std.proofs.Common.{◌∙◌, map-id, sym}
 use Rattle.std.proofs.lemmas.Iterator.{YieldsList-from_chars}
 use Rattle.std.proofs.lemmas.Iterator.Consumers.{YieldsList-end}
-use Rattle.yf_findings.proofs.full.characters.Goals as goal
+use Rattle.yf_findings.proofs.pieces.characters.Goals as goal
 
 pub returns : goal.returns
 returns c =

@@ -1,5 +1,5 @@
 use Rattle.std.proofs.Common.{◌≡◌}
-use Rattle.yf_findings.proofs.full.characters.Given as goal
+use Rattle.yf_findings.proofs.pieces.characters.Given as goal
 
 abbrev pub invariant-loop-c : goal.invariant-loop-c
 invariant-loop-c l = l.line.items ≡ l.yielded
