@@ -41,8 +41,8 @@ pub data Tried (Fails : Reach → Type 0) : ℕ → Type 0 where
   first_try : Tried Fails 0
   next_try : {radius : ℕ} → Tried Fails radius → Fails (around radius radius) → Tried Fails (radius + radius + 1)
 
--- The reach is within the radius, and has as few hunks on each side as a search by halves finds: one hunk less before
--- each touched one fails with `radius` hunks after it, and one hunk less after each fails with the hunks before it.
+-- The reach is within the radius. One hunk less before each touched one fails, with `radius` hunks after it. One hunk
+-- less after each fails too, with the hunks of the reach before it.
 pub record IsNarrowed (Fails : Reach → Type 0) (radius : ℕ) (reach : Reach) : Type 0 where
   pub within_before : reach.before ≤ radius
   pub within_after : reach.after ≤ radius
