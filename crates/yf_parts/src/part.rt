@@ -87,10 +87,10 @@ fn part_of(
 /// if no hunk touches one, it is the text.
 ///
 /// It applies the hunks that touch a requested line and the 0, 1, 3, 7 and so on hunks on both sides of each, until the
-/// formatting of the result is that of the text. Each smaller number of them fails. Then it leaves out hunks by halves,
-/// first before the touched ones and then after them; `IsNarrowed` says which smaller numbers fail. It is not proved that
-/// no other choice of fewer hunks would do, nor that a hunk is small: one hunk over the whole text would meet `PartKept`
-/// too. For k hunks the text is formatted at most 3 log2(k) + 6 times.
+/// formatting of the result is that of the text. Each smaller number of them fails. Then it leaves out hunks by
+/// halves, first before the touched ones and then after them; `IsNarrowed` says which smaller numbers fail. It is not
+/// proved that no other choice of fewer hunks would do, nor that a hunk is small: one hunk over the whole text would
+/// meet `PartKept` too. For k hunks the text is formatted at most 3 log2(k) + 6 times.
 ///
 /// # Errors
 ///
