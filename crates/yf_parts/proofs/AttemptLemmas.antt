@@ -87,12 +87,12 @@ narrowed_twice Fails radius start first second e l m =
     let kept : second.before ≡ first.before = ap (λ (r : Reach). r.before) m.changed in
     let less_before : first.before ≤ start.before = l.within in
     let less_after : second.after ≤ first.after = m.within in
-    let before : (first.before ≡ 0) ⊎ Fails (around (first.before - 1) start.after) = l.least in
-    let after : (second.after ≡ 0) ⊎ Fails (around first.before (second.after - 1)) = m.least in
+    let none_before : (first.before ≡ 0) ⊎ Fails (around (first.before - 1) start.after) = l.least in
+    let none_after : (second.after ≡ 0) ⊎ Fails (around first.before (second.after - 1)) = m.least in
     record {
       within_before = omega arith;
       within_after = omega arith;
       before = subst (λ k. (second.before ≡ 0) ⊎ Fails (around (second.before - 1) k)) start_after
-          (subst (λ k. (k ≡ 0) ⊎ Fails (around (k - 1) start.after)) (sym kept) before);
-      after = subst (λ k. (second.after ≡ 0) ⊎ Fails (around k (second.after - 1))) (sym kept) after;
+          (subst (λ k. (k ≡ 0) ⊎ Fails (around (k - 1) start.after)) (sym kept) none_before);
+      after = subst (λ k. (second.after ≡ 0) ⊎ Fails (around k (second.after - 1))) (sym kept) none_after;
     }

@@ -12,7 +12,7 @@ use Rattle.yf_parts.specs.declared.hunks.Hunk.{Hunk}
 
 -- this many hunks before each touched one and after it
 abbrev pub around : ℕ → ℕ → Reach
-around before after = record { before = before; after = after }
+around m n = record { before = m; after = n }
 
 -- the hunk at an index is within the reach of one with its flag set
 abbrev pub is_near : Reach → List Bool → ℕ → Bool
