@@ -3,7 +3,7 @@
 Each text has two lines that fmt would change, and only one of them is changed in the work tree.
 """
 from faults import each_file
-from scratch import read, repository, sh, write
+from scratch import BAD, read, repository, script, sh, write
 
 OLD = '---\na:  1\nb: 2\nc: 3\nd:  4\n'
 NEW = '---\na:  1\nb: 2\nc: 3\nd:  5\n'
@@ -24,6 +24,26 @@ def changed_lines(room, text, clone):
     edited(room)
     done = sh(['sh', '-c', text], room)
     return done.returncode == 0 and read(room + '/e f.yaml') == FORMATTED
+
+
+def only_new_findings(room, text, clone):
+    """The recipe writes a baseline and finds nothing. Then it reports only the new finding, also of what is staged. The
+    baseline may be a pipe, and only check takes one."""
+    repository(room)
+    sh(['git', 'mv', 'a b.yaml', 'a.yaml'], room)
+    script(room + '/bin/yamlfmt', 'exec "$(%s/hooks/program 2> /dev/null)" "$@"\n' % clone)
+    first, second = text.splitlines()
+    sh(['sh', '-c', first], room)
+    none = sh(['sh', '-c', second], room)
+    write(room + '/a.yaml', BAD.replace('---\n', '---\nb: 1 # d\n'))
+    new = sh(['sh', '-c', second], room)
+    sh(['git', 'add', 'a.yaml'], room)
+    write(room + '/a.yaml', BAD)
+    staged = each_file(clone, room, 'check', '--staged', '--baseline=baseline.json', 'a.yaml')
+    pipe = sh(['bash', '-c', '%s/hooks/each_file check --baseline <(cat baseline.json) a.yaml' % clone], room)
+    wrong = each_file(clone, room, 'fmt', '--check', '--baseline', 'baseline.json', 'a.yaml')
+    return ([done.returncode for done in (none, new, staged, pipe, wrong)] == [0, 1, 1, 0, 3]
+            and all('a.yaml:2:6 comment-space' in done.stdout and ':3:' not in done.stdout for done in (new, staged)))
 
 
 def only_changed_lines(room, clone, recipes):

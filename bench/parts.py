@@ -2,6 +2,7 @@
 """Measures `fmt --lines` on the YAML files of this machine: how many lines change if one line is requested.
 
 Usage: bench/parts.py PROGRAM [FILES]     (FILES: how many files for each of the settings; 400 by default)
+       bench/parts.py PROGRAM --times
 
 For each of four settings it takes files that `fmt` changes, in an order that is always the same, and requests one line
 that differs from the formatting. It prints the median and the 90th percentile of the lines that change, beside those of
@@ -9,11 +10,16 @@ the difference with the requested line, and those of the whole formatting. It al
 differences, and for how many of these the result is the whole formatting. It checks each result: formatting it gives the
 formatting of the file. A result that fails is printed, and the status is 1.
 
+With --times it compares the processor seconds of `fmt --lines`, with one line in the middle, and of `fmt`, on the 16 MB
+of configuration of bench/measure.py. It takes the fastest of three runs. The status is 1 if the ratio is 4 or more.
+
 Run it by hand; it is not part of rt ci.
 """
+import importlib.util
 import os
 import random
 import re
+import resource
 import subprocess
 import sys
 import tempfile
@@ -84,8 +90,39 @@ def one(program, config, path):
     return (*sizes, len(all_hunks) > 1, len(all_hunks) > 1 and part == whole)
 
 
+def seconds(program, text, *words):
+    """The output, and the processor seconds of the fastest of three runs."""
+    least = None
+    for _ in range(3):
+        before = resource.getrusage(resource.RUSAGE_CHILDREN)
+        command = [program, 'fmt', '--no-config', *words]
+        out = subprocess.run(command, input=text, stdout=subprocess.PIPE, check=True).stdout
+        after = resource.getrusage(resource.RUSAGE_CHILDREN)
+        took = after.ru_utime + after.ru_stime - before.ru_utime - before.ru_stime
+        least = took if least is None else min(least, took)
+    return out, least
+
+
+def times(program):
+    at = os.path.join(os.path.dirname(os.path.abspath(__file__)), 'measure.py')
+    spec = importlib.util.spec_from_file_location('measure', at)
+    measure = importlib.util.module_from_spec(spec)
+    spec.loader.exec_module(measure)
+    text = measure.text_of(16 << 20)
+    whole, one = seconds(program, text)
+    found = [hunk for hunk in hunks(text, whole) if hunk[0] < hunk[1]]
+    line = found[len(found) // 2][0] + 1
+    part, two = seconds(program, text, '--lines', str(line))
+    changed = sum(map(size, hunks(text, part)))
+    print('%d bytes, %d hunks: fmt %.2f s, fmt --lines %d %.2f s (%.1f times), which changes %d lines' % (
+        len(text), len(found), one, line, two, two / one, changed))
+    sys.exit(two >= 4 * one)
+
+
 def main():
     program = os.path.abspath(sys.argv[1])
+    if sys.argv[2:] == ['--times']:
+        times(program)
     wanted = int(sys.argv[2]) if len(sys.argv) > 2 else 400
     paths = files()
     for setting in SETTINGS:

@@ -164,7 +164,8 @@ def make(room, text, clone):
 
 
 TOOLS = {'folder': ('git', folder), 'changed': ('git', changed),
-         'changed-lines': ('git', changed_lines.changed_lines), 'make': ('make', make), 'git': ('git', git),
+         'changed-lines': ('git', changed_lines.changed_lines), 'baseline': ('git', changed_lines.only_new_findings),
+         'make': ('make', make), 'git': ('git', git),
          'git-changed': ('git', git_changed),
          'pre-commit': ('pre-commit', pre_commit), 'pre-commit-package': ('pre-commit', pre_commit_package),
          'pre-commit-templates': ('pre-commit', pre_commit_templates), 'long-lines': ('git', long_lines),

@@ -4,8 +4,10 @@
 pub mod DifferLemmas
 -- `touched`
 pub mod TouchedLemmas
--- `is_near` and `part_of`
+-- `is_near`, `chosen`, `attempted` and `whole`
 pub mod TryLemmas
+-- `narrowed` and `searched`
+pub mod AttemptLemmas
 -- `part_of`
 pub mod SpliceLemmas
 pub mod AskedLemmas

@@ -9,6 +9,7 @@ use Rattle.std.proofs.lemmas.List.{take_all}
 use Rattle.std.proofs.Math.Bool.{or-true}
 use Rattle.yf_parts.specs.Asked.{Covers, has_true}
 use Rattle.yf_parts.specs.Tries.{counts_from, is_near, near_all}
+use Rattle.yf_parts.specs.declared.candidates.Reach.{Reach}
 
 -- the number of flags that are set
 abbrev trues : List Bool → ℕ
@@ -77,28 +78,29 @@ pub slice_past : (flags : List Bool) (a b : ℕ) → length flags ≤ b → a �
 slice_past flags a b l m = take_all (length flags - a) (drop a flags) (omega (arith, length-drop a flags))
     ∙ sym (take_all (b - a) (drop a flags) (omega (arith, length-drop a flags)))
 
-module _ (counts : List ℕ) (flags : List Bool) (i radius from : ℕ) (is : counts ≡ counts_from 0 flags)
+module _ (counts : List ℕ) (flags : List Bool) (i : ℕ) (reach : Reach) (from : ℕ) (is : counts ≡ counts_from 0 flags)
     (inside : i < length flags)
-    (before : from ≡ i - radius) where
-  pub near_within : radius < length flags - i → nat_lt (get_or counts from 0) (get_or counts (i + radius + 1) 0)
-      ≡ is_near radius flags i
-  near_within l = rw (is, before) (counts_tell flags (i - radius) (i + radius + 1) 0 0 (omega arith) (omega arith))
+    (before : from ≡ i - reach.after) where
+  pub near_within : reach.before < length flags - i
+      → nat_lt (get_or counts from 0) (get_or counts (i + reach.before + 1) 0) ≡ is_near reach flags i
+  near_within l = rw (is, before)
+      (counts_tell flags (i - reach.after) (i + reach.before + 1) 0 0 (omega arith) (omega arith))
 
-  pub near_past : length flags - i ≤ radius → nat_lt (get_or counts from 0) (get_or counts (length flags) 0)
-      ≡ is_near radius flags i
-  near_past l = rw (is, before) (counts_tell flags (i - radius) (length flags) 0 0 (omega arith) (omega arith)
-      ∙ ap has_true (slice_past flags (i - radius) (i + radius + 1) (omega arith) (omega arith)))
+  pub near_past : length flags - i ≤ reach.before → nat_lt (get_or counts from 0) (get_or counts (length flags) 0)
+      ≡ is_near reach flags i
+  near_past l = rw (is, before) (counts_tell flags (i - reach.after) (length flags) 0 0 (omega arith) (omega arith)
+      ∙ ap has_true (slice_past flags (i - reach.after) (i + reach.before + 1) (omega arith) (omega arith)))
 
 -- one more flag
-pub near_next : (radius : ℕ) (flags : List Bool) (i : ℕ) (chosen after : List Bool) (b : Bool) → i < length flags
-    → after ≡ chosen ++ b ∷ [] → b ≡ is_near radius flags i
-    → after ++ near_all radius flags (i + 1) (drop (i + 1) flags) ≡ chosen ++ near_all radius flags i (drop i flags)
-near_next radius flags i chosen after b l e f =
+pub near_next : (reach : Reach) (flags : List Bool) (i : ℕ) (chosen after : List Bool) (b : Bool) → i < length flags
+    → after ≡ chosen ++ b ∷ [] → b ≡ is_near reach flags i
+    → after ++ near_all reach flags (i + 1) (drop (i + 1) flags) ≡ chosen ++ near_all reach flags i (drop i flags)
+near_next reach flags i chosen after b l e f =
     let next : suc i ≡ i + 1 = omega arith in
     let split : drop i flags ≡ get_or flags i true ∷ drop (i + 1) flags = drop-cons flags i true l
     ∙ ap (λ k. get_or flags i true ∷ drop k flags) next in
-    rw (e, split, f) (append_assoc chosen (is_near radius flags i ∷ [])
-    (near_all radius flags (i + 1) (drop (i + 1) flags)))
+    rw (e, split, f) (append_assoc chosen (is_near reach flags i ∷ [])
+    (near_all reach flags (i + 1) (drop (i + 1) flags)))
 
 none_taken : (n : ℕ) (flags : List Bool) → has_true flags ≡ false → has_true (take n flags) ≡ false
 none_taken zero flags e = refl
@@ -112,20 +114,20 @@ none_dropped (suc n) [] e = refl
 none_dropped (suc n) (x ∷ flags) e = none_dropped n flags (or_parts x (has_true flags) e).1
 
 -- none is near if none is set
-pub none_near : (radius : ℕ) (flags : List Bool) (i : ℕ) (rest : List Bool) → has_true flags ≡ false
-    → has_true (near_all radius flags i rest) ≡ false
-none_near radius flags i [] e = refl
-none_near radius flags i (x ∷ rest) e =
+pub none_near : (reach : Reach) (flags : List Bool) (i : ℕ) (rest : List Bool) → has_true flags ≡ false
+    → has_true (near_all reach flags i rest) ≡ false
+none_near reach flags i [] e = refl
+none_near reach flags i (x ∷ rest) e =
     rw (
-      none_taken (i + radius + 1 - (i - radius)) (drop (i - radius) flags)
-          (none_dropped (i - radius) flags e),
-      none_near radius flags (i + 1) rest e,
+      none_taken (i + reach.before + 1 - (i - reach.after)) (drop (i - reach.after) flags)
+          (none_dropped (i - reach.after) flags e),
+      none_near reach flags (i + 1) rest e,
     ) refl
 
-pub near_length : (radius : ℕ) (flags : List Bool) (i : ℕ) (rest : List Bool)
-    → length (near_all radius flags i rest) ≡ length rest
-near_length radius flags i [] = refl
-near_length radius flags i (x ∷ rest) = ap suc (near_length radius flags (i + 1) rest)
+pub near_length : (reach : Reach) (flags : List Bool) (i : ℕ) (rest : List Bool)
+    → length (near_all reach flags i rest) ≡ length rest
+near_length reach flags i [] = refl
+near_length reach flags i (x ∷ rest) = ap suc (near_length reach flags (i + 1) rest)
 
 -- a flag that is set is among those around it
 true_around : (front : List Bool) (x : Bool) (rest : List Bool) (k n : ℕ) → k ≤ length front → length front < k + n
@@ -138,35 +140,37 @@ true_around (y ∷ front) x rest zero (suc n) a b e =
     rw (true_around front x rest zero n (omega arith) (omega arith) e) (or-true y)
 true_around (y ∷ front) x rest (suc k) n a b e = true_around front x rest k n (omega arith) (omega arith) e
 
-covers_from : (radius : ℕ) (front rest flags : List Bool) (i : ℕ) → flags ≡ front ++ rest → i ≡ length front
-    → Covers rest (near_all radius flags i rest)
-covers_from radius front [] flags i e l = tt
-covers_from radius front (x ∷ rest) flags i e l = (
-  (λ on. subst (λ z. has_true (take (i + radius + 1 - (i - radius)) (drop (i - radius) z)) ≡ true) (sym e)
-      (true_around front x rest (i - radius) (i + radius + 1 - (i - radius)) (omega arith) (omega arith) on)),
-  covers_from radius (front ++ x ∷ []) rest flags (i + 1) (e
+covers_from : (reach : Reach) (front rest flags : List Bool) (i : ℕ) → flags ≡ front ++ rest → i ≡ length front
+    → Covers rest (near_all reach flags i rest)
+covers_from reach front [] flags i e l = tt
+covers_from reach front (x ∷ rest) flags i e l = (
+  (λ on. subst (λ z. is_near reach z i ≡ true) (sym e)
+      (true_around front x rest (i - reach.after) (i + reach.before + 1 - (i - reach.after)) (omega arith)
+      (omega arith) on)),
+  covers_from reach (front ++ x ∷ []) rest flags (i + 1) (e
       ∙ sym (append_assoc front (x ∷ []) rest)) (omega (arith, length-append front (x ∷ []))),
 )
 
 -- flags that were set are near
-pub near_covers : (radius : ℕ) (flags : List Bool) → Covers flags (near_all radius flags 0 flags)
-near_covers radius flags = covers_from radius [] flags flags 0 refl refl
+pub near_covers : (reach : Reach) (flags : List Bool) → Covers flags (near_all reach flags 0 flags)
+near_covers reach flags = covers_from reach [] flags flags 0 refl refl
 
-all_from : (radius : ℕ) (flags : List Bool) (i : ℕ) (rest : List Bool) → has_true flags ≡ true → length flags ≤ radius
-    → i + length rest ≤ length flags
-    → near_all radius flags i rest ≡ map (λ _. true) rest
-all_from radius flags i [] on l m = refl
-all_from radius flags i (x ∷ rest) on l m =
-    let none : i - radius ≡ 0 = omega arith in
-    let whole : slice_range flags (i - radius) (i + radius + 1) ≡ flags =
-    ap (λ k. slice_range flags k (i + radius + 1)) none ∙ take_all (i + radius + 1 - 0) flags (omega arith) in
-    let here : is_near radius flags i ≡ true = ap has_true whole ∙ on in
-    rw (here, all_from radius flags (i + 1) rest on l (omega arith)) refl
+-- all flags are near one that is set, if the reach is large
+module _ (reach : Reach) (flags : List Bool) (on : has_true flags ≡ true) (before : length flags ≤ reach.before)
+    (after : length flags ≤ reach.after) where
+  all_from : (i : ℕ) (rest : List Bool) → i + length rest ≤ length flags
+      → near_all reach flags i rest ≡ map (λ _. true) rest
+  all_from i [] m = refl
+  all_from i (x ∷ rest) m =
+      let none : i - reach.after ≡ 0 = omega arith in
+      let whole : slice_range flags (i - reach.after) (i + reach.before + 1) ≡ flags =
+      ap (λ k. slice_range flags k (i + reach.before + 1)) none
+      ∙ take_all (i + reach.before + 1 - 0) flags (omega arith) in
+      let here : is_near reach flags i ≡ true = ap has_true whole ∙ on in
+      rw (here, all_from (i + 1) rest (omega arith)) refl
 
--- all flags are near one that is set, if the radius is large
-pub all_near : (radius : ℕ) (flags : List Bool) → has_true flags ≡ true → length flags ≤ radius
-    → near_all radius flags 0 flags ≡ map (λ _. true) flags
-all_near radius flags on l = all_from radius flags 0 flags on l (omega arith)
+  pub all_near : near_all reach flags 0 flags ≡ map (λ _. true) flags
+  all_near = all_from 0 flags (omega arith)
 
 pub all_mapped : {A : Type 0} (f : A → Bool) (xs : List A) → map (λ _. true) (map f xs) ≡ map (λ _. true) xs
 all_mapped f [] = refl

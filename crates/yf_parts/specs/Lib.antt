@@ -4,6 +4,7 @@ pub mod Hunks
 pub mod Asked
 -- the hunks that each try applies
 pub mod Tries
+pub mod Attempts
 -- the contract of a part
 pub mod PartKept
 -- how a text with some lines formatted is shown, and the run that shows it

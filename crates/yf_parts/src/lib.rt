@@ -23,6 +23,7 @@ pub mod candidates;
 pub mod hunks;
 pub mod part;
 pub mod run;
+pub mod search;
 pub mod show;
 pub mod splice;
 pub mod touched;

@@ -22,7 +22,7 @@ type Row = (&'static [Range], Show, &'static str, u8, &'static str);
 /// Lines 2, 4 and 6 differ from the formatting.
 const THREE: &str = "---\na:  1\nb: 2\nc:  3\nd: 4\ne:  5\n";
 
-static ROWS: [Row; 27] = [
+static ROWS: [Row; 28] = [
     // one line, and lines that need no change
     (
         &[(4, 4)],
@@ -113,6 +113,14 @@ static ROWS: [Row; 27] = [
         "---\na: |\n   x\n\n   y\nc: 1\n",
         0,
         "---\na: |\n  x\n\n  y\nc: 1\n",
+    ),
+    // the hunk after them is left out again
+    (
+        &[(5, 5)],
+        Show::Text,
+        "---\na: |\n   x\n\n   y\nc: 1\nb:  1\n",
+        0,
+        "---\na: |\n  x\n\n  y\nc: 1\nb:  1\n",
     ),
     // a line of a scalar over two lines
     (

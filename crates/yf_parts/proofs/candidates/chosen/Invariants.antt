@@ -6,8 +6,8 @@ use Rattle.yf_parts.proofs.candidates.chosen.Given as goal
 abbrev pub invariant-loop-index : goal.invariant-loop-index
 invariant-loop-index l = record {
   within : l.index ≤ length l.flags;
-  all : l.chosen.items ++ near_all l.radius l.flags l.index (drop l.index l.flags)
-      ≡ near_all l.radius l.flags 0 l.flags;
+  all : l.chosen.items ++ near_all l.reach l.flags l.index (drop l.index l.flags)
+      ≡ near_all l.reach l.flags 0 l.flags;
 }
 
 abbrev pub decreases-loop-index : goal.decreases-loop-index

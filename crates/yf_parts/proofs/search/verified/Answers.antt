@@ -4,7 +4,7 @@ use Rattle.std.specs.String.{string_bytes}
 use Rattle.yf_parts.specs.Tries.{IsOther}
 use Rattle.yf_rules.specs.Headline.{Headline}
 use Rattle.yf_parts.proofs.VerifiedLemmas.{other_formatting}
-use Rattle.yf_parts.proofs.part.verified.Goals as goal
+use Rattle.yf_parts.proofs.search.verified.Goals as goal
 
 pub returns-then-eq-clause-formats : goal.returns-then-eq-clause-formats
 returns-then-eq-clause-formats c =
