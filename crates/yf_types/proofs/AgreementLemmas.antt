@@ -1,16 +1,16 @@
 -- The forms of a text agree exactly if its values in both schemas are the same.
 use Rattle.std.proofs.Common.{◌≡◌, ℕ, Bool, true, false, true≢false, eq-eqb, List, [], ◌∷◌, refl, sym, ap, subst, ◌∙◌}
-use Rattle.std.specs.Prelude.{not, ◌&&◌, ◌||◌, ◌==◌, ◌*◌, if◌then◌else◌}
+use Rattle.std.specs.Prelude.{not, ◌&&◌, ◌==◌, if◌then◌else◌}
 use Rattle.std.proofs.lemmas.Bool.{eqb-true}
-use Rattle.yf_lines.specs.CoreSchema.{byte_of, repeated, followed, is_hexadecimal, is_octal, null_pattern}
-use Rattle.yf_types.specs.Agreement.{agree, is_short}
-use Rattle.yf_types.specs.NewerSchema.{core_decimal_pattern, core_false_pattern, core_hexadecimal_pattern}
-use Rattle.yf_types.specs.NewerSchema.{core_number_pattern, core_octal_pattern, core_true_pattern, newer_form}
+use Rattle.yf_lines.specs.CoreSchema.{byte_of, repeated, followed, is_hexadecimal, is_octal}
+use Rattle.yf_types.specs.Agreement.{agree}
+use Rattle.yf_types.specs.NewerSchema.{core_decimal_pattern, core_hexadecimal_pattern}
+use Rattle.yf_types.specs.NewerSchema.{core_octal_pattern, newer_form}
 use Rattle.yf_types.specs.NewerSchema.{newer_patterns}
-use Rattle.yf_types.specs.OlderSchema.{infinity_pattern, not_a_number_pattern, older_form, or_underscore}
+use Rattle.yf_types.specs.OlderSchema.{older_form, or_underscore}
 use Rattle.yf_types.specs.Tests.{after_match, is_end, is_match}
-use Rattle.yf_types.specs.Values.{Value, infinity, integer, is_ambiguous, is_negative, is_same, newer, null, boolean}
-use Rattle.yf_types.specs.Values.{not_a_number, string, older, same, size, value}
+use Rattle.yf_types.specs.Values.{is_ambiguous, is_negative, is_same, newer}
+use Rattle.yf_types.specs.Values.{older, same, size, value}
 use Rattle.yf_types.specs.declared.form.Form.{Form}
 use Rattle.yf_types.specs.declared.form.Form.TheVariants.{Null, True, False, Binary, Octal, PrefixedOctal, Decimal}
 use Rattle.yf_types.specs.declared.form.Form.TheVariants.{Hexadecimal, Sixties, Number, SixtiesNumber, Infinity}

@@ -1,12 +1,12 @@
 -- The tests of texts agree with the relation between patterns and texts.
-use Rattle.std.proofs.Common.{◌≡◌, ◌⊎◌, inl, inr, ℕ, zero, suc, ◌≤◌, ◌+◌, Bool, true, false, true≢false, eq-eqb, arith}
+use Rattle.std.proofs.Common.{◌≡◌, inl, inr, ℕ, zero, suc, ◌≤◌, Bool, true, true≢false, eq-eqb, arith}
 use Rattle.std.proofs.Common.{List, [], ◌∷◌, ◌++◌, refl, sym, ap, subst, ◌∙◌, append_assoc, append-nil, length-append}
-use Rattle.std.specs.Prelude.{◌&&◌, ◌||◌, ◌==◌, length}
+use Rattle.std.specs.Prelude.{◌==◌, length}
 use Rattle.std.proofs.lemmas.Bool.{eqb-true}
 use Rattle.yf_lines.specs.CoreSchema.{Pattern, byte_of, bytes, followed, either, optional, repeated, Matches, in_class}
 use Rattle.yf_lines.specs.CoreSchema.{as_written, in_order, the_one, the_other, left_out, given, no_time, once_more}
 use Rattle.yf_types.specs.Decided.{IsDecided}
-use Rattle.yf_types.specs.Tests.{after_byte, after_bytes, after_match, after_times, is_end, is_match}
+use Rattle.yf_types.specs.Tests.{after_bytes, after_match, after_times, is_end, is_match}
 use Rattle.yf_types.proofs.MatchLemmas.{both_true, one_true, true_or}
 use Rattle.yf_types.proofs.SixtyRuns.{passes_now}
 

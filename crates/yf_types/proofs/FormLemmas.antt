@@ -1,5 +1,5 @@
 -- Which forms a text can have in YAML 1.1, if the core schema reads it as a number.
-use Rattle.std.proofs.Common.{◌≡◌, ℕ, Bool, true, false, true≢false, inl, inr, List, [], ◌∷◌, refl, sym, subst, ◌∙◌}
+use Rattle.std.proofs.Common.{◌≡◌, ℕ, Bool, true, false, true≢false, inl, inr, List, [], ◌∷◌, refl}
 use Rattle.std.specs.Prelude.{not, ◌==◌, if◌then◌else◌}
 use Rattle.yf_lines.specs.CoreSchema.{Pattern, is_digit, is_exponent, is_sign}
 use Rattle.yf_types.specs.NewerSchema.{core_decimal_pattern, core_number_pattern}
@@ -36,7 +36,8 @@ abbrev NoMatches : (Form → Bool) → List (Pattern × Form) → List ℕ → T
 NoMatches bad [] t = Unit {0}
 NoMatches bad (x ∷ rest) t = Also (bad x.1) (is_match x.0 t ≡ false) (NoMatches bad rest t)
 
-step : (bad : Form → Bool) (b m : Bool) (f r : Form) (A : Type 0) → bad f ≡ b → Also b (m ≡ false) A → (A → bad r ≡ false)
+step : (bad : Form → Bool) (b m : Bool) (f r : Form) (A : Type 0) → bad f ≡ b → Also b (m ≡ false) A
+    → (A → bad r ≡ false)
     → bad (if m then f else r) ≡ false
 step bad true true f r A e w h = absurd (true≢false w.0)
 step bad true false f r A e w h = h w.1

@@ -10,3 +10,6 @@ pub mod FormLemmas
 pub mod AgreementLemmas
 -- the tests and the relation between patterns and texts
 pub mod DecidedLemmas
+-- sizes
+pub mod SizeLemmas
+pub mod MeaningLemmas

@@ -1,14 +1,14 @@
 -- Digits with one value in the bases 8 and 10.
-use Rattle.std.proofs.Common.{◌≡◌, ℕ, zero, suc, ◌+◌, ◌-◌, ◌*◌, ◌<◌, ◌≤◌, Bool, true, false, cond, inl, inr, true≢false}
+use Rattle.std.proofs.Common.{◌≡◌, ℕ, ◌+◌, ◌*◌, ◌<◌, ◌≤◌, Bool, true, false, cond, inl, inr, true≢false}
 use Rattle.std.proofs.Common.{eq-eqb, ne_eqb, leb-true, arith, List, [], ◌∷◌, refl, sym, ap, subst, ◌≢◌, ◌∙◌}
-use Rattle.std.specs.Prelude.{◌&&◌, ◌||◌, ◌==◌, length, nat_le}
+use Rattle.std.specs.Prelude.{◌&&◌, ◌||◌, ◌==◌, nat_le}
 use Rattle.std.specs.List.{list_all}
 use Rattle.std.proofs.lemmas.Bool.{eqb-true}
 use Rattle.yf_lines.specs.CoreSchema.{byte_of, optional, repeated, followed, is_digit, is_sign}
 use Rattle.yf_types.specs.Agreement.{is_short}
 use Rattle.yf_types.specs.NewerSchema.{core_decimal_pattern}
-use Rattle.yf_types.specs.OlderSchema.{is_underscore, is_zero}
-use Rattle.yf_types.specs.Tests.{after_byte, after_match, after_times, is_end, is_match}
+use Rattle.yf_types.specs.OlderSchema.{is_zero}
+use Rattle.yf_types.specs.Tests.{after_byte, after_match, is_end, is_match}
 use Rattle.yf_types.specs.Values.{digit_value, digits_from, unsigned}
 use Rattle.yf_types.proofs.MatchLemmas.{both_true, one_true}
 use Rattle.yf_types.proofs.SixtyRuns.{or_false}

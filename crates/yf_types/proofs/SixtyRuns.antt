@@ -1,7 +1,7 @@
 -- Tests for parts in base 60, with the length of the text as a bound.
-use Rattle.std.proofs.Common.{◌≡◌, ℕ, zero, suc, ◌≤◌, ◌<◌, ◌+◌, Bool, true, false, true≢false, ne_eqb, arith, List, []}
+use Rattle.std.proofs.Common.{◌≡◌, ℕ, zero, suc, ◌≤◌, ◌<◌, Bool, true, false, true≢false, ne_eqb, arith, List, []}
 use Rattle.std.proofs.Common.{◌∷◌, refl, sym, subst, ap, ◌∙◌}
-use Rattle.std.specs.Prelude.{◌&&◌, ◌||◌, ◌==◌, length, Option, Some, None, if◌then◌else◌}
+use Rattle.std.specs.Prelude.{◌&&◌, ◌||◌, length, Option, Some, None, if◌then◌else◌}
 use Rattle.yf_lines.specs.CoreSchema.{Pattern, is_digit, repeated}
 use Rattle.yf_types.specs.OlderSchema.{is_colon, is_zero_to_five, sixty}
 use Rattle.yf_types.specs.Sixties.{after_sixty}

@@ -7,3 +7,5 @@ pub mod Values
 pub mod Agreement
 pub mod Sixties
 pub mod Decided
+-- messages
+pub mod Meanings

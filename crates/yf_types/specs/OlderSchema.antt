@@ -1,5 +1,5 @@
 -- The types of plain scalars in YAML 1.1 (https://yaml.org/type), as PyYAML's SafeLoader resolves them: its regular
--- expressions, by type. No text matches the patterns of two types.
+-- expressions, by type and in its order. A text is that of a plain scalar, so it does not end with a line break.
 use Rattle.std.specs.Prelude.{ℕ, Bool, ◌&&◌, ◌||◌, ◌==◌, nat_le, List, [], ◌∷◌, codes, if◌then◌else◌}
 use Rattle.yf_lines.specs.CoreSchema.{Pattern, byte_of, bytes, followed, either, optional, repeated, is_digit, is_octal}
 use Rattle.yf_lines.specs.CoreSchema.{is_hexadecimal, is_sign, is_exponent, at_least_once, digits, signed, cased}

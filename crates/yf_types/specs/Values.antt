@@ -83,7 +83,7 @@ abbrev pub digit_count : List ℕ → ℕ
 digit_count [] = 0
 digit_count (b ∷ t) = if is_underscore b then digit_count t else suc (digit_count t)
 
--- the size of an integer
+-- the size of an integer; it is 0 for `0b_` and `0x_`, for which PyYAML fails
 abbrev pub size : Form → List ℕ → ℕ
 size Binary t = digits_from 2 0 (drop 2 (unsigned t))
 size Octal t = digits_from 8 0 (unsigned t)

@@ -19,7 +19,7 @@ fn is_short(text: &[u8]) -> bool
 }
 
 /// Returns whether a form in YAML 1.1 and one in YAML 1.2 give the text one type and value.
-fn agree(older: Form, newer: Form, text: &[u8]) -> bool
+pub fn agree(older: Form, newer: Form, text: &[u8]) -> bool
     ensures { result ≡ Agreement.agree older newer text.now }
 {
     match newer {

@@ -6,6 +6,7 @@
 pub mod agreement;
 mod classes;
 pub mod form;
+pub mod meaning;
 mod newer;
 mod older;
 mod sixties;

@@ -1,4 +1,4 @@
-use Rattle.std.proofs.Common.{◌≡◌, ℕ, length}
+use Rattle.std.proofs.Common.{◌≡◌, length}
 use Rattle.yf_lines.specs.CoreSchema.{byte_of, repeated}
 use Rattle.yf_types.specs.Tests.{after_match}
 use Rattle.yf_types.proofs.texts.ManyTest.passes.Given as goal
