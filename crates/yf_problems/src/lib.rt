@@ -10,4 +10,5 @@ pub mod finding_words;
 pub mod folds;
 pub mod problems;
 mod repeated_keys;
+mod values;
 mod white_space;
