@@ -5,17 +5,20 @@
 
 PROGRAM is the built program (crates/yamlfmt/out/yamlfmt). The script opens documents, edits them at random, formats
 them, and compares each response with a model (bench/server_model.py): the text that the edits must give, and what
-PROGRAM itself prints for that text by `fmt` and `check`. It requests the edits, the code actions, the problems and
-the folding ranges in each possible way. Then it sends what a broken client sends, and runs a session with too little
-memory. With --times it measures how long after an edit its diagnostics come, in documents of 1 MB and of 16 MB.
+PROGRAM itself prints for that text by `fmt` and `check`. It requests the edits, the code actions, the problems, and
+what bench/server_outline.py checks, in each possible way. Then it sends what a broken client sends, and runs a session
+with too little memory. With --times it measures how long after an edit its diagnostics come, in documents of 1 MB and
+of 16 MB.
 """
 import argparse
+import json
 import os
 import random
 import sys
 import time
 
-from server_model import CAPABILITIES, NAME, Server, apply, initialize, lines_of, offset_of, position_of, run
+from server_model import CAPABILITIES, NAME, Server, apply, initialize, offset_of, position_of, run
+from server_outline import check_outline, some_folds, some_selections, some_symbols
 
 
 def code_actions(server, context):
@@ -85,45 +88,6 @@ def some_lines(server):
         assert answer['error']['code'] == -32602, answer
 
 
-FOLDS = [
-    # a collection under its key, an item under its dash, and only the longest of those that begin on a line
-    ('a:\n  b: 1\n  c:\n  - x\n  - - y\n    - z\nd: 1\n', [(0, 5), (2, 5), (4, 5)]),
-    # block scalars without the empty lines after them, quoted scalars; not plain ones
-    ('a: |+\n  x\n\n  y\n\n\nb: "x\n  y"\nc: x\n  y\n', [(0, 3), (6, 7)]),
-    # flow collections, and documents
-    ('--- [a,\n  b]\n---\n{\n  c: [\n  1\n] }\n...\n', [(0, 1), (3, 6), (4, 6)]),
-    # explicit keys, and a value that begins on a later line
-    ('? - a\n  - b\n: - c\n  - d\n', [(0, 3)]),
-    ('k:\n\n  &a\n  - x\nm:\n', [(0, 3)]),
-    # comment lines in a row, but not one line, nor a comment after content; a fold ends before the comments after it
-    ('a: 1 # x\n# y\n # z\n\n# u\n\n# v\n# w\nb:\n- c\n# t\n', [(1, 2, 'comment'), (6, 7, 'comment'), (8, 9)]),
-    # line breaks of each kind
-    ('# a\r# b\r\n# c\nk: [\r\n ]\r', [(0, 2, 'comment'), (3, 4)]),
-    ('', []), ('a: 1\n', []), ('a: [\n\n', []), ("'a\n\n b'", [(0, 2)]),
-]
-
-
-def some_folds(server):
-    """The folding ranges of some texts: first line, last line, and the kind of comments."""
-    for version, (text, folds) in enumerate(FOLDS, 100):
-        server.change(version, [{'text': text}])
-        server.receive()
-        answer, _ = server.request('textDocument/foldingRange', {'textDocument': {'uri': NAME}})
-        got = [(f['startLine'], f['endLine'], *([f['kind']] if 'kind' in f else [])) for f in answer['result']]
-        assert got == folds, (text, got)
-
-
-def check_folds(server, text, is_refused):
-    """Each folding range has at least two lines of the text, and one begins on a line at most."""
-    answer, before = server.request('textDocument/foldingRange', {'textDocument': {'uri': NAME}})
-    assert before == [], before
-    firsts = [fold['startLine'] for fold in answer['result']]
-    assert firsts == sorted(set(firsts)), firsts
-    assert all(f['startLine'] < f['endLine'] < len(lines_of(text)) for f in answer['result']), answer
-    assert all(set(f) - {'kind'} == {'startLine', 'endLine'} for f in answer['result']), answer
-    assert not (is_refused and firsts), 'a refused text has folding ranges'
-
-
 def check_document(program, server, text, encoding):
     """What an open document gets on request agrees with `fmt` and `check`."""
     answer, before = server.request('textDocument/formatting', {
@@ -142,7 +106,8 @@ def check_document(program, server, text, encoding):
     pulled, _ = server.request('textDocument/diagnostic', {'textDocument': {'uri': NAME}})
     assert set(pulled['result']) == {'kind', 'items'} and pulled['result']['kind'] == 'full', pulled
     check_problems(program, pulled['result']['items'], text, encoding)
-    check_folds(server, text, any(d['severity'] == 1 for d in pulled['result']['items']))
+    is_refused = any(d['severity'] == 1 for d in pulled['result']['items'])
+    check_outline(server, text, is_refused, encoding)
     return before
 
 
@@ -154,11 +119,11 @@ def check_diagnostics(program, published, text, version, encoding):
 
 
 def check_problems(program, listed, text, encoding):
-    """The problems are those that `check` prints, or why it refuses the text."""
-    status, findings, errors = run(program, ['check'], text)
+    """The problems are those that `check` prints, with their messages, or why it refuses the text."""
+    status, findings, errors = run(program, ['check', '--format', 'json'], text)
     if status in (0, 1):
-        wanted = sorted(line.split(' ')[1] for line in findings.splitlines())
-        assert sorted(d['code'] for d in listed) == wanted, (listed, findings)
+        wanted = sorted((found['rule'], found['message']) for found in json.loads(findings))
+        assert sorted((d['code'], d['message']) for d in listed) == wanted, (listed, findings)
         assert all(d['severity'] == 2 for d in listed)
     else:
         assert len(listed) == 1 and listed[0]['severity'] == 1, listed
@@ -269,8 +234,10 @@ def vault(server):
     assert server.receive()['params'] == {'uri': name, 'version': 1, 'diagnostics': []}
     whole = {'start': {'line': 0, 'character': 0}, 'end': {'line': 3, 'character': 0}}
     for method, result in (('formatting', None), ('willSaveWaitUntil', None), ('rangeFormatting', None),
-                           ('codeAction', []), ('diagnostic', {'kind': 'full', 'items': []}), ('foldingRange', [])):
-        answer, _ = server.request('textDocument/' + method, {'textDocument': {'uri': name}, 'range': whole})
+                           ('codeAction', []), ('diagnostic', {'kind': 'full', 'items': []}), ('foldingRange', []),
+                           ('documentSymbol', []), ('selectionRange', [])):
+        answer, _ = server.request('textDocument/' + method, {
+            'textDocument': {'uri': name}, 'range': whole, 'positions': []})
         assert answer['result'] == result, answer
 
 
@@ -284,7 +251,8 @@ def life_cycle(program):
     assert answer['error']['code'] == -32600, answer
     answer, _ = server.request('workspace/symbol', {})
     assert answer['error']['code'] == -32601, answer
-    for method in ('formatting', 'willSaveWaitUntil', 'rangeFormatting', 'codeAction', 'diagnostic', 'foldingRange'):
+    for method in ('formatting', 'willSaveWaitUntil', 'rangeFormatting', 'codeAction', 'diagnostic', 'foldingRange',
+                   'documentSymbol', 'selectionRange'):
         answer, _ = server.request('textDocument/' + method, {'textDocument': {'uri': NAME}})
         assert answer['error']['code'] == -32602, answer
         answer, _ = server.request('textDocument/' + method, {})
@@ -300,6 +268,8 @@ def life_cycle(program):
     faulty_changes(program, server)
     some_lines(server)
     some_folds(server)
+    some_symbols(server)
+    some_selections(server)
     vault(server)
     server.notify('textDocument/didSave', {'textDocument': {'uri': NAME}})
     server.notify('$/cancelRequest', {'id': 1})

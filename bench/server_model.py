@@ -9,6 +9,8 @@ CAPABILITIES = {
     'documentFormattingProvider': True,
     'documentRangeFormattingProvider': True,
     'foldingRangeProvider': True,
+    'documentSymbolProvider': True,
+    'selectionRangeProvider': True,
     'codeActionProvider': {'codeActionKinds': ['source.fixAll.yamlfmt']},
     'diagnosticProvider': {'interFileDependencies': False, 'workspaceDiagnostics': False},
 }

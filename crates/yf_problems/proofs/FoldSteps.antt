@@ -1,8 +1,7 @@
 -- One step of the pass that finds the parts of nodes.
 use Rattle.std.proofs.Common.{◌≡◌, ℕ, ◌+◌, ◌≤◌, List, [], ◌++◌, Option, Some, length, drop, sym, ap, ◌∙◌, append_assoc}
-use Rattle.std.specs.Prelude.{flat_map, option_map, slice_get}
+use Rattle.std.specs.Prelude.{flat_map, slice_get}
 use Rattle.std.proofs.lemmas.List.{append-nil, drop_all}
-use Rattle.std.proofs.lemmas.Option.{same_Some, slice_get-map}
 use Rattle.yf_events.specs.Event.{EventInText, EventValue}
 use Rattle.yf_events.specs.Reading.{entries_of, events_of, spans_of}
 use Rattle.yf_events.specs.Tree.{DocumentTree, TreesOf}
@@ -10,14 +9,11 @@ use Rattle.yf_events.specs.declared.event.Entry.{Entry}
 use Rattle.yf_events.specs.declared.event.Span.{Span}
 use Rattle.yf_events.specs.declared.lists.Lists.{Lists}
 use Rattle.yf_guard.proofs.StepLemmas.{event_is, first_event, span_is}
+use Rattle.yf_outline.proofs.OutlineSteps.{entry_is}
 use Rattle.yf_problems.specs.FoldPass.{found_by, next, run}
 use Rattle.yf_problems.specs.Folds.{document_parts}
 use Rattle.yf_problems.proofs.FoldRuns.{run_stream}
 use Rattle.yf_server.specs.declared.analysis.Foldable.{Foldable}
-
-entry_is : (r : Lists) (i : ℕ) (e : EventInText) (n : Option Entry) → slice_get (entries_of r) i ≡ Some n → slice_get r.events i ≡ Some e → e.entry ≡ n
-entry_is r i e n h g =
-    same_Some _ _ (sym (slice_get-map (λ (x : EventInText). x.entry) r.events i ∙ ap (option_map (λ (x : EventInText). x.entry)) g) ∙ h)
 
 pub pass_step : (t : List ℕ) (r : Lists) (i : ℕ) (x : EventInText) (v : EventValue) (s : Option Span) (n : Option Entry)
     → slice_get r.events i ≡ Some x → slice_get (events_of r) i ≡ Some v → slice_get (spans_of r) i ≡ Some s

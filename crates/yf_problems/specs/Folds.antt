@@ -1,6 +1,6 @@
 -- The parts of a text that may be folded: its collections, except block collections that are the root of a document;
 -- its scalars that are not plain; and its comment lines.
-use Rattle.std.specs.Prelude.{◌≡◌, ◌⊎◌, ◌<◌, ◌==◌, ◌||◌, ◌&&◌, ℕ, zero, suc, ◌-◌, Bool, true, false, not, if◌then◌else◌, List, [], ◌∷◌, ◌++◌, flat_map, length, slice_index, Option, Some, None}
+use Rattle.std.specs.Prelude.{◌≡◌, ◌⊎◌, ◌<◌, ◌==◌, ◌||◌, ◌&&◌, ℕ, ◌-◌, Bool, true, false, not, if◌then◌else◌, List, [], ◌∷◌, ◌++◌, flat_map, length, slice_index, Option, Some, None}
 use Rattle.yf_comments.specs.Comment.{CommentValue}
 use Rattle.yf_events.specs.Tree.{Node, scalar, alias, sequence, mapping, Items, no_items, item, Pairs, no_pairs, pair, DocumentTree, TreesOf, standing}
 use Rattle.yf_events.specs.declared.event.Entry.{Entry}
@@ -10,21 +10,10 @@ use Rattle.yf_events.specs.declared.event.Span.{Span}
 use Rattle.yf_events.specs.declared.lists.Lists.{Lists}
 use Rattle.yf_lines.specs.declared.fault.Fault.{Fault}
 use Rattle.yf_lines.specs.declared.fault.Fault.TheVariants.{Memory}
+use Rattle.yf_outline.specs.WhiteSpace.{is_break, last_content, white_start}
 use Rattle.yf_rules.specs.declared.run.TheConstants.{INPUT_LIMIT}
 use Rattle.yf_server.specs.declared.analysis.Foldable.{Foldable}
 use Rattle.yf_stream.specs.StreamReader.{StreamFault, TheReading}
-
-abbrev pub is_white : ℕ → Bool
-is_white c = c == 32 || c == 9
-
-abbrev pub is_break : ℕ → Bool
-is_break c = c == 10 || c == 13
-
--- the offset of the last byte before an offset that is neither white space nor a part of a line break
-abbrev pub last_content : List ℕ → ℕ → ℕ
-last_content t zero = 0
-last_content t (suc i) =
-    if is_white (slice_index t i) || is_break (slice_index t i) then last_content t i else i
 
 -- the start of a node's entry: a node may begin an entry; otherwise it is a value in the entry of its key, which is the
 -- last entry before it
@@ -94,11 +83,6 @@ root_parts t (mapping at flow props pairs) =
 abbrev pub document_parts : List ℕ → DocumentTree → List Foldable
 document_parts t d = root_parts t d.root
 
--- the start of the white space before an offset
-abbrev pub white_start : List ℕ → ℕ → ℕ
-white_start t zero = 0
-white_start t (suc i) = if is_white (slice_index t i) then white_start t i else suc i
-
 -- a line begins at the offset
 abbrev pub begins_line : List ℕ → ℕ → Bool
 begins_line t i = i == 0 || is_break (slice_index t (i - 1))
@@ -155,7 +139,11 @@ pub record IsRefusedText (text : List ℕ) : Type 0 where
   pub refused : StreamFault text why
   pub cause : is_memory why ≡ false
 
--- The parts of a text that may be folded. A text that is refused, or too long to be read, has none.
-abbrev pub FindsParts : List ℕ → List Foldable → Type 0
-FindsParts text parts =
-    ((INPUT_LIMIT < length text) × (parts ≡ [])) ⊎ (IsRefusedText text × (parts ≡ [])) ⊎ HasParts text parts
+-- The text is not read: it is too long, or refused.
+abbrev pub IsUnread : List ℕ → Type 0
+IsUnread text = (INPUT_LIMIT < length text) ⊎ IsRefusedText text
+
+-- the parts of a text that may be folded, or none if the text is not read
+abbrev pub FindsParts : List ℕ → Option (List Foldable) → Type 0
+FindsParts text None = IsUnread text
+FindsParts text (Some parts) = HasParts text parts

@@ -4,3 +4,5 @@ pub mod Problems
 pub mod Folds
 -- the steps of the pass that finds them
 pub mod FoldPass
+-- the outline of a text
+pub mod Outlines

@@ -1,5 +1,6 @@
 -- The problems of a text that the editor server publishes.
 use Rattle.std.specs.Prelude.{◌≡◌, ◌≢◌, ◌⊎◌, ◌<◌, ℕ, List, [], ◌∷◌, ◌++◌, length, map, Option, None, Some, codes}
+use Rattle.std.specs.Str.{IsCharBoundary}
 use Rattle.yf_events.specs.declared.lists.Lists.{Lists}
 use Rattle.yf_forms.specs.declared.style.Style.{Style}
 use Rattle.yf_lines.specs.FaultPlaces.{IsPlaceOf}
@@ -8,6 +9,7 @@ use Rattle.yf_lines.specs.declared.fault.Fault.{Fault}
 use Rattle.yf_lines.specs.declared.fault.Fault.TheVariants.{NotUtf8, Syntax, TooDeep, UnknownHandle, UnknownAlias, RepeatedDirective, BadVersion, EscapeValue, Memory, ReadFailed, WriteFailed, Config}
 use Rattle.yf_lines.specs.declared.place.Position.{Position}
 use Rattle.yf_ranges.specs.Details.{RuleDetails}
+use Rattle.yf_ranges.specs.Known.{IsRuleDetail}
 use Rattle.yf_ranges.specs.Spans.{CharacterSpan}
 use Rattle.yf_ranges.specs.Words.{message_words}
 use Rattle.yf_ranges.specs.declared.detail.Detail.{Detail}
@@ -32,12 +34,27 @@ problem_named id detail = record {
 abbrev pub problem_by : StyleRule → Detail → Found
 problem_by rule detail = problem_named (definition_of rule).id detail
 
+-- The detail that is shown for a detail of a rule: the one with values from the reading, if there is one at its offset,
+-- and otherwise the detail itself.
+pub data ShownFor (rule : StyleRule) (src : Table) (reading : Lists) (style : Style) (d s : Detail) : Type 0 where
+  with_values : IsRuleDetail rule src reading style d.span.start (Some s) → ShownFor rule src reading style d s
+  without_values : IsRuleDetail rule src reading style d.span.start None → s ≡ d → ShownFor rule src reading style d s
+  no_position : (IsCharBoundary src.text d.span.start → ⊥) → s ≡ d → ShownFor rule src reading style d s
+
+-- those of several details, in order
+pub data AreShown (rule : StyleRule) (src : Table) (reading : Lists) (style : Style) : List Detail → List Detail → Type 0
+  where
+    none_shown : AreShown rule src reading style [] []
+    one_shown : {ds ss : List Detail} {d s : Detail} → AreShown rule src reading style ds ss
+        → ShownFor rule src reading style d s → AreShown rule src reading style (ds ++ d ∷ []) (ss ++ s ∷ [])
+
 -- The problems that rules find, rule by rule.
 pub data FoundBy (src : Table) (reading : Lists) (style : Style) : List StyleRule → List Found → Type 0 where
   no_rule : FoundBy src reading style [] []
-  one_rule : {rules : List StyleRule} {found : List Found} (rule : StyleRule) (details : List Detail)
+  one_rule : {rules : List StyleRule} {found : List Found} (rule : StyleRule) (details shown : List Detail)
       → FoundBy src reading style rules found → RuleDetails rule src reading style details
-      → FoundBy src reading style (rules ++ rule ∷ []) (found ++ map (problem_by rule) details)
+      → AreShown rule src reading style details shown
+      → FoundBy src reading style (rules ++ rule ∷ []) (found ++ map (problem_by rule) shown)
 
 -- the position of a refusal in its text
 abbrev pub refused_at : Fault → Option Position

@@ -3,9 +3,9 @@ ghost use Rattle.std.specs.Prelude.{◌≡◌, ◌++◌, None, Some, IfOk, map, 
 ghost use Rattle.yf_comments.specs.Comment.{comment_value};
 ghost use Rattle.yf_problems.specs.Folds as Folds;
 
-use crate::white_space::{byte_at, is_break, white_start};
 use std::alloc::AllocError;
 use yf_comments::comment::Comment;
+use yf_outline::white_space::{byte_at, is_break, white_start};
 use yf_server::analysis::Foldable;
 
 // Returns whether a line begins at an offset.

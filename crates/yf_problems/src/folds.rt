@@ -1,18 +1,18 @@
 //! The parts of a text that an editor may fold.
-ghost use Rattle.std.specs.Prelude.{◌≡◌, ◌++◌, ◌∷◌, List, None, IfOk, flat_map, reverse};
+ghost use Rattle.std.specs.Prelude.{◌≡◌, ◌++◌, ◌∷◌, List, None, IfOk, flat_map, option_map, reverse};
 ghost use Rattle.yf_events.specs.Event.{event_value};
 ghost use Rattle.yf_events.specs.Tree.{DocumentTree, TreesOf};
 ghost use Rattle.yf_problems.specs.FoldPass as FoldPass;
 ghost use Rattle.yf_problems.specs.Folds as Folds;
-ghost use Rattle.yf_problems.specs.Folds.{FindsParts};
+ghost use Rattle.yf_problems.specs.Folds.{FindsParts, IsRefusedText};
 ghost use Rattle.yf_stream.specs.StreamReader.{StreamFault, TheReading};
 
 use crate::comment_rows::push_comments;
-use crate::white_space::last_content;
 use std::alloc::{AllocError, Global};
 use yf_events::event::{Entry, Event, ScalarStyle, Span};
 use yf_events::reading::Reading;
 use yf_lines::fault::Fault;
+use yf_outline::white_space::last_content;
 use yf_rules::run::INPUT_LIMIT;
 use yf_server::analysis::Foldable;
 use yf_stream::stream::read_stream;
@@ -216,41 +216,48 @@ fn is_memory(fault: &Fault) -> bool
     matches!(fault, Fault::Memory)
 }
 
-// Returns no parts, since the text is refused, unless memory was refused.
-fn no_parts(alloc: Global, text: &str, fault: &Fault) -> Result<Vec<Foldable>, AllocError>
+/// Returns an error if memory was refused. Otherwise the text is refused.
+pub(crate) fn unless_memory(text: &str, fault: &Fault) -> Result<(), AllocError>
     requires { StreamFault text.now fault.now }
-    ensures { IfOk result (λ parts. FindsParts text.now parts.items) }
+    ensures { IfOk result (λ _. IsRefusedText text.now) }
 {
     if is_memory(fault) {
         return Err(AllocError);
     }
-    Ok(Vec::new(alloc))
+    Ok(())
 }
 
 // Returns the parts of a text with a reading.
-fn parts_in(alloc: Global, text: &str, reading: &Reading) -> Result<Vec<Foldable>, AllocError>
+fn parts_in(
+    alloc: Global,
+    text: &str,
+    reading: &Reading,
+) -> Result<Option<Vec<Foldable>>, AllocError>
     requires { TheReading text.now reading.now }
-    ensures { IfOk result (λ parts. FindsParts text.now parts.items) }
+    ensures { IfOk result (λ parts. FindsParts text.now (option_map (λ v. v.items) parts)) }
 {
     let mut parts = node_parts(alloc, text, reading)?;
     push_comments(&mut parts, text, reading.comments())?;
-    Ok(parts)
+    Ok(Some(parts))
 }
 
 /// Returns the parts of a text that may be folded: its collections, except block collections that are the root of a
-/// document; its scalars that are not plain; and its comment lines. A text that is refused has none.
+/// document; its scalars that are not plain; and its comment lines. `None` if the text is refused.
 ///
 /// # Errors
 ///
 /// `AllocError` if memory is refused.
-pub fn foldable_parts(alloc: Global, text: &str) -> Result<Vec<Foldable>, AllocError>
-    ensures { IfOk result (λ parts. FindsParts text.now parts.items) }
+pub fn foldable_parts(alloc: Global, text: &str) -> Result<Option<Vec<Foldable>>, AllocError>
+    ensures { IfOk result (λ parts. FindsParts text.now (option_map (λ v. v.items) parts)) }
 {
     if text.len() > INPUT_LIMIT {
-        return Ok(Vec::new(alloc));
+        return Ok(None);
     }
     match read_stream(alloc, text) {
         Ok(reading) => parts_in(alloc, text, &reading),
-        Err(fault) => no_parts(alloc, text, &fault),
+        Err(fault) => {
+            unless_memory(text, &fault)?;
+            Ok(None)
+        }
     }
 }

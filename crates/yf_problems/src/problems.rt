@@ -2,6 +2,7 @@
 ghost use Rattle.std.specs.Prelude.{◌≡◌, ◌++◌, ◌∷◌, [], ℕ, List, IfOk, IfSome, OnOk, map, string_bytes};
 ghost use Rattle.std.specs.Str.{IsCharBoundary};
 ghost use Rattle.yf_lines.specs.FaultPlaces.{IsPlaceOf};
+ghost use Rattle.yf_ranges.specs.Known.{AreKnown};
 ghost use Rattle.yf_ranges.specs.Words.{message_words};
 ghost use Rattle.yf_rule_sets.specs.declared.rules.StyleRule.{StyleRule as ARule};
 ghost use Rattle.yf_rules.specs.AllRules.{all_rules};
@@ -10,6 +11,7 @@ ghost use Rattle.yf_stream.specs.StreamReader.{StreamFault};
 ghost use Rattle.yf_problems.specs.Problems.{FindsProblems, FoundBy, IsRefused, RefusalFound, problem_named};
 ghost use Rattle.yf_problems.specs.Problems.{refusal_name, refusal_words, refused_at};
 
+use crate::values::with_values;
 use std::alloc::{AllocError, Global};
 use yf_chars::text::peek;
 use yf_events::reading::Reading;
@@ -21,6 +23,7 @@ use yf_lines::table::skip_marks;
 use yf_ranges::by_rule::details_by;
 use yf_ranges::detail::{Detail, Message};
 use yf_ranges::ends::character_end;
+use yf_ranges::known::KnownDetails;
 use yf_ranges::words::write_message;
 use yf_rule_sets::rules::StyleRule;
 use yf_rules::rule::Rule;
@@ -100,13 +103,16 @@ fn add_rule(
     src: &Src,
     reading: &Reading,
     style: &Style,
+    known: &KnownDetails,
 ) -> Result<(), AllocError>
+    requires { AreKnown src.now reading.now style.now known.now }
     ensures { (rules : List ARule) → OnOk result (FoundBy src.now reading.now style.now rules
         (map problem_read problems.old.items) → FoundBy src.now reading.now style.now (rules ++ rule.now ∷ [])
         (map problem_read problems.new.items)) }
 {
     let details = details_by(*rule, alloc, src, reading, style)?;
-    add_all(alloc, problems, rule.id(), details.as_slice())
+    let shown = with_values(alloc, *rule, src, known, details.as_slice())?;
+    add_all(alloc, problems, rule.id(), shown.as_slice())
 }
 
 // Returns the problems that rules find.
@@ -116,13 +122,15 @@ fn found_by_rules(
     src: &Src,
     reading: &Reading,
     style: &Style,
+    known: &KnownDetails,
 ) -> Result<Vec<Problem>, AllocError>
+    requires { AreKnown src.now reading.now style.now known.now }
     ensures { IfOk result (λ problems. FoundBy src.now reading.now style.now rules.now
         (map problem_read problems.items)) }
 {
     let mut problems = Vec::new(alloc);
     for rule in rules {
-        add_rule(alloc, &mut problems, rule, src, reading, style)?;
+        add_rule(alloc, &mut problems, rule, src, reading, style, known)?;
     }
     Ok(problems)
 }
@@ -137,7 +145,8 @@ fn found_by_all(
     ensures { IfOk result (λ problems. FoundBy src.now reading.now style.now all_rules
         (map problem_read problems.items)) }
 {
-    found_by_rules(alloc, &RULES, src, reading, style)
+    let known = KnownDetails::new(alloc, src, reading, style)?;
+    found_by_rules(alloc, &RULES, src, reading, style, &known)
 }
 
 // Returns the position of a refusal.

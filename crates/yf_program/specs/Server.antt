@@ -18,6 +18,7 @@ use Rattle.yf_server_loop.specs.declared.ended.Ended.{Ended}
 use Rattle.yf_server_loop.specs.declared.ended.Ended.TheVariants as ended
 use Rattle.yf_stream.specs.StreamReader.{StreamFault}
 use Rattle.yf_problems.specs.Folds.{FindsParts}
+use Rattle.yf_problems.specs.Outlines.{FindsOutline}
 use Rattle.yf_problems.specs.Problems.{FindsProblems}
 use Rattle.yf_host.specs.Report.{fault_line, fault_status}
 use Rattle.yf_host.specs.World.{OutputStreams}
@@ -55,6 +56,7 @@ text_claim style = record {
   FormatsLines = FormatsLines style;
   Finds = FindsInText style;
   Folds = FindsParts;
+  Outlines = FindsOutline;
 }
 
 -- The fault is that memory was refused.

@@ -17,10 +17,11 @@ use yf_lines::output::write_text;
 use yf_lines::watched::{Sink, Source};
 use yf_parts::run::with_lines_formatted;
 use yf_problems::folds::foldable_parts;
+use yf_problems::outlines::outline_parts;
 use yf_problems::problems::problems_in;
 use yf_rules::format::format;
 use yf_rules::run::INPUT_LIMIT;
-use yf_server::analysis::{Analysis, Foldable, Problem};
+use yf_server::analysis::{Analysis, Foldable, Part, Problem};
 use yf_server_loop::ended::Ended;
 use yf_server_loop::serve::serve;
 
@@ -151,8 +152,12 @@ impl Analysis for StyleAnalysis<'_> {
         found_in(alloc, text, self.style)
     }
 
-    fn foldable(&self, alloc: Global, text: &str) -> Result<Vec<Foldable>, AllocError> {
+    fn foldable(&self, alloc: Global, text: &str) -> Result<Option<Vec<Foldable>>, AllocError> {
         foldable_parts(alloc, text)
+    }
+
+    fn outline(&self, alloc: Global, text: &str) -> Result<Option<Vec<Part>>, AllocError> {
+        outline_parts(alloc, text)
     }
 }
 

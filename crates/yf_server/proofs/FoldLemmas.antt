@@ -1,5 +1,5 @@
 -- The folds of a text, by a table of its lines.
-use Rattle.std.proofs.Common.{◌≡◌, ◌∙◌, ℕ, zero, suc, ◌+◌, ◌<◌, ◌≤◌, add-one, Bool, List, [], ◌∷◌, ◌++◌, ⊎_elim, length, map, take, drop, get_or, set, ap, sym, subst, refl, arith, Result, IfOk}
+use Rattle.std.proofs.Common.{◌≡◌, ◌∙◌, ℕ, zero, suc, ◌+◌, ◌<◌, ◌≤◌, add-one, Bool, List, [], ◌∷◌, ◌++◌, ⊎_elim, length, map, take, drop, get_or, set, ap, sym, refl, arith, Result, IfOk}
 use Rattle.std.specs.Prelude.{flat_map, if◌then◌else◌}
 use Rattle.std.proofs.Math.ListN.{get_or-append}
 use Rattle.std.proofs.Math.Seq.{drop-cons, take-suc}
@@ -14,8 +14,7 @@ use Rattle.serde_json.specs.View.{view}
 use Rattle.yf_positions.specs.Lines.{line_count}
 use Rattle.yf_server.specs.declared.analysis.Foldable.{Foldable}
 use Rattle.yf_server.specs.declared.folds.LineFold.{LineFold}
-use Rattle.yf_server.specs.Analysis.{TextClaim}
-use Rattle.yf_server.specs.Folds.{AreFoldsOf, fold_data, fold_if, folds_below, folds_data, lines_of, longer, longest_on, one_line, one_lines}
+use Rattle.yf_server.specs.Folds.{fold_data, fold_if, folds_below, folds_data, folds_of, lines_of, longer, longest_on, one_line, one_lines}
 
 -- a table of one line for each line
 pub one_lines_count : (c : ℕ) → length (one_lines c) ≡ c
@@ -111,20 +110,14 @@ pub longest_done : (text : List ℕ) (parts : List Foldable) (table : List LineF
 longest_done text parts table k n past inv =
     sym (ap (λ xs. longest_on n (get_or table n (one_line n)) (map (lines_of text) xs)) (drop_all k parts past)) ∙ inv
 
--- the folds of a text, by its table
-pub folds_made : (claim : TextClaim) (text of : List ℕ) (parts given : List Foldable) (table rows : List LineFold)
-    (r : Result Value AllocError) → of ≡ text → claim.Folds of parts → given ≡ parts → rows ≡ table
-    → length table ≡ line_count text
-    → ((n : ℕ) → n < line_count text → get_or table n (one_line n) ≡ longest_on n (one_line n) (map (lines_of text) given))
-    → IfOk r (λ value. view value ≡ folds_data (flat_map fold_if rows)) → IfOk r (λ value. AreFoldsOf claim text (view value))
-folds_made claim text of parts given table rows r same found are is count longest h =
-    IfOk-weaker r _ _ (λ value made. record {
-      parts = parts;
-      folds = subst (λ (t : List ℕ). claim.Folds t parts) same found;
-      is = made ∙ ap (λ t. folds_data (flat_map fold_if t)) is
-          ∙ ap folds_data (table_folds (map (lines_of text) given) table (line_count text) count longest)
-          ∙ ap (λ ps. folds_data (folds_below (map (lines_of text) ps) (line_count text))) are;
-    }) h
+-- the folds that parts give, by the table
+pub folds_made : (text : List ℕ) (parts : List Foldable) (table rows : List LineFold) (r : Result Value AllocError)
+    → rows ≡ table → length table ≡ line_count text
+    → ((n : ℕ) → n < line_count text → get_or table n (one_line n) ≡ longest_on n (one_line n) (map (lines_of text) parts))
+    → IfOk r (λ value. view value ≡ folds_data (flat_map fold_if rows)) → IfOk r (λ value. view value ≡ folds_data (folds_of text parts))
+folds_made text parts table rows r is count longest h =
+    IfOk-weaker r _ _ (λ value made. made ∙ ap (λ t. folds_data (flat_map fold_if t)) is
+    ∙ ap folds_data (table_folds (map (lines_of text) parts) table (line_count text) count longest)) h
 
 -- one more fold as JSON
 pub folds_pushed : (table : List LineFold) (k : ℕ) (d : LineFold) (values : List Data) → k < length table

@@ -12,3 +12,5 @@ pub mod StepLemmas
 pub mod RespondLemmas
 -- the folds of a text, by a table of its lines
 pub mod FoldLemmas
+-- the selection ranges of positions
+pub mod SelectionLemmas

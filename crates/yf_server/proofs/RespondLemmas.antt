@@ -9,14 +9,13 @@ use Rattle.yf_positions.specs.declared.encoding.Encoding.{Encoding}
 use Rattle.yf_server.specs.declared.documents.OpenDocument.{OpenDocument}
 use Rattle.yf_server.specs.Analysis.{TextClaim}
 use Rattle.yf_server.specs.Documents.{OpenText, find, text_of}
-use Rattle.yf_server.specs.declared.query.Query.{Query}
 use Rattle.yf_server.specs.Edits.{FailsWith, named_uri}
-use Rattle.yf_server.specs.Queries.{query_of}
+use Rattle.yf_server.specs.Queries.{Asked, query_of}
 use Rattle.yf_server.specs.Responses.{AnswersFor, AnswersQuery, AnswersRequest, AnswersText, AnswersUri}
 use Rattle.yf_server.specs.Steps.{response_ids}
 
 -- the answer for an open document
-pub answers_open : (claim : TextClaim) (e : Encoding) (id : Data) (query : Query) (uri : List ℕ) (was : Option OpenText)
+pub answers_open : (claim : TextClaim) (e : Encoding) (id : Data) (query : Asked) (uri : List ℕ) (was : Option OpenText)
     (x : OpenDocument) (r : Result Value AllocError) → was ≡ Some (text_of x)
     → IfOk r (λ answer. AnswersText claim e id query uri x.document (Some (view answer)))
     → IfOk r (λ answer. AnswersFor claim e id query uri was (Some (view answer)))
@@ -27,24 +26,24 @@ failed_once : (id : Data) (code : ErrorCode) (sent : Option Data) → FailsWith 
     → response_ids (option_to_list sent) ≡ id ∷ []
 failed_once id code sent h = rw h.is refl
 
-text_once : (claim : TextClaim) (e : Encoding) (id : Data) (query : Query) (uri : List ℕ) (text : Option (List ℕ))
+text_once : (claim : TextClaim) (e : Encoding) (id : Data) (query : Asked) (uri : List ℕ) (text : Option (List ℕ))
     (sent : Option Data) → AnswersText claim e id query uri text sent → response_ids (option_to_list sent) ≡ id ∷ []
 text_once claim e id query uri None sent h = rw h.is refl
 text_once claim e id query uri (Some text) sent h = rw h.is refl
 
-for_once : (claim : TextClaim) (e : Encoding) (id : Data) (query : Query) (uri : List ℕ) (was : Option OpenText)
+for_once : (claim : TextClaim) (e : Encoding) (id : Data) (query : Asked) (uri : List ℕ) (was : Option OpenText)
     (sent : Option Data) → AnswersFor claim e id query uri was sent → response_ids (option_to_list sent) ≡ id ∷ []
 for_once claim e id query uri None sent h = rw h.is refl
 for_once claim e id query uri (Some was) sent h = text_once claim e id query uri was.text sent h
 
-uri_once : (claim : TextClaim) (e : Encoding) (documents : List OpenDocument) (id : Data) (query : Query)
+uri_once : (claim : TextClaim) (e : Encoding) (documents : List OpenDocument) (id : Data) (query : Asked)
     (uri : Option (List ℕ)) (sent : Option Data) → AnswersUri claim e documents id query uri sent
     → response_ids (option_to_list sent) ≡ id ∷ []
 uri_once claim e documents id query None sent h = rw h.is refl
 uri_once claim e documents id query (Some uri) sent h = for_once claim e id query uri (find uri documents) sent h
 
 query_once : (claim : TextClaim) (e : Encoding) (documents : List OpenDocument) (id : Data) (uri : Option (List ℕ))
-    (query : Result Query ErrorCode) (sent : Option Data) → AnswersQuery claim e documents id uri query sent
+    (query : Result Asked ErrorCode) (sent : Option Data) → AnswersQuery claim e documents id uri query sent
     → response_ids (option_to_list sent) ≡ id ∷ []
 query_once claim e documents id uri (Err code) sent h = failed_once id code sent h
 query_once claim e documents id uri (Ok query) sent h = uri_once claim e documents id query uri sent h

@@ -1,6 +1,9 @@
 -- The claims of a server about texts.
 use Rattle.std.specs.Prelude.{ℕ, List, Option, string_bytes}
 use Rattle.yf_server.specs.declared.analysis.Foldable.{Foldable}
+use Rattle.yf_server.specs.declared.analysis.Part.{Part}
+use Rattle.yf_server.specs.declared.analysis.PartKind.{PartKind}
+use Rattle.yf_server.specs.declared.analysis.PartKind.TheVariants.{Document, Mapping, Sequence, Scalar, Alias, Empty}
 use Rattle.yf_server.specs.declared.analysis.Problem.{Problem}
 use Rattle.yf_server.specs.declared.analysis.Severity.{Severity}
 use Rattle.yf_server.specs.declared.analysis.Severity.TheVariants.{Error, Warning, Information, Hint}
@@ -29,6 +32,15 @@ severity_number Warning = 2
 severity_number Information = 3
 severity_number Hint = 4
 
+-- `SymbolKind`: a module, an object, an array, a string, a variable, and null
+abbrev pub kind_number : PartKind → ℕ
+kind_number Document = 2
+kind_number Mapping = 19
+kind_number Sequence = 18
+kind_number Scalar = 15
+kind_number Alias = 13
+kind_number Empty = 21
+
 pub record TextClaim : Type 1 where
   -- the formatting of a text, or none if the text cannot be formatted
   pub Formats : List ℕ → Option (List ℕ) → Type 0
@@ -36,5 +48,7 @@ pub record TextClaim : Type 1 where
   pub FormatsLines : List ℕ → ℕ → ℕ → Option (List ℕ) → Type 0
   -- the problems of a text, in order
   pub Finds : List ℕ → List Found → Type 0
-  -- the parts of a text that may be folded
-  pub Folds : List ℕ → List Foldable → Type 0
+  -- the parts of a text that may be folded, or none if the text is not read
+  pub Folds : List ℕ → Option (List Foldable) → Type 0
+  -- the parts of a text, each one before the parts in it, or none if the text is not read
+  pub Outlines : List ℕ → Option (List Part) → Type 0

@@ -1,6 +1,6 @@
 -- Folds as JSON (`FoldingRange` of the Language Server Protocol 3.17), which `textDocument/foldingRange` returns.
-use Rattle.std.specs.Prelude.{◌≡◌, ℕ, zero, suc, ◌==◌, nat_lt, false, List, [], ◌∷◌, ◌++◌, map, codes, if◌then◌else◌}
-use Rattle.serde_json.specs.Data.{Data, number, string, array, object, no_members, member, unsigned}
+use Rattle.std.specs.Prelude.{◌≡◌, ℕ, zero, suc, ◌==◌, nat_lt, false, List, [], ◌∷◌, ◌++◌, map, codes, Option, None, Some, if◌then◌else◌}
+use Rattle.serde_json.specs.Data.{Data, null, number, string, array, object, no_members, member, unsigned}
 use Rattle.serde_json.specs.View.{items_of}
 use Rattle.yf_positions.specs.Lines.{line_count, line_of}
 use Rattle.yf_server.specs.declared.analysis.Foldable.{Foldable}
@@ -59,8 +59,13 @@ fold_data f = if f.is_comment then comment_fold f else node_fold f
 abbrev pub folds_data : List LineFold → Data
 folds_data folds = array (items_of (map fold_data folds))
 
+-- null if the text is not read: then a client keeps the folds that it has
+abbrev pub folds_if : List ℕ → Option (List Foldable) → Data
+folds_if text None = null
+folds_if text (Some parts) = folds_data (folds_of text parts)
+
 -- the result of `textDocument/foldingRange` for a text
 pub record AreFoldsOf (claim : TextClaim) (text : List ℕ) (value : Data) : Type 0 where
-  pub parts : List Foldable
+  pub parts : Option (List Foldable)
   pub folds : claim.Folds text parts
-  pub is : value ≡ folds_data (folds_of text parts)
+  pub is : value ≡ folds_if text parts

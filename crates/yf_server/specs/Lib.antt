@@ -10,6 +10,8 @@ pub mod Queries
 pub mod Actions
 pub mod Diagnostics
 pub mod Folds
+pub mod Symbols
+pub mod Selections
 pub mod Responses
 pub mod Publish
 pub mod Losses

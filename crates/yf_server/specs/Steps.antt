@@ -145,9 +145,11 @@ capabilities e = object (member (codes "codeActionProvider") action_options
     (member (codes "diagnosticProvider") diagnostic_options
     (member (codes "documentFormattingProvider") (boolean true)
     (member (codes "documentRangeFormattingProvider") (boolean true)
+    (member (codes "documentSymbolProvider") (boolean true)
     (member (codes "foldingRangeProvider") (boolean true)
     (member (codes "positionEncoding") (string (name_of e))
-    (member (codes "textDocumentSync") sync_options no_members)))))))
+    (member (codes "selectionRangeProvider") (boolean true)
+    (member (codes "textDocumentSync") sync_options no_members)))))))))
 
 -- `InitializeResult`
 abbrev pub initialize_result : Encoding → Data

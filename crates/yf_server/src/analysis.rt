@@ -1,6 +1,6 @@
 //! The questions of a server about the text of a document.
 ghost use Rattle.std.specs.Prelude.{◌≡◌, IfOk, map, option_map, string_bytes};
-ghost use Rattle.yf_server.specs.Analysis.{TextClaim, problem_read, severity_number};
+ghost use Rattle.yf_server.specs.Analysis.{TextClaim, kind_number, problem_read, severity_number};
 
 use std::alloc::{AllocError, Global};
 
@@ -52,6 +52,54 @@ pub struct Foldable {
     pub is_comment: bool,
 }
 
+/// A span of a text, by byte offsets.
+#[derive(Clone, Copy)]
+pub struct TextSpan {
+    pub start: usize,
+    pub end: usize,
+}
+
+/// What a part of a text is: the root of a document, or an entry of a collection, by its value or its item.
+#[derive(Clone, Copy)]
+pub enum PartKind {
+    Document,
+    Mapping,
+    Sequence,
+    Scalar,
+    Alias,
+    Empty,
+}
+
+impl PartKind {
+    /// Returns the number that the protocol gives a symbol of that kind (`SymbolKind`): a module, an object, an array,
+    /// a string, a variable or null.
+    pub fn number(self) -> u64
+        ensures { result ≡ kind_number self }
+    {
+        match self {
+            PartKind::Document => 2,
+            PartKind::Mapping => 19,
+            PartKind::Sequence => 18,
+            PartKind::Scalar => 15,
+            PartKind::Alias => 13,
+            PartKind::Empty => 21,
+        }
+    }
+}
+
+/// A part of a text: an entry of a collection, or the root of a document.
+#[derive(Clone, Copy)]
+pub struct Part {
+    /// How many parts it is in.
+    pub depth: usize,
+    pub kind: PartKind,
+    pub whole: TextSpan,
+    /// The part of it that names it, for example a key.
+    pub name: TextSpan,
+    /// Its value, or its item.
+    pub node: TextSpan,
+}
+
 /// An analysis of texts: their formattings, their problems, and their parts.
 pub trait Analysis {
     /// The claim about texts.
@@ -89,11 +137,19 @@ pub trait Analysis {
     fn problems(&self, alloc: Global, text: &str) -> Result<Vec<Problem>, AllocError>
         ensures { IfOk result (λ problems. (claim self.now).Finds text.now (map problem_read problems.items)) };
 
-    /// Returns the parts of a text that may be folded.
+    /// Returns the parts of a text that may be folded, or `None` if the text is not read.
     ///
     /// # Errors
     ///
     /// `AllocError` if memory is refused.
-    fn foldable(&self, alloc: Global, text: &str) -> Result<Vec<Foldable>, AllocError>
-        ensures { IfOk result (λ parts. (claim self.now).Folds text.now parts.items) };
+    fn foldable(&self, alloc: Global, text: &str) -> Result<Option<Vec<Foldable>>, AllocError>
+        ensures { IfOk result (λ parts. (claim self.now).Folds text.now (option_map (λ v. v.items) parts)) };
+
+    /// Returns the parts of a text, each one before the parts in it, or `None` if the text is not read.
+    ///
+    /// # Errors
+    ///
+    /// `AllocError` if memory is refused.
+    fn outline(&self, alloc: Global, text: &str) -> Result<Option<Vec<Part>>, AllocError>
+        ensures { IfOk result (λ parts. (claim self.now).Outlines text.now (option_map (λ v. v.items) parts)) };
 }

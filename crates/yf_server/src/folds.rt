@@ -2,7 +2,7 @@
 ghost use Rattle.std.specs.Prelude.{◌≡◌, ◌<◌, ◌++◌, ℕ, IfOk, OnOk, flat_map, length, map, slice_index_or, slice_set};
 ghost use Rattle.serde_json.specs.View.{view};
 ghost use Rattle.yf_positions.specs.Lines.{line_count};
-ghost use Rattle.yf_server.specs.Folds.{AreFoldsOf, fold_data, fold_if, folds_data, lines_of, longer, longest_on, one_line, one_lines};
+ghost use Rattle.yf_server.specs.Folds.{AreFoldsOf, fold_data, fold_if, folds_data, folds_of, lines_of, longer, longest_on, one_line, one_lines};
 
 use crate::analysis::{Analysis, Foldable};
 use serde_json::{Value, json};
@@ -118,8 +118,16 @@ fn folds_value(alloc: Global, table: &[LineFold]) -> Result<Value, AllocError>
     Ok(Value::Array(values))
 }
 
+/// Returns the folds that parts of a document give, as JSON.
+fn folds_by(alloc: Global, document: &Document, parts: &[Foldable]) -> Result<Value, AllocError>
+    ensures { IfOk result (λ value. view value ≡ folds_data (folds_of document.now parts.now)) }
+{
+    let table = longest_folds(alloc, document, parts)?;
+    folds_value(alloc, table.as_slice())
+}
+
 /// Returns the folds of a document as JSON: for each line the longest part that begins there, if it has at least two
-/// lines.
+/// lines. Null if the document is not read.
 ///
 /// # Errors
 ///
@@ -131,9 +139,8 @@ pub fn folds<A: Analysis>(
 ) -> Result<Value, AllocError>
     ensures { IfOk result (λ value. AreFoldsOf (A.claim analysis.now) document.now (view value)) }
 {
-    let parts = analysis.foldable(alloc, document.text())?;
-    let given = parts.as_slice();
-    let table = longest_folds(alloc, document, given)?;
-    let rows = table.as_slice();
-    folds_value(alloc, rows)
+    match analysis.foldable(alloc, document.text())? {
+        None => Ok(Value::Null),
+        Some(parts) => folds_by(alloc, document, parts.as_slice()),
+    }
 }

@@ -20,4 +20,6 @@ pub mod parameters;
 pub mod publish;
 pub mod query;
 pub mod respond;
+pub mod selections;
 pub mod step;
+pub mod symbols;

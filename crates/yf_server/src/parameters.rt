@@ -2,7 +2,7 @@
 ghost use Rattle.std.specs.Prelude.{◌≡◌, ◌∷◌, ◌++◌, [], Some, IfOk, OnOk, map, option_map};
 ghost use Rattle.serde_json.specs.View.{items_of, view};
 ghost use Rattle.yf_server.specs.Documents.{event_read};
-ghost use Rattle.yf_server.specs.Parameters.{change_of, changed, changed_document, changes_of, closed, content_changes, integer_in, opened, position_in, range_of, size_in, string_in};
+ghost use Rattle.yf_server.specs.Parameters.{change_of, changed, changed_document, changes_of, closed, content_changes, integer_in, opened, position_in, position_of, range_of, size_in, string_in};
 
 use crate::documents::{DocumentAct, DocumentEvent};
 use serde_json::Value;
@@ -43,19 +43,26 @@ fn size_in(value: &Value, key: &str) -> Option<usize>
     }
 }
 
+/// Returns the position that a value is.
+pub fn position_of(value: &Value) -> Option<LspPosition>
+    ensures { result ≡ position_of (view value.now) }
+{
+    match size_in(value, "line") {
+        None => None,
+        Some(line) => match size_in(value, "character") {
+            None => None,
+            Some(character) => Some(LspPosition { line, character }),
+        },
+    }
+}
+
 /// Returns the position of a member.
 fn position_in(value: &Value, key: &str) -> Option<LspPosition>
     ensures { result ≡ position_in key.now (view value.now) }
 {
     match value.get(key) {
         None => None,
-        Some(found) => match size_in(found, "line") {
-            None => None,
-            Some(line) => match size_in(found, "character") {
-                None => None,
-                Some(character) => Some(LspPosition { line, character }),
-            },
-        },
+        Some(found) => position_of(found),
     }
 }
 

@@ -4,7 +4,7 @@ ghost use Rattle.serde_json.specs.View.{view};
 ghost use Rattle.yf_json_rpc.specs.Messages.{reply};
 ghost use Rattle.yf_server.specs.Documents.{find};
 ghost use Rattle.yf_server.specs.Edits.{AreEditsFor, FailsWith, IsFormatting, IsLineFormatting, last_offset, named_uri};
-ghost use Rattle.yf_server.specs.Queries.{query_of};
+ghost use Rattle.yf_server.specs.Queries.{query_of, query_read};
 ghost use Rattle.yf_server.specs.Responses.{AnswersFor, AnswersRequest, AnswersText, AnswersUri, IsResult};
 
 use crate::actions::actions;
@@ -15,6 +15,8 @@ use crate::edits::edits_to;
 use crate::folds::folds;
 use crate::parameters::string_in;
 use crate::query::{Query, query_of};
+use crate::selections::selections;
+use crate::symbols::symbols;
 use serde_json::Value;
 use std::alloc::{AllocError, Global};
 use yf_json_rpc::error_code::ErrorCode;
@@ -118,12 +120,12 @@ fn formatting_lines<A: Analysis>(
 fn result_of<A: Analysis>(
     alloc: Global,
     analysis: &A,
-    query: Query,
+    query: Query<'_>,
     uri: &str,
     document: &Document,
     encoding: Encoding,
 ) -> Result<Value, AllocError>
-    ensures { IfOk result (λ value. IsResult (A.claim analysis.now) encoding query uri.now document.now (view value)) }
+    ensures { IfOk result (λ value. IsResult (A.claim analysis.now) encoding (query_read query.entry) uri.now document.now (view value)) }
 {
     match query {
         Query::Formatting => formatting(alloc, analysis, document, encoding),
@@ -133,6 +135,10 @@ fn result_of<A: Analysis>(
         }
         Query::Problems => report(alloc, analysis, document, encoding),
         Query::Folds => folds(alloc, analysis, document),
+        Query::Symbols => symbols(alloc, analysis, document, encoding),
+        Query::Selections { positions } => {
+            selections(alloc, analysis, document, positions, encoding)
+        }
     }
 }
 
@@ -149,11 +155,11 @@ fn answer_text<A: Analysis>(
     analysis: &A,
     text: &Option<Document>,
     id: &Value,
-    query: Query,
+    query: Query<'_>,
     uri: &str,
     encoding: Encoding,
 ) -> Result<Value, AllocError>
-    ensures { IfOk result (λ answer. AnswersText (A.claim analysis.now) encoding (view id.now) query uri.now
+    ensures { IfOk result (λ answer. AnswersText (A.claim analysis.now) encoding (view id.now) (query_read query.entry) uri.now
         text.now (Some (view answer))) }
 {
     match text {
@@ -171,11 +177,11 @@ fn answer_for<A: Analysis>(
     analysis: &A,
     documents: &[OpenDocument],
     id: &Value,
-    query: Query,
+    query: Query<'_>,
     uri: &str,
     encoding: Encoding,
 ) -> Result<Value, AllocError>
-    ensures { IfOk result (λ answer. AnswersFor (A.claim analysis.now) encoding (view id.now) query uri.now
+    ensures { IfOk result (λ answer. AnswersFor (A.claim analysis.now) encoding (view id.now) (query_read query.entry) uri.now
         (find uri.now documents.now) (Some (view answer))) }
 {
     match place_of(documents, uri) {
@@ -192,8 +198,8 @@ fn answer_for<A: Analysis>(
 /// `textDocument/formatting` and `textDocument/willSaveWaitUntil` get the edits that format an open document, or null
 /// if it cannot be formatted, and `textDocument/rangeFormatting` those that format some lines.
 /// `textDocument/codeAction` gets the action with the edits that format the document, `textDocument/diagnostic` its
-/// problems, and `textDocument/foldingRange` its folds. Any other method gets the error -32601, a document that is not
-/// open the error -32602, and one whose text is lost the error -32803.
+/// problems, `textDocument/foldingRange` its folds, `textDocument/documentSymbol` its symbols, and
+/// `textDocument/selectionRange` the selection ranges of positions. Any other method gets the error -32601, a document that is not open the error -32602, and one whose text is lost the error -32803.
 ///
 /// # Errors
 ///

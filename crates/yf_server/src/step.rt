@@ -105,6 +105,8 @@ fn initialize_result(alloc: Global, encoding: Encoding) -> Result<Value, AllocEr
         "documentFormattingProvider": true,
         "documentRangeFormattingProvider": true,
         "foldingRangeProvider": true,
+        "documentSymbolProvider": true,
+        "selectionRangeProvider": true,
         "codeActionProvider": {"codeActionKinds": ["source.fixAll.yamlfmt"]},
         "diagnosticProvider": {"interFileDependencies": false, "workspaceDiagnostics": false}
     }})

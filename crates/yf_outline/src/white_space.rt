@@ -1,9 +1,9 @@
 //! White space and line breaks before an offset.
 ghost use Rattle.std.specs.Prelude.{◌≡◌, slice_index};
-ghost use Rattle.yf_problems.specs.Folds as Folds;
+ghost use Rattle.yf_outline.specs.WhiteSpace as spec;
 
-// Returns the byte at an offset, and 0 after the end of the text.
-pub(crate) fn byte_at(text: &str, offset: usize) -> u8
+/// Returns the byte at an offset, and 0 after the end of the text.
+pub fn byte_at(text: &str, offset: usize) -> u8
     ensures { result ≡ slice_index text.now offset }
 {
     let bytes = text.as_bytes();
@@ -15,20 +15,21 @@ pub(crate) fn byte_at(text: &str, offset: usize) -> u8
 }
 
 fn is_white(byte: u8) -> bool
-    ensures { result ≡ Folds.is_white byte }
+    ensures { result ≡ spec.is_white byte }
 {
     byte == b' ' || byte == b'\t'
 }
 
-pub(crate) fn is_break(byte: u8) -> bool
-    ensures { result ≡ Folds.is_break byte }
+/// Returns whether a byte is a part of a line break.
+pub fn is_break(byte: u8) -> bool
+    ensures { result ≡ spec.is_break byte }
 {
     byte == b'\n' || byte == b'\r'
 }
 
-// Returns the offset of the last byte before an offset that is neither white space nor a part of a line break.
-pub(crate) fn last_content(text: &str, end: usize) -> usize
-    ensures { result ≡ Folds.last_content text.now end }
+/// Returns the offset of the last byte before an offset that is neither white space nor a part of a line break.
+pub fn last_content(text: &str, end: usize) -> usize
+    ensures { result ≡ spec.last_content text.now end }
 {
     let mut at = end;
     while at > 0 {
@@ -41,9 +42,9 @@ pub(crate) fn last_content(text: &str, end: usize) -> usize
     0
 }
 
-// Returns the start of the white space before an offset.
-pub(crate) fn white_start(text: &str, offset: usize) -> usize
-    ensures { result ≡ Folds.white_start text.now offset }
+/// Returns the start of the white space before an offset.
+pub fn white_start(text: &str, offset: usize) -> usize
+    ensures { result ≡ spec.white_start text.now offset }
 {
     let mut at = offset;
     while at > 0 {
