@@ -17,10 +17,10 @@ use Rattle.yf_server.specs.Queries.{query_of}
 
 -- what a request gets that asks for something of the document with a URI and a text
 abbrev pub IsResult : TextClaim → Encoding → Query → List ℕ → List ℕ → Data → Type 0
-IsResult claim e Formatting uri text value = IsFormatting claim e text value
-IsResult claim e (Lines range) uri text value = IsLineFormatting claim e range text value
+IsResult claim e Formatting uri text value = IsFormatting claim e uri text value
+IsResult claim e (Lines range) uri text value = IsLineFormatting claim e range uri text value
 IsResult claim e (Actions wanted) uri text value = AreActions claim e wanted uri text value
-IsResult claim e Problems uri text value = IsReport claim e text value
+IsResult claim e Problems uri text value = IsReport claim e uri text value
 IsResult claim e Folds uri text value = AreFoldsOf claim text value
 
 -- the answer for an open document, or an error if its text is lost

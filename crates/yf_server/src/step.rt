@@ -101,7 +101,7 @@ fn initialize_result(alloc: Global, encoding: Encoding) -> Result<Value, AllocEr
     let name = name_of(encoding);
     json!(in alloc; {"capabilities": {
         "positionEncoding": name,
-        "textDocumentSync": {"openClose": true, "change": 2},
+        "textDocumentSync": {"openClose": true, "change": 2, "willSaveWaitUntil": true},
         "documentFormattingProvider": true,
         "documentRangeFormattingProvider": true,
         "foldingRangeProvider": true,
