@@ -1,11 +1,13 @@
 -- The progress of the search for a settings file.
 use Rattle.std.proofs.Common.{◌≡◌, ◌⊎◌, ℕ, suc, ◌+◌, ◌<◌, ◌≤◌, List, ◌++◌, inl, inr, refl, sym, subst, ◌∙◌, add-one, arith}
 use Rattle.std.proofs.lemmas.Bool.{cases_lt}
-use Rattle.std.specs.Prelude.{codes}
+use Rattle.std.specs.Borrow.{Bor}
+use Rattle.std.specs.Path.{rsplit_once, slash}
+use Rattle.std.specs.Prelude.{codes, Option, None, Some, option_map}
 use Rattle.yf_discovery.specs.declared.folders.There.{There}
 use Rattle.yf_discovery.specs.declared.nearest.Discovery.{Discovery}
 use Rattle.yf_discovery.specs.declared.nearest.Discovery.TheVariants as discovery
-use Rattle.yf_discovery.specs.Nearest.{Looks, Passes, EndsIn, PassesFirst, IsNearest, folder}
+use Rattle.yf_discovery.specs.Nearest.{Looks, Passes, EndsIn, PassesFirst, IsNearest, folder, folder_path}
 use Rattle.yf_discovery.specs.Nearest.IsNearest.{ends, passes_all}
 
 -- the kind of thing with a name, by the text of the name
@@ -46,3 +48,9 @@ pub passes_last : (Shows : Looks) (above k : ℕ) (said at : List ℕ) → said 
     → PassesFirst Shows k → Passes Shows said → IsNearest Shows above discovery.Nothing
 passes_last Shows above k said at is here most first p = passes_all (λ j below.
     passes_more Shows k said at is here first p j (omega (arith, most, below))) refl
+
+-- the part of a path before its last slash, by the split there
+pub front_split : (path : List ℕ) (r : Option (Bor (List ℕ) × Bor (List ℕ)))
+    → option_map (λ x. (x.0.now, x.1.now)) r ≡ rsplit_once slash path → option_map (λ x. x.0.now) r ≡ folder_path path
+front_split path None is = ap (option_map (λ split. split.0)) is
+front_split path (Some x) is = ap (option_map (λ split. split.0)) is

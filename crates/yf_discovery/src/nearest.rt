@@ -1,6 +1,7 @@
-//! The nearest settings file.
-ghost use Rattle.std.specs.Prelude.{◌≡◌, ◌++◌, IfOk, MatchOption};
-ghost use Rattle.yf_discovery.specs.Nearest.{EndsIn, IsNearest, Passes};
+//! The nearest settings file, above the current folder or above a file.
+ghost use Rattle.std.specs.Prelude.{◌≡◌, ◌<◌, ◌++◌, length, IfOk, IfSome, MatchOption};
+ghost use Rattle.std.specs.Option.{option_map};
+ghost use Rattle.yf_discovery.specs.Nearest.{EndsIn, IsNearest, IsNearestTo, Passes, folder_path};
 
 use crate::folders::{Folders, There};
 use std::alloc::{AllocError, Global};
@@ -52,6 +53,47 @@ pub fn nearest_settings<F: Folders>(
     match look_in(alloc, folders, folder.as_str())? {
         Some(discovery) => Ok(discovery),
         None => Ok(Discovery::Nothing),
+    }
+}
+
+/// Finds the nearest settings file in the folder of a file or above it, by the path of the file. The names of the result
+/// begin like the path.
+///
+/// No link is followed: the folder above `a/b` is `a`. The rest is as for `nearest_settings`.
+///
+/// # Errors
+///
+/// `AllocError` if memory is refused.
+pub fn nearest_to<F: Folders>(
+    alloc: Global,
+    folders: &F,
+    path: &str,
+) -> Result<Discovery, AllocError>
+    ensures { IfOk result (IsNearestTo (F.shows folders.now) path.now) }
+{
+    let mut rest = path;
+    'folders: loop {
+        match before_slash(rest) {
+            None => return Ok(Discovery::Nothing),
+            Some(front) => {
+                let folder = name_in(alloc, front, "/")?;
+                match look_in(alloc, folders, folder.as_str())? {
+                    Some(discovery) => return Ok(discovery),
+                    None => rest = front,
+                }
+            }
+        }
+    }
+}
+
+// Returns the part of a path before its last slash.
+fn before_slash(path: &str) -> Option<&str>
+    ensures value { option_map (λ front. front.now) result ≡ folder_path path.now }
+    ensures shorter { IfSome result (λ front. length front.now < length path.now) }
+{
+    match path.rsplit_once('/') {
+        None => None,
+        Some((front, _)) => Some(front),
     }
 }
 

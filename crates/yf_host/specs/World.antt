@@ -1,9 +1,11 @@
 -- The world: the state that the program works on. The part that changes, and the facts that are known and stay.
-use Rattle.std.specs.Prelude.{◌≡◌, ℕ, List, Option, None, Result}
+use Rattle.std.specs.Prelude.{◌≡◌, ℕ, List, Option, None, Some, Result}
 use Rattle.yf_command_line.specs.declared.command.Input.{Input}
 use Rattle.yf_discovery.specs.Nearest.{Looks}
 use Rattle.yf_files.specs.declared.rewriting.RewriteError.{RewriteError}
 use Rattle.yf_host.specs.declared.guarded_text.NoNewText.{NoNewText}
+use Rattle.yf_host.specs.declared.inputs.Again.{Again}
+use Rattle.yf_host.specs.declared.inputs.Again.TheVariants as again
 use Rattle.yf_host.specs.declared.sources.Sources.{Sources}
 use Rattle.yf_rules.specs.Runs.ByteStream.{ByteStream}
 
@@ -47,12 +49,22 @@ nothing_known = record {
   current = λ _. Unit {0};
 }
 
--- What was known of the inputs is still known. They hold what they held, and no more of them fail.
+-- The file was read: these are its contents, or the reason why it fails.
+abbrev pub IsAgain : InputClaim → Input → Again → Type 0
+IsAgain claim input (again.Bytes bytes) = claim.holds input ≡ Some bytes.items
+IsAgain claim input (again.Words words) = claim.fails input
+
+-- No other facts are known.
+pub data SameFacts (before : InputClaim) : InputClaim → Type 0 where
+  same_facts : SameFacts before before
+
+-- What was known of the inputs is still known, and nothing else.
 pub record StillKnown (before after : InputClaim) : Type 0 where
   pub tells : before.tells → after.tells
   pub notes : before.notes → after.notes
   pub holds : (input : Input) → after.holds input ≡ before.holds input
   pub fails : (input : Input) → after.fails input → before.fails input
+  pub facts : SameFacts before after
 
 -- What the new text of a file is, for the bytes that the file holds, and why the bytes have none.
 pub record TextClaim : Type 1 where

@@ -144,7 +144,6 @@ RanWork work.Print name = RanFmt
 RanWork work.Compare name = RanFmtCheck
 RanWork work.Diff name = RanFmtDiff name
 RanWork (work.Part part) name = RanPart part name
-RanWork work.Serve name = λ task. Served task.style
 
 -- `fmt`, `fmt --check` or `fmt --diff` showed the formatting of the whole text, or was refused.
 abbrev pub RanShown : Show → List ℕ → RunClaim
@@ -219,6 +218,13 @@ abbrev pub DoesInput : {F : Type 0} → Host F → Scope → Task → Input → 
 DoesInput host scope task input status before after =
     (after.files ≡ before.files) × InputsOpened host.inputs before.opened after.opened (input ∷ [])
     × DoesOpened host.inputs scope input task status before.streams after.streams
+
+-- Standard input was opened, and no other input, and an editor was served, with the settings of the start. (Settings
+-- files that the server reads again don't count as opened.)
+abbrev pub DoesServer : {F : Type 0} → Host F → Scope → Style → WorkClaim F
+DoesServer host scope style status before after =
+    (after.files ≡ before.files) × InputsOpened host.inputs before.opened after.opened (Standard ∷ [])
+    × RunsOver host.inputs Standard (Served host.inputs scope style) status before.streams after.streams
 
 -- The input was opened, and no other, and its text was printed as it is.
 abbrev pub CopiesInput : {F : Type 0} → Host F → Task → Input → WorkClaim F
@@ -336,7 +342,7 @@ DoesCompare host inputs scope explain style form status before after =
 abbrev pub DoesIn : {F : Type 0} → Host F → Command → Scope → Bool → Style → WorkClaim F
 DoesIn host (command.Events input) scope explain style =
     ScopedInput host scope (task_of work.Events explain style) input
-DoesIn host command.Server scope explain style = ScopedInput host scope (task_of work.Serve explain style) Standard
+DoesIn host command.Server scope explain style = DoesServer host scope style
 DoesIn host (command.Check check) scope explain style =
     DoesCheck host check scope explain style (check_form check scope explain)
 DoesIn host (command.Fmt (fmt.Print input)) scope explain style =
