@@ -1,13 +1,13 @@
 -- The progress of the search for a settings file.
-use Rattle.std.proofs.Common.{◌≡◌, ◌⊎◌, ℕ, suc, ◌+◌, ◌<◌, ◌≤◌, List, ◌++◌, inl, inr, refl, sym, subst, ◌∙◌, add-one, arith}
+use Rattle.std.proofs.Common.{ap, drop, take, take-append-drop, ◌≡◌, ◌⊎◌, ℕ, suc, ◌+◌, ◌<◌, ◌≤◌, List, ◌++◌, inl, inr, refl, sym, subst, ◌∙◌, add-one, arith}
 use Rattle.std.proofs.lemmas.Bool.{cases_lt}
-use Rattle.std.specs.Borrow.{Bor}
-use Rattle.std.specs.Path.{rsplit_once, slash}
-use Rattle.std.specs.Prelude.{codes, Option, None, Some, option_map}
+use Rattle.std.proofs.lemmas.Str.{encode_ascii}
+use Rattle.std.specs.Prelude.{codes, Option, MatchOption}
+use Rattle.std.specs.Str.Pattern.{RFindsChar, SplitsAroundMatch}
 use Rattle.yf_discovery.specs.declared.folders.There.{There}
 use Rattle.yf_discovery.specs.declared.nearest.Discovery.{Discovery}
 use Rattle.yf_discovery.specs.declared.nearest.Discovery.TheVariants as discovery
-use Rattle.yf_discovery.specs.Nearest.{Looks, Passes, EndsIn, PassesFirst, IsNearest, folder, folder_path}
+use Rattle.yf_discovery.specs.Nearest.{Looks, Passes, EndsIn, PassesFirst, IsNearest, IsFolderOf, folder}
 use Rattle.yf_discovery.specs.Nearest.IsNearest.{ends, passes_all}
 
 -- the kind of thing with a name, by the text of the name
@@ -50,7 +50,19 @@ passes_last Shows above k said at is here most first p = passes_all (λ j below.
     passes_more Shows k said at is here first p j (omega (arith, most, below))) refl
 
 -- the part of a path before its last slash, by the split there
-pub front_split : (path : List ℕ) (r : Option (Bor (List ℕ) × Bor (List ℕ)))
-    → option_map (λ x. (x.0.now, x.1.now)) r ≡ rsplit_once slash path → option_map (λ x. x.0.now) r ≡ folder_path path
-front_split path None is = ap (option_map (λ split. split.0)) is
-front_split path (Some x) is = ap (option_map (λ split. split.0)) is
+pub folder_split : (path front back : List ℕ) → SplitsAroundMatch (RFindsChar 47) path front back → IsFolderOf path front
+folder_split path front back d =
+    let rest : drop d.0 path ≡ codes "/" ++ drop d.1 path =
+    d.2.1.split ∙ ap (λ slash. slash ++ drop d.1 path) (encode_ascii 47 (omega arith)) in
+    let whole : path ≡ take d.0 path ++ codes "/" ++ drop d.1 path =
+    sym (take-append-drop d.0 path) ∙ ap (λ l. take d.0 path ++ l) rest in
+    record {
+      own = drop d.1 path;
+      is = subst (λ f. path ≡ f ++ codes "/" ++ drop d.1 path) (sym d.3) whole;
+      last = d.2.0;
+    }
+
+-- a look into a folder, by the text of its name
+pub looked_at : (Shows : Looks) (said at : List ℕ) → said ≡ at → (o : Option Discovery)
+    → MatchOption o (Passes Shows said) (EndsIn Shows said) → MatchOption o (Passes Shows at) (EndsIn Shows at)
+looked_at Shows said at is o d = subst (λ a. MatchOption o (Passes Shows a) (EndsIn Shows a)) is d

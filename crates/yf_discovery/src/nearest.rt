@@ -1,7 +1,6 @@
 //! The nearest settings file, above the current folder or above a file.
-ghost use Rattle.std.specs.Prelude.{◌≡◌, ◌<◌, ◌++◌, length, IfOk, IfSome, MatchOption};
-ghost use Rattle.std.specs.Option.{option_map};
-ghost use Rattle.yf_discovery.specs.Nearest.{EndsIn, IsNearest, IsNearestTo, Passes, folder_path};
+ghost use Rattle.std.specs.Prelude.{◌≡◌, ◌<◌, ◌++◌, codes, length, IfOk, IfSome, MatchOption};
+ghost use Rattle.yf_discovery.specs.Nearest.{EndsIn, HasNoSlash, IsFolderOf, IsNearest, IsNearestTo, Passes};
 
 use crate::folders::{Folders, There};
 use std::alloc::{AllocError, Global};
@@ -75,26 +74,36 @@ pub fn nearest_to<F: Folders>(
     'folders: loop {
         match before_slash(rest) {
             None => return Ok(Discovery::Nothing),
-            Some(front) => {
-                let folder = name_in(alloc, front, "/")?;
-                match look_in(alloc, folders, folder.as_str())? {
-                    Some(discovery) => return Ok(discovery),
-                    None => rest = front,
-                }
-            }
+            Some(front) => match look_at(alloc, folders, front)? {
+                Some(discovery) => return Ok(discovery),
+                None => rest = front,
+            },
         }
     }
 }
 
 // Returns the part of a path before its last slash.
 fn before_slash(path: &str) -> Option<&str>
-    ensures value { option_map (λ front. front.now) result ≡ folder_path path.now }
+    ensures split { MatchOption result (HasNoSlash path.now) (λ front. IsFolderOf path.now front.now) }
     ensures shorter { IfSome result (λ front. length front.now < length path.now) }
 {
     match path.rsplit_once('/') {
         None => None,
         Some((front, _)) => Some(front),
     }
+}
+
+// Looks into the folder with this path. Returns the result if the search ends there.
+fn look_at<F: Folders>(
+    alloc: Global,
+    folders: &F,
+    path: &str,
+) -> Result<Option<Discovery>, AllocError>
+    ensures { IfOk result (λ o. MatchOption o (Passes (F.shows folders.now) (path.now ++ codes "/"))
+        (EndsIn (F.shows folders.now) (path.now ++ codes "/"))) }
+{
+    let folder = name_in(alloc, path, "/")?;
+    look_in(alloc, folders, folder.as_str())
 }
 
 // Looks into a folder, whose name is empty or ends with a slash. Returns the result if the search ends there.

@@ -1,7 +1,9 @@
 -- The settings of a document.
 use Rattle.std.proofs.Common.{◌≡◌, ◌≢◌, ◌⊎◌, ◌∙◌, ◌++◌, ℕ, List, [], Bool, true, false, inl, inr, ap, drop, refl, subst, sym}
-use Rattle.std.specs.Prelude.{Option, Some, None, Result, Ok, Err, IfOk, MatchResult, codes}
+use Rattle.std.specs.Borrow.{Bor}
+use Rattle.std.specs.Prelude.{Option, Some, None, Result, Ok, Err, IfOk, MatchOption, MatchResult, codes}
 use Rattle.std.specs.Str.{IsUtf8}
+use Rattle.std.specs.Str.Pattern.{FindsTextPrefix, StripsPrefix}
 use Rattle.percent_encoding.specs.Percent.{percent_decode}
 use Rattle.yf_command_line.specs.declared.command.Input.TheVariants.{File}
 use Rattle.yf_discovery.specs.Nearest.{IsNearestTo}
@@ -17,6 +19,14 @@ use Rattle.yf_program.specs.SettingsFile.{FileRefused, FileSets, SettingsOfFile,
 use Rattle.yf_program.specs.declared.handling.Handling.{Handling}
 use Rattle.yf_rules.specs.Runs.ByteStream.{ByteStream}
 use Rattle.yf_settings.specs.declared.file_settings.FileSettings.{FileSettings}
+
+-- the path in a URI, by its prefix
+pub file_or_none : (uri : List ℕ) (r : Option (Bor (List ℕ)))
+    → MatchOption r (FindsTextPrefix (codes "file://") uri None)
+    (λ x. StripsPrefix (FindsTextPrefix (codes "file://")) uri x.now)
+    → MatchOption r (IsNoFile uri) (λ encoded. uri ≡ codes "file://" ++ encoded.now)
+file_or_none uri None lacks = λ encoded is. lacks encoded is
+file_or_none uri (Some x) cut = cut.1.1 ∙ ap (λ encoded. codes "file://" ++ encoded) (sym cut.2)
 
 -- what is not the URI of a file has no path
 pub no_file : {uri : List ℕ} → IsNoFile uri → HasNoPath uri

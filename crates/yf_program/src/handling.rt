@@ -1,6 +1,7 @@
 //! The settings of the documents of a server, and what they say of a document.
 ghost use Rattle.std.specs.Prelude.{◌≡◌, ◌++◌, Some, IfOk, IsUtf8, MatchOption, MatchResult, codes};
 ghost use Rattle.percent_encoding.specs.Percent.{percent_decode};
+ghost use Rattle.yf_lines.specs.Text.{text_bytes};
 ghost use Rattle.yf_program.specs.Handling.{HandlesAs, HandlesBy, HandlesNear, HandlesWith, HasNoPath, IsDecoded, IsHandled, IsNoFile, IsPath, is_memory, said, text_of, unset_words};
 ghost use Rattle.yf_program.specs.Settings.{Excludes};
 ghost use Rattle.yf_program.specs.SettingsFile.{SettingsOfFile, Unset};
@@ -21,7 +22,7 @@ use yf_forms::style::Style;
 use yf_guarded::held::Held;
 use yf_host::inputs::{Again, Inputs};
 use yf_lines::fault::Fault;
-use yf_lines::text::OwnedText;
+use yf_lines::text::{OwnedText, Text};
 use yf_settings::file_settings::FileSettings;
 use yf_settings::texts::{Required, allows};
 
@@ -87,8 +88,8 @@ pub fn handling_of<I: Inputs>(
 
 // Returns the path of the file with a URI. Returns `None` if it is not the URI of a file, or if the path is not UTF-8 or
 // doesn't begin at the root.
-fn path_of(alloc: Global, uri: &str) -> Result<Option<OwnedText>, AllocError>
-    ensures { IfOk result (λ o. MatchOption o (HasNoPath uri.now) (IsPath uri.now)) }
+fn path_of<'a>(alloc: Global, uri: &'a str) -> Result<Option<Text<'a>>, AllocError>
+    ensures { IfOk result (λ o. MatchOption o (HasNoPath uri.now) (λ path. IsPath uri.now (text_bytes path))) }
 {
     match encoded_path(uri) {
         None => Ok(None),
@@ -112,15 +113,13 @@ fn encoded_path(uri: &str) -> Option<&str>
 }
 
 // Returns the text that a text with escapes means. Returns `None` if it is not UTF-8.
-fn decoded(alloc: Global, encoded: &str) -> Result<Option<OwnedText>, AllocError>
-    ensures { IfOk result (λ o. MatchOption o (¬ IsUtf8 (percent_decode encoded.now)) (IsDecoded encoded.now)) }
+fn decoded<'a>(alloc: Global, encoded: &'a str) -> Result<Option<Text<'a>>, AllocError>
+    ensures { IfOk result (λ o. MatchOption o (¬ IsUtf8 (percent_decode encoded.now))
+        (λ text. IsDecoded encoded.now (text_bytes text))) }
 {
     match percent_decode(encoded.as_bytes()).decode_utf8(alloc) {
-        Ok(CowStr::Borrowed(part)) => {
-            let text = String::from_str(alloc, part)?;
-            Ok(Some(OwnedText::new(text)))
-        }
-        Ok(CowStr::Owned(text)) => Ok(Some(OwnedText::new(text))),
+        Ok(CowStr::Borrowed(part)) => Ok(Some(Text::Part(part))),
+        Ok(CowStr::Owned(text)) => Ok(Some(Text::Owned(OwnedText::new(text)))),
         Err(DecodeError::Utf8(_)) => Ok(None),
         Err(DecodeError::OutOfMemory) => Err(AllocError),
     }
