@@ -50,15 +50,16 @@ passes_last Shows above k said at is here most first p = passes_all (λ j below.
     passes_more Shows k said at is here first p j (omega (arith, most, below))) refl
 
 -- the part of a path before its last slash, by the split there
-pub folder_split : (path front back : List ℕ) → SplitsAroundMatch (RFindsChar 47) path front back → IsFolderOf path front
+pub folder_split : (path front back : List ℕ) → SplitsAroundMatch (RFindsChar 47) path front back
+    → IsFolderOf path front
 folder_split path front back d =
     let rest : drop d.0 path ≡ codes "/" ++ drop d.1 path =
     d.2.1.split ∙ ap (λ slash. slash ++ drop d.1 path) (encode_ascii 47 (omega arith)) in
-    let whole : path ≡ take d.0 path ++ codes "/" ++ drop d.1 path =
+    let whole : path ≡ take d.0 path ++ (codes "/" ++ drop d.1 path) =
     sym (take-append-drop d.0 path) ∙ ap (λ l. take d.0 path ++ l) rest in
     record {
       own = drop d.1 path;
-      is = subst (λ f. path ≡ f ++ codes "/" ++ drop d.1 path) (sym d.3) whole;
+      is = subst (λ f. path ≡ f ++ (codes "/" ++ drop d.1 path)) (sym d.3) whole;
       last = d.2.0;
     }
 

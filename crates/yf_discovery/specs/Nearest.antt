@@ -59,11 +59,11 @@ HasNoSlash path = NoCharPasses (λ c. c == 47) path
 -- the path of the folder of a file: the part of the file's path before its last slash
 pub record IsFolderOf (path at : List ℕ) : Type 0 where
   pub own : List ℕ
-  pub is : path ≡ at ++ codes "/" ++ own
+  pub is : path ≡ at ++ (codes "/" ++ own)
   pub last : HasNoSlash own
 
--- the search begins in the folder of a file, goes up folder by folder, and ends in the first one that it doesn't pass; or
--- it passes all folders, and there is no settings file
+-- the search begins in the folder of a file, goes up folder by folder, and ends in the first one that it doesn't pass;
+-- or it passes all folders, and there is no settings file
 pub data IsNearestTo (Shows : Looks) : List ℕ → Discovery → Type 0 where
   no_folder : {path : List ℕ} → HasNoSlash path → IsNearestTo Shows path discovery.Nothing
   ends_in : {path : List ℕ} {d : Discovery} (at : List ℕ) → IsFolderOf path at → EndsIn Shows (at ++ codes "/") d

@@ -55,8 +55,8 @@ pub fn nearest_settings<F: Folders>(
     }
 }
 
-/// Finds the nearest settings file in the folder of a file or above it, by the path of the file. The names of the result
-/// begin like the path.
+/// Finds the nearest settings file in the folder of a file or above it, by the path of the file. The name in the result
+/// begins like the path.
 ///
 /// No link is followed: the folder above `a/b` is `a`. The rest is as for `nearest_settings`.
 ///

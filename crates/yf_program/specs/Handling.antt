@@ -78,7 +78,8 @@ HandlesBy config settings asks path h = MatchBool (allows settings.required VERS
 -- That is done with the settings of this file; or the file can't be read, or is refused.
 abbrev pub HandlesWith : InputClaim → Option (List ℕ) → Bool → List ℕ → Handling → Type 0
 HandlesWith claim config asks path h =
-    ((f : Fault) × (f ≢ fault.Memory) × Unset claim config f × (h ≡ handling.Unset (unset_words (unwrap_or config []) f)))
+    ((f : Fault) × (f ≢ fault.Memory) × Unset claim config f
+    × (h ≡ handling.Unset (unset_words (unwrap_or config []) f)))
     ⊎ ((settings : FileSettings) × SettingsOfFile claim config settings × HandlesBy config settings asks path h)
 
 -- The settings are those of the nearest settings file in the folder of the file with a path, or above it. Without one

@@ -86,8 +86,8 @@ pub fn handling_of<I: Inputs>(
     }
 }
 
-// Returns the path of the file with a URI. Returns `None` if it is not the URI of a file, or if the path is not UTF-8 or
-// doesn't begin at the root.
+// Returns the path of the file with a URI. Returns `None` if it is not the URI of a file, or if the path is not UTF-8
+// or doesn't begin at the root.
 fn path_of<'a>(alloc: Global, uri: &'a str) -> Result<Option<Text<'a>>, AllocError>
     ensures { IfOk result (λ o. MatchOption o (HasNoPath uri.now) (λ path. IsPath uri.now (text_bytes path))) }
 {
@@ -152,7 +152,8 @@ fn handling_near<I: Inputs>(
 ) -> Result<Handling, AllocError>
     ensures { IfOk result (HandlesNear (I.claim inputs.now) asks_any_text path.now) }
 {
-    match nearest_to(alloc, &FoldersOf { inputs }, path)? {
+    let found = nearest_to(alloc, &FoldersOf { inputs }, path)?;
+    match found {
         Discovery::Settings(name) => {
             handling_with(alloc, inputs, &Some(name), asks_any_text, path)
         }
