@@ -5,7 +5,7 @@ import subprocess
 
 NAME = 'file:///tmp/one.yaml'
 CAPABILITIES = {
-    'textDocumentSync': {'openClose': True, 'change': 2},
+    'textDocumentSync': {'openClose': True, 'change': 2, 'willSaveWaitUntil': True},
     'documentFormattingProvider': True,
     'documentRangeFormattingProvider': True,
     'foldingRangeProvider': True,
@@ -19,11 +19,11 @@ CAPABILITIES = {
 class Server:
     """A running server, and its pipes."""
 
-    def __init__(self, program, words=('server',), limit=None):
-        """limit: how many bytes of memory it may have"""
+    def __init__(self, program, words=('server',), limit=None, folder=None):
+        """limit: how many bytes of memory it may have; folder: the one that it starts in"""
         refuse = (lambda: resource.setrlimit(resource.RLIMIT_AS, (limit, limit))) if limit else None
         self.process = subprocess.Popen([program, *words], stdin=subprocess.PIPE, stdout=subprocess.PIPE,
-                                        stderr=subprocess.PIPE, preexec_fn=refuse)
+                                        stderr=subprocess.PIPE, preexec_fn=refuse, cwd=folder)
         self.next_id = 0
 
     def write(self, data):

@@ -1,6 +1,7 @@
--- The nearest settings file at or above the current folder.
+-- The nearest settings file at or above the current folder, or the folder of a file.
 -- (Shows: the possible results of a look at a name; above: the number of folders above the current one)
-use Rattle.std.specs.Prelude.{◌≡◌, ◌⊎◌, ℕ, zero, suc, ◌<◌, ◌≤◌, List, [], ◌++◌, codes}
+use Rattle.std.specs.Prelude.{◌≡◌, ◌⊎◌, ℕ, zero, suc, ◌<◌, ◌≤◌, ◌==◌, List, [], ◌++◌, codes}
+use Rattle.std.specs.Str.{NoCharPasses}
 use Rattle.yf_discovery.specs.declared.folders.There.{There}
 use Rattle.yf_discovery.specs.declared.folders.There.TheVariants as there
 use Rattle.yf_discovery.specs.declared.nearest.Discovery.{Discovery}
@@ -51,3 +52,21 @@ PassesFirst Shows k = (j : ℕ) → j < k → Passes Shows (folder j)
 pub data IsNearest (Shows : Looks) (above : ℕ) (d : Discovery) : Type 0 where
   ends : (k : ℕ) → k ≤ above → PassesFirst Shows k → EndsIn Shows (folder k) d → IsNearest Shows above d
   passes_all : PassesFirst Shows (suc above) → d ≡ discovery.Nothing → IsNearest Shows above d
+
+abbrev pub HasNoSlash : List ℕ → Type 0
+HasNoSlash path = NoCharPasses (λ c. c == 47) path
+
+-- the path of the folder of a file: the part of the file's path before its last slash
+pub record IsFolderOf (path at : List ℕ) : Type 0 where
+  pub own : List ℕ
+  pub is : path ≡ at ++ (codes "/" ++ own)
+  pub last : HasNoSlash own
+
+-- the search begins in the folder of a file, goes up folder by folder, and ends in the first one that it doesn't pass;
+-- or it passes all folders, and there is no settings file
+pub data IsNearestTo (Shows : Looks) : List ℕ → Discovery → Type 0 where
+  no_folder : {path : List ℕ} → HasNoSlash path → IsNearestTo Shows path discovery.Nothing
+  ends_in : {path : List ℕ} {d : Discovery} (at : List ℕ) → IsFolderOf path at → EndsIn Shows (at ++ codes "/") d
+      → IsNearestTo Shows path d
+  goes_up : {path : List ℕ} {d : Discovery} (at : List ℕ) → IsFolderOf path at → Passes Shows (at ++ codes "/")
+      → IsNearestTo Shows at d → IsNearestTo Shows path d

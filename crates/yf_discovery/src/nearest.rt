@@ -1,6 +1,6 @@
-//! The nearest settings file.
-ghost use Rattle.std.specs.Prelude.{◌≡◌, ◌++◌, IfOk, MatchOption};
-ghost use Rattle.yf_discovery.specs.Nearest.{EndsIn, IsNearest, Passes};
+//! The nearest settings file, above the current folder or above a file.
+ghost use Rattle.std.specs.Prelude.{◌≡◌, ◌<◌, ◌++◌, codes, length, IfOk, IfSome, MatchOption};
+ghost use Rattle.yf_discovery.specs.Nearest.{EndsIn, HasNoSlash, IsFolderOf, IsNearest, IsNearestTo, Passes};
 
 use crate::folders::{Folders, There};
 use std::alloc::{AllocError, Global};
@@ -53,6 +53,57 @@ pub fn nearest_settings<F: Folders>(
         Some(discovery) => Ok(discovery),
         None => Ok(Discovery::Nothing),
     }
+}
+
+/// Finds the nearest settings file in the folder of a file or above it, by the path of the file. The name in the result
+/// begins like the path.
+///
+/// No link is followed: the folder above `a/b` is `a`. The rest is as for `nearest_settings`.
+///
+/// # Errors
+///
+/// `AllocError` if memory is refused.
+pub fn nearest_to<F: Folders>(
+    alloc: Global,
+    folders: &F,
+    path: &str,
+) -> Result<Discovery, AllocError>
+    ensures { IfOk result (IsNearestTo (F.shows folders.now) path.now) }
+{
+    let mut rest = path;
+    'folders: loop {
+        match before_slash(rest) {
+            None => return Ok(Discovery::Nothing),
+            Some(front) => match look_at(alloc, folders, front)? {
+                Some(discovery) => return Ok(discovery),
+                None => rest = front,
+            },
+        }
+    }
+}
+
+// Returns the part of a path before its last slash.
+fn before_slash(path: &str) -> Option<&str>
+    ensures split { MatchOption result (HasNoSlash path.now) (λ front. IsFolderOf path.now front.now) }
+    ensures shorter { IfSome result (λ front. length front.now < length path.now) }
+{
+    match path.rsplit_once('/') {
+        None => None,
+        Some((front, _)) => Some(front),
+    }
+}
+
+// Looks into the folder with this path. Returns the result if the search ends there.
+fn look_at<F: Folders>(
+    alloc: Global,
+    folders: &F,
+    path: &str,
+) -> Result<Option<Discovery>, AllocError>
+    ensures { IfOk result (λ o. MatchOption o (Passes (F.shows folders.now) (path.now ++ codes "/"))
+        (EndsIn (F.shows folders.now) (path.now ++ codes "/"))) }
+{
+    let folder = name_in(alloc, path, "/")?;
+    look_in(alloc, folders, folder.as_str())
 }
 
 // Looks into a folder, whose name is empty or ends with a slash. Returns the result if the search ends there.

@@ -1,9 +1,12 @@
 -- The world: the state that the program works on. The part that changes, and the facts that are known and stay.
-use Rattle.std.specs.Prelude.{◌≡◌, ℕ, List, Option, None, Result}
+use Rattle.std.specs.Prelude.{◌≡◌, ℕ, List, Option, None, Some, Result}
 use Rattle.yf_command_line.specs.declared.command.Input.{Input}
 use Rattle.yf_discovery.specs.Nearest.{Looks}
+use Rattle.yf_discovery.specs.declared.folders.There.{There}
 use Rattle.yf_files.specs.declared.rewriting.RewriteError.{RewriteError}
 use Rattle.yf_host.specs.declared.guarded_text.NoNewText.{NoNewText}
+use Rattle.yf_host.specs.declared.inputs.Again.{Again}
+use Rattle.yf_host.specs.declared.inputs.Again.TheVariants as again
 use Rattle.yf_host.specs.declared.sources.Sources.{Sources}
 use Rattle.yf_rules.specs.Runs.ByteStream.{ByteStream}
 
@@ -47,12 +50,23 @@ nothing_known = record {
   current = λ _. Unit {0};
 }
 
--- What was known of the inputs is still known. They hold what they held, and no more of them fail.
+-- The file was read: these are its contents, or the reason why it fails.
+abbrev pub IsAgain : InputClaim → Input → Again → Type 0
+IsAgain claim input (again.Bytes bytes) = claim.holds input ≡ Some bytes.items
+IsAgain claim input (again.Words words) = claim.fails input
+
+-- What was known of the inputs is still known. They hold what they held, no more of them fail, and a look at a name
+-- shows nothing else.
 pub record StillKnown (before after : InputClaim) : Type 0 where
   pub tells : before.tells → after.tells
   pub notes : before.notes → after.notes
   pub holds : (input : Input) → after.holds input ≡ before.holds input
   pub fails : (input : Input) → after.fails input → before.fails input
+  pub shows : (name : List ℕ) (what : There) → after.shows name what → before.shows name what
+
+-- P holds of the facts that are known of the inputs at a later moment.
+abbrev pub later_in : {I : Type 0} → (I → InputClaim) → I → (InputClaim → Type 0) → Type 0
+later_in {I} claim before P = (now : I) × StillKnown (claim before) (claim now) × P (claim now)
 
 -- What the new text of a file is, for the bytes that the file holds, and why the bytes have none.
 pub record TextClaim : Type 1 where
@@ -70,6 +84,8 @@ LinkClaim F = F → List ℕ → List ℕ → Type 0
 -- The facts that are known of the system: of its inputs, and of the files that are rewritten.
 pub record Host (F : Type 0) : Type 1 where
   pub inputs : InputClaim
+  -- a fact holds of what is known of the inputs at a later moment
+  pub Later : (InputClaim → Type 0) → Type 0
   pub Rewrites : RewriteClaim F
 
 -- The work on one of several inputs: a relation of the exit status and the worlds before and after.

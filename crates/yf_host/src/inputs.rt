@@ -3,7 +3,7 @@ ghost use Rattle.std.specs.Prelude.{◌≡◌, ◌∷◌, ◌++◌, [], true, fa
 ghost use Rattle.yf_command_line.specs.declared.command.Input.{Input};
 ghost use Rattle.yf_command_line.specs.declared.command.Input.TheVariants.{File as NamedFile, Standard as StandardInput};
 ghost use Rattle.yf_lines.specs.declared.fault.Fault.TheVariants.{ReadFailed};
-ghost use Rattle.yf_host.specs.World.{InputClaim, StillKnown};
+ghost use Rattle.yf_host.specs.World.{InputClaim, IsAgain, StillKnown};
 
 use std::alloc::{AllocError, Global};
 use yf_discovery::folders::There;
@@ -45,8 +45,10 @@ pub trait Inputs {
         ensures fault { IfErr result (λ fault. fault ≡ ReadFailed) }
         ensures fails { (claim self.old).tells → OnErr result ((claim self.old).fails (NamedFile name.now)) };
 
-    /// Reads a file again, to explain a fault of it. The file doesn't count as opened.
-    fn read_again(&self, alloc: Global, name: &str) -> Result<Again, AllocError>;
+    /// Reads a file without counting it as opened: to explain a fault of it, or for a server that takes its contents as
+    /// they are now.
+    fn read_again(&self, alloc: Global, name: &str) -> Result<Again, AllocError>
+        ensures { (claim self.now).tells → IfOk result (IsAgain (claim self.now) (NamedFile name.now)) };
 
     /// Looks at a name, relative to the current folder. A symbolic link counts as what it leads to.
     fn look(&self, name: &str) -> There

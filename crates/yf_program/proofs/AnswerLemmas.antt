@@ -22,7 +22,7 @@ use Rattle.yf_files.specs.declared.rewriting.RewriteError.{RewriteError}
 use Rattle.yf_findings.specs.declared.printed.Form.{Form}
 use Rattle.yf_forms.specs.declared.style.Style.{Style}
 use Rattle.yf_rules.specs.Runs.ByteStream.{ByteStream}
-use Rattle.yf_program.specs.Answer.{CopiesInput, DoesAll, DoesCheck, DoesCompare, DoesEach, DoesIn, DoesInput, DoesNamed, DoesOpened, DoesRewrite}
+use Rattle.yf_program.specs.Answer.{CopiesInput, DoesAll, DoesCheck, DoesCompare, DoesEach, DoesIn, DoesInput, DoesNamed, DoesOpened, DoesRewrite, DoesServer, ServedLater}
 use Rattle.yf_program.specs.Answer.{EndsRewriting, Ran, RanLeftOut, RewritesInput, RunsOver, ScopedInput, ScopedRewrite, SkipsIf, SkipsInput}
 use Rattle.yf_host.specs.Memory.{ToldMemory, empty_memory}
 use Rattle.yf_program.specs.Answer.{host_in, name_of, task_of}
@@ -32,6 +32,7 @@ use Rattle.yf_program.specs.Reports.{DoesReport, ReportsNew, compare_task}
 use Rattle.yf_program.specs.Run.{DoesWith}
 use Rattle.yf_program.specs.Run.DoesWith.{other_version, without_memory, are_taken}
 use Rattle.yf_program.specs.Guarded.{ReaderClaim, is_standard, prints_text}
+use Rattle.yf_program.specs.Server.{Served}
 use Rattle.yf_program.specs.Settings.{InputWork, NothingDone, PassesBy, Scoped, scope_of}
 use Rattle.yf_program.specs.Settings.Scoped.{left_out, no_memory, included}
 use Rattle.yf_program.specs.declared.scope.Scope.{Scope}
@@ -41,7 +42,7 @@ use Rattle.yf_program.proofs.BaselineLemmas.{new_before}
 use Rattle.yf_program.proofs.ReportLemmas.{report_before}
 use Rattle.yf_host.specs.Rewriting.{FormatsBytes, new_text_of}
 use Rattle.yf_host.specs.declared.guarded_text.NoNewText.{NoNewText}
-use Rattle.yf_host.specs.World.{Host, InputClaim, LinkClaim, OutputStreams, StillKnown, TextClaim, WorkClaim, World}
+use Rattle.yf_host.specs.World.{Host, InputClaim, LinkClaim, OutputStreams, StillKnown, TextClaim, WorkClaim, World, later_in}
 use Rattle.yf_host.specs.declared.sources.Sources.{Sources}
 use Rattle.yf_program.specs.declared.task.Flags.{Flags}
 use Rattle.yf_program.specs.declared.task.Task.{Task}
@@ -59,6 +60,7 @@ known_on ab bc = record {
   notes = λ n. bc.notes (ab.notes n);
   holds = λ input. bc.holds input ∙ ab.holds input;
   fails = λ input f. ab.fails input (bc.fails input f);
+  shows = λ name what s. ab.shows name what (bc.shows name what s);
 }
 
 -- what was done with the inputs as they are now was done with the inputs as they were
@@ -135,7 +137,20 @@ module _ {F : Type 0} (P Q : Input → WorkClaim F) (follows : (input : Input) (
   all_by scope (input ∷ []) status before after d = only_by scope.names scope.stdin_name input status before after d
   all_by scope (input ∷ next ∷ inputs) status before after d = each_by d
 
+-- an editor was served with the inputs as they are later
 module _ {F : Type 0} (earlier later : Host F) (known : StillKnown earlier.inputs later.inputs)
+    (laters : (P : InputClaim → Type 0) → later.Later P → earlier.Later P) where
+  pub server_before : (scope : Scope) (style : Style) (status : ℕ) (before after : World F) → DoesServer later scope style status before after → DoesServer earlier scope style status before after
+  server_before scope style status before after d =
+      let over = runs_before earlier.inputs later.inputs known Standard (ServedLater later scope style) status before.streams after.streams d.2 in
+      (d.0, (λ noted. d.1 (known.notes noted)), (over.0, over.1, over.2, laters (λ claim. Served claim scope style status over.0 over.1 before.streams after.streams) over.3))
+
+-- what is later than a later moment
+pub later_on : {I : Type 0} (claim : I → InputClaim) (old new : I) → StillKnown (claim old) (claim new) → (P : InputClaim → Type 0) → later_in claim new P → later_in claim old P
+later_on claim old new known P d = (d.0, known_on known d.1, d.2)
+
+module _ {F : Type 0} (earlier later : Host F) (known : StillKnown earlier.inputs later.inputs)
+    (laters : (P : InputClaim → Type 0) → later.Later P → earlier.Later P)
     (rewrites : (first last : F) (name : List ℕ) (Formats : TextClaim) (result : Result Unit (RewriteError NoNewText)) → later.Rewrites first last name Formats result → earlier.Rewrites first last name Formats result) where
   rewrite_before : (explain : Bool) (Formats : TextClaim) (input : Input) (status : ℕ) (before after : World F) → RewritesInput later explain Formats input status before after
       → RewritesInput earlier explain Formats input status before after
@@ -171,7 +186,7 @@ module _ {F : Type 0} (earlier later : Host F) (known : StillKnown earlier.input
   pub does_in_before : (what : Command) (scope : Scope) (explain : Bool) (style : Style) (status : ℕ) (before after : World F) → DoesIn later what scope explain style status before after
       → DoesIn earlier what scope explain style status before after
   does_in_before (command.Events input) scope explain style status before after d = scoped_input_before earlier later known scope (task_of work.Events explain style) input status before after d
-  does_in_before command.Server scope explain style status before after d = scoped_input_before earlier later known scope (task_of work.Serve explain style) Standard status before after d
+  does_in_before command.Server scope explain style status before after d = server_before earlier later known laters scope style status before after d
   does_in_before (command.Check check) scope explain style status before after d = check_before check scope explain style (check_form check scope explain) status before after d
   does_in_before (command.Fmt (fmt.Print input)) scope explain style status before after d = scoped_input_before earlier later known scope (task_of work.Print explain style) input status before after d
   does_in_before (command.Fmt (fmt.Check inputs output)) scope explain style status before after d = compare_before inputs scope explain style (compare_form inputs output scope explain) status before after d

@@ -15,3 +15,5 @@ pub mod BaselineLemmas
 pub mod FurtherLemmas
 -- `show_in_force`
 pub mod SettingsShownLemmas
+-- `handling_of`
+pub mod HandlingLemmas

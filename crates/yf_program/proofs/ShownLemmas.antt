@@ -152,4 +152,3 @@ module _ (task : Task) (name : List ℕ) (status : ℕ) (reader left : ByteStrea
   work_shown work.Compare input how e d = by_show how show.Place e d
   work_shown work.Diff input how e d = by_show how show.Diff e d
   work_shown (work.Part part) input how e d = cc
-  work_shown work.Serve input how e d = cc

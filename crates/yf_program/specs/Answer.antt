@@ -55,7 +55,7 @@ use Rattle.yf_program.specs.Server.{Served}
 use Rattle.yf_host.specs.Report.{check_status, format_status}
 use Rattle.yf_program.specs.Settings.{PassesBy, Scoped, left_out_line}
 use Rattle.yf_program.specs.declared.scope.Scope.{Scope}
-use Rattle.yf_host.specs.World.{Host, InputClaim, LinkClaim, OutputStreams, TextClaim, WorkClaim, World}
+use Rattle.yf_host.specs.World.{Host, InputClaim, LinkClaim, OutputStreams, TextClaim, WorkClaim, World, later_in}
 use Rattle.yf_host.specs.declared.sources.Sources.{Sources}
 use Rattle.yf_program.specs.declared.task.Task.{Task}
 use Rattle.yf_program.specs.declared.task.Work.{Work}
@@ -144,7 +144,6 @@ RanWork work.Print name = RanFmt
 RanWork work.Compare name = RanFmtCheck
 RanWork work.Diff name = RanFmtDiff name
 RanWork (work.Part part) name = RanPart part name
-RanWork work.Serve name = λ task. Served task.style
 
 -- `fmt`, `fmt --check` or `fmt --diff` showed the formatting of the whole text, or was refused.
 abbrev pub RanShown : Show → List ℕ → RunClaim
@@ -220,6 +219,18 @@ DoesInput host scope task input status before after =
     (after.files ≡ before.files) × InputsOpened host.inputs before.opened after.opened (input ∷ [])
     × DoesOpened host.inputs scope input task status before.streams after.streams
 
+-- An editor was served with the inputs as they are after standard input was opened.
+abbrev pub ServedLater : {F : Type 0} → Host F → Scope → Style → ReaderClaim
+ServedLater host scope style status reader left before after =
+    host.Later (λ claim. Served claim scope style status reader left before after)
+
+-- Standard input was opened, and no other input, and an editor was served, with the settings of the start. (Settings
+-- files that the server reads again don't count as opened.)
+abbrev pub DoesServer : {F : Type 0} → Host F → Scope → Style → WorkClaim F
+DoesServer host scope style status before after =
+    (after.files ≡ before.files) × InputsOpened host.inputs before.opened after.opened (Standard ∷ [])
+    × RunsOver host.inputs Standard (ServedLater host scope style) status before.streams after.streams
+
 -- The input was opened, and no other, and its text was printed as it is.
 abbrev pub CopiesInput : {F : Type 0} → Host F → Task → Input → WorkClaim F
 CopiesInput host task input status before after =
@@ -246,6 +257,7 @@ ScopedInput host scope task = Scoped host scope (record { Does = DoesInput host 
 abbrev pub host_in : {I F : Type 0} → (I → InputClaim) → Type 0 → (F → FilesState) → LinkClaim F → Sources I F → Host F
 host_in claim tells state leads sources = record {
   inputs = claim sources.inputs;
+  Later = later_in claim sources.inputs;
   Rewrites = λ first last name Text. FileRewrite tells (state first) (state last) (leads first name) Text;
 }
 
@@ -336,7 +348,7 @@ DoesCompare host inputs scope explain style form status before after =
 abbrev pub DoesIn : {F : Type 0} → Host F → Command → Scope → Bool → Style → WorkClaim F
 DoesIn host (command.Events input) scope explain style =
     ScopedInput host scope (task_of work.Events explain style) input
-DoesIn host command.Server scope explain style = ScopedInput host scope (task_of work.Serve explain style) Standard
+DoesIn host command.Server scope explain style = DoesServer host scope style
 DoesIn host (command.Check check) scope explain style =
     DoesCheck host check scope explain style (check_form check scope explain)
 DoesIn host (command.Fmt (fmt.Print input)) scope explain style =

@@ -46,7 +46,6 @@ prints_text work.Print = true
 prints_text work.Compare = false
 prints_text work.Diff = false
 prints_text (work.Part part) = not (shows_changes part.show)
-prints_text work.Serve = false
 
 -- Whether an input is standard input.
 abbrev pub is_standard : Input → Bool
@@ -63,7 +62,6 @@ reads_first work.Print input = is_standard input
 reads_first work.Compare input = true
 reads_first work.Diff input = true
 reads_first (work.Part part) input = shows_changes part.show || is_standard input
-reads_first work.Serve input = false
 
 -- How a work shows the formatting of the whole text of an input. None if it doesn't, or if the text is not read before
 -- the work.
@@ -75,7 +73,6 @@ formatting_shown work.Print (File name) = None
 formatting_shown work.Compare input = Some show.Place
 formatting_shown work.Diff input = Some show.Diff
 formatting_shown (work.Part part) input = None
-formatting_shown work.Serve input = None
 
 -- The names of the rules to leave out, if the work is a check.
 abbrev pub names_without : Work → Option (List (List ℕ))
@@ -85,7 +82,6 @@ names_without work.Print = None
 names_without work.Compare = None
 names_without work.Diff = None
 names_without (work.Part part) = None
-names_without work.Serve = None
 
 -- ---- What is written
 

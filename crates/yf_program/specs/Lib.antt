@@ -6,6 +6,7 @@ pub mod Settings
 pub mod Guarded
 pub mod Answer
 pub mod SettingsFile
+pub mod Handling
 pub mod Run
 -- what the editor server does
 pub mod Server

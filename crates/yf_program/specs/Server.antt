@@ -1,8 +1,10 @@
 -- What the editor server does with standard input and the two streams that it writes to.
-use Rattle.std.specs.Prelude.{◌≡◌, ◌≢◌, ◌⊎◌, ◌<◌, ◌+◌, ◌==◌, ℕ, List, [], ◌∷◌, length, take, Bool, true, false, Option, None, Some, codes}
+use Rattle.std.specs.Prelude.{◌≡◌, ◌≢◌, ◌⊎◌, ◌<◌, ◌+◌, ◌==◌, ℕ, List, [], ◌∷◌, length, take, Bool, true, false, Option, None, Some, MatchBool, codes}
 use Rattle.std.specs.List.{count_by}
 use Rattle.yf_forms.specs.declared.style.Style.{Style}
 use Rattle.yf_guard.specs.Guards.{IsVault}
+use Rattle.yf_guard.specs.declared.guarded.Guarded.{Guarded}
+use Rattle.yf_guarded.specs.Judged.{Guards}
 use Rattle.yf_json_rpc.specs.declared.frame.FrameError.{FrameError}
 use Rattle.yf_json_rpc.specs.declared.frame.FrameError.TheVariants as frame
 use Rattle.yf_lines.specs.declared.fault.Fault.{Fault}
@@ -12,7 +14,12 @@ use Rattle.yf_parts.specs.PartRun.{IsPart}
 use Rattle.yf_rules.specs.Headline.{Headline}
 use Rattle.yf_rules.specs.Runs.ByteStream.{ByteStream, NothingWritten, WrittenOrFailed}
 use Rattle.yf_rules.specs.declared.run.TheConstants.{INPUT_LIMIT}
+use Rattle.yf_program.specs.Handling.{IsHandled}
+use Rattle.yf_program.specs.declared.handling.Handling.{Handling}
+use Rattle.yf_program.specs.declared.handling.Handling.TheVariants as handling
+use Rattle.yf_program.specs.declared.scope.Scope.{Scope}
 use Rattle.yf_server.specs.Analysis.{Found, TextClaim}
+use Rattle.yf_server.specs.declared.analysis.Severity.TheVariants.{Error}
 use Rattle.yf_server_loop.specs.Sessions.{Moment, SessionRuns}
 use Rattle.yf_server_loop.specs.declared.ended.Ended.{Ended}
 use Rattle.yf_server_loop.specs.declared.ended.Ended.TheVariants as ended
@@ -21,7 +28,7 @@ use Rattle.yf_problems.specs.Folds.{FindsParts}
 use Rattle.yf_problems.specs.Outlines.{FindsOutline}
 use Rattle.yf_problems.specs.Problems.{FindsProblems}
 use Rattle.yf_host.specs.Report.{fault_line, fault_status}
-use Rattle.yf_host.specs.World.{OutputStreams}
+use Rattle.yf_host.specs.World.{InputClaim, OutputStreams}
 
 -- The server makes no edits for the text: it is an Ansible Vault file, or too long.
 abbrev pub IsLeft : List ℕ → Type 0
@@ -49,20 +56,67 @@ abbrev pub FindsInText : Style → List ℕ → List Found → Type 0
 FindsInText style text found =
     (IsVault text × (found ≡ [])) ⊎ ((IsVault text → ⊥) × FindsProblems style text found)
 
--- What the server knows of texts.
-abbrev pub text_claim : Style → TextClaim
-text_claim style = record {
-  Formats = FormatsText style;
-  FormatsLines = FormatsLines style;
-  Finds = FindsInText style;
+-- ---- The settings of a document
+
+-- The text is data, or it is formatted also if it is none.
+abbrev pub IsFormatted : Bool → List ℕ → Type 0
+IsFormatted any_text text = MatchBool any_text (Unit {0}) (Guards true text None)
+
+-- The text is no data.
+abbrev pub IsNoData : List ℕ → Type 0
+IsNoData text = (why : Guarded) × Guards true text (Some why)
+
+-- The result of formatting a text in a style, unless it is no data.
+abbrev pub FormatsData : Style → Bool → List ℕ → Option (List ℕ) → Type 0
+FormatsData style any_text text (Some new) = IsFormatted any_text text × FormatsText style text (Some new)
+FormatsData style any_text text None = ((any_text ≡ false) × IsNoData text) ⊎ FormatsText style text None
+
+-- The result of formatting some lines of a text, unless it is no data.
+abbrev pub FormatsDataLines : Style → Bool → List ℕ → ℕ → ℕ → Option (List ℕ) → Type 0
+FormatsDataLines style any_text text first last (Some new) =
+    IsFormatted any_text text × FormatsLines style text first last (Some new)
+FormatsDataLines style any_text text first last None = FormatsData style any_text text None
+
+-- The result of formatting a text by its settings.
+abbrev pub FormatsAs : Handling → List ℕ → Option (List ℕ) → Type 0
+FormatsAs (handling.Taken style any_text) text new = FormatsData style any_text text new
+FormatsAs handling.LeftOut text new = new ≡ None
+FormatsAs (handling.Unset words) text new = new ≡ None
+
+-- The result of formatting some lines of a text by its settings.
+abbrev pub FormatsLinesAs : Handling → List ℕ → ℕ → ℕ → Option (List ℕ) → Type 0
+FormatsLinesAs (handling.Taken style any_text) text first last new = FormatsDataLines style any_text text first last new
+FormatsLinesAs handling.LeftOut text first last new = new ≡ None
+FormatsLinesAs (handling.Unset words) text first last new = new ≡ None
+
+-- The problem of a document whose settings can't be used.
+abbrev pub unset_problem : List ℕ → Found
+unset_problem words = record {
+  start = 0;
+  end = 0;
+  severity = Error;
+  code = codes "settings";
+  message = words;
+}
+
+-- The problems of a text by its settings.
+abbrev pub FindsAs : Handling → List ℕ → List Found → Type 0
+FindsAs (handling.Taken style any_text) text found = FindsInText style text found
+FindsAs handling.LeftOut text found = found ≡ []
+FindsAs (handling.Unset words) text found = found ≡ unset_problem words ∷ []
+
+-- What the server knows of documents, from the settings of each.
+abbrev pub document_claim : InputClaim → Scope → Style → TextClaim
+document_claim claim scope style = record {
+  Formats = λ uri text new. (h : Handling) × IsHandled claim scope style uri h × FormatsAs h text new;
+  FormatsLines = λ uri text first last new.
+      (h : Handling) × IsHandled claim scope style uri h × FormatsLinesAs h text first last new;
+  Finds = λ uri text found. (h : Handling) × IsHandled claim scope style uri h × FindsAs h text found;
   Folds = FindsParts;
   Outlines = FindsOutline;
 }
 
--- The fault is that memory was refused.
-abbrev pub is_memory : Fault → Bool
-is_memory fault.Memory = true
-is_memory _ = false
+-- ---- A session
 
 -- The line for bytes that begin with no message.
 abbrev pub frame_line : FrameError → List ℕ
@@ -98,9 +152,10 @@ moment_between reader writer = record {
   output_failed = writer.failed;
 }
 
--- A session was served, in a style.
-pub record Served (style : Style) (status : ℕ) (reader left : ByteStream) (before after : OutputStreams) : Type 0 where
+-- A session was served, with these inputs and the settings of the start.
+pub record Served (claim : InputClaim) (scope : Scope) (style : Style) (status : ℕ) (reader left : ByteStream)
+    (before after : OutputStreams) : Type 0 where
   pub why : Ended
-  pub session : SessionRuns (text_claim style) (moment_between reader before.output)
+  pub session : SessionRuns (document_claim claim scope style) (moment_between reader before.output)
       (moment_between left after.output) why
   pub told : TellsEnd why status before.errors after.errors

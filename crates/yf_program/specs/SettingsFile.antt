@@ -6,7 +6,7 @@ use Rattle.yf_command_line.specs.declared.command.Input.{Input}
 use Rattle.yf_command_line.specs.declared.command.Input.TheVariants.{File}
 use Rattle.yf_lines.specs.declared.fault.Fault.{Fault}
 use Rattle.yf_lines.specs.declared.fault.Fault.TheVariants as fault
-use Rattle.yf_program.specs.Answer.{Opens}
+use Rattle.yf_host.specs.Ends.{Opens}
 use Rattle.yf_host.specs.World.{InputClaim}
 use Rattle.yf_rules.specs.Runs.ByteStream.{ByteStream, NoFailure}
 use Rattle.yf_rules.specs.Runs.Input.{ReadRefusal}

@@ -15,6 +15,7 @@ use crate::report_work::ReportWork;
 use crate::reports::report_inputs;
 use crate::rewrites::rewrite_files;
 use crate::scope::Scope;
+use crate::server::do_server;
 use crate::task::{Task, Work};
 use crate::terminal::{
     Terminal, checks_at_once, explains_in, form_of, is_named, limit_in, writes_at_once,
@@ -22,7 +23,7 @@ use crate::terminal::{
 use crate::with_settings::{do_request, name_or_empty};
 use std::alloc::Global;
 use yf_baseline::listed::Texts;
-use yf_command_line::command::{Check, Colors, Command, Fmt, Input, InputList, Output, Printing};
+use yf_command_line::command::{Check, Colors, Command, Fmt, InputList, Output, Printing};
 use yf_command_line::command_line::parse_line;
 use yf_findings::printed::Form;
 use yf_forms::style::Style;
@@ -88,14 +89,7 @@ pub fn do_command<I: Inputs, S: Links, W: Sink, E: Sink>(
         }
         Command::Check(check) => do_check(alloc, check, scope, explain, style, sources, streams),
         Command::Fmt(fmt) => do_fmt(alloc, fmt, scope, explain, style, sources, streams),
-        Command::Server => {
-            let task = Task {
-                work: Work::Serve,
-                style,
-                explain,
-            };
-            do_scoped(alloc, &task, scope, &Input::Standard, sources, streams)
-        }
+        Command::Server => do_server(alloc, scope, &style, sources, streams),
     }
 }
 

@@ -33,7 +33,6 @@ pub fn formatting_shown(work: &Work, input: &Input) -> Option<Show>
         Work::Compare => Some(Show::Place),
         Work::Diff => Some(Show::Diff),
         Work::Part(_) => None,
-        Work::Serve => None,
     }
 }
 

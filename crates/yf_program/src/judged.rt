@@ -96,7 +96,6 @@ fn names_without(work: &Work) -> Option<&[OwnedText]>
         Work::Compare => None,
         Work::Diff => None,
         Work::Part(_) => None,
-        Work::Serve => None,
     }
 }
 
@@ -111,7 +110,6 @@ pub fn prints_text(work: &Work) -> bool
         Work::Compare => false,
         Work::Diff => false,
         Work::Part(part) => !shows_changes(part.show),
-        Work::Serve => false,
     }
 }
 
@@ -136,7 +134,6 @@ fn reads_first(work: &Work, input: &Input) -> bool
         Work::Compare => true,
         Work::Diff => true,
         Work::Part(part) => shows_changes(part.show) || is_standard(input),
-        Work::Serve => false,
     }
 }
 

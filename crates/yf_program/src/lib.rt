@@ -9,6 +9,7 @@ pub mod baseline_file;
 pub mod each;
 pub mod formatted;
 pub mod further;
+pub mod handling;
 pub mod judged;
 pub mod left;
 pub mod left_over;

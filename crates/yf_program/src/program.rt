@@ -10,7 +10,6 @@ ghost use Rattle.yf_rules.specs.Quoted.{quoted};
 
 use crate::further::{report_input, tell_findings};
 use crate::parts::run_lines;
-use crate::server::run_server;
 use crate::task::{Task, Work};
 use std::alloc::Global;
 use yf_chars::utf8::check_utf8;
@@ -52,7 +51,6 @@ pub fn run<R: Source, W: Sink, E: Sink>(
         Work::Compare => run_comparer(alloc, task, reader, streams),
         Work::Diff => run_differ(alloc, task, name, reader, streams),
         Work::Part(part) => run_lines(alloc, task, part, name, reader, streams),
-        Work::Serve => run_server(alloc, &task.style, reader, streams),
     }
 }
 

@@ -26,6 +26,10 @@ pub struct Scope {
     pub settings: OwnedText,
     /// Whether texts that are no data are taken like any other.
     pub any_text: bool,
+    /// Whether the command line asks for that.
+    pub asks_any_text: bool,
+    /// Whether the search for a settings file decided. Otherwise the command line did.
+    pub is_nearest: bool,
     /// Whether lines have the name of their input, even if there is only one.
     pub names: bool,
     /// The name of standard input.

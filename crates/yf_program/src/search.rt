@@ -130,10 +130,10 @@ fn folders_above(alloc: Global, path: &[u8]) -> Result<Option<usize>, AllocError
     }
 }
 
-// The folders of the inputs.
+/// The folders of the inputs.
 #[derive(Clone, Copy)]
-struct FoldersOf<'i, I> {
-    inputs: &'i I,
+pub(crate) struct FoldersOf<'i, I> {
+    pub(crate) inputs: &'i I,
 }
 
 impl<I: Inputs> Folders for FoldersOf<'_, I> {

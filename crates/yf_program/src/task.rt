@@ -20,8 +20,6 @@ pub enum Work {
     Diff,
     /// Some of its lines are formatted, and the result is shown.
     Part(PartTask),
-    /// It is read as the messages of an editor, and the server responds to them.
-    Serve,
 }
 
 /// The work on an input, and how it is done.

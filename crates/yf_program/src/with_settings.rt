@@ -245,8 +245,8 @@ fn do_taken<I: Inputs, S: Links, W: Sink, E: Sink>(
     } = settings;
     let InForce {
         config,
+        is_nearest,
         current,
-        ..
     } = in_force;
     let explain = flags.explain;
     let scope = Scope {
@@ -254,6 +254,8 @@ fn do_taken<I: Inputs, S: Links, W: Sink, E: Sink>(
         current,
         settings: owned_or_empty(alloc, config),
         any_text: either(flags.any_text, any_text),
+        asks_any_text: flags.any_text,
+        is_nearest,
         names: flags.names,
         stdin_name: flags.stdin_name,
         terminal: flags.terminal,
@@ -261,8 +263,8 @@ fn do_taken<I: Inputs, S: Links, W: Sink, E: Sink>(
     do_command(alloc, command, &scope, explain, style, sources, streams)
 }
 
-// Returns whether one of two holds.
-fn either(first: bool, second: bool) -> bool
+/// Returns whether one of two holds.
+pub(crate) fn either(first: bool, second: bool) -> bool
     ensures { result ≡ first || second }
 {
     first || second

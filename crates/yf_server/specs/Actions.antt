@@ -32,7 +32,7 @@ AreActionsFor e uri old (Some new) value =
 
 pub record OffersFormatting (claim : TextClaim) (e : Encoding) (uri old : List ℕ) (value : Data) : Type 0 where
   pub new : Option (List ℕ)
-  pub formats : claim.Formats old new
+  pub formats : claim.Formats uri old new
   pub actions : AreActionsFor e uri old new value
 
 -- the result of `textDocument/codeAction` for a text (wanted: whether the client wants such an action)

@@ -1,4 +1,4 @@
--- The claims of a server about texts.
+-- The claims of a server about documents.
 use Rattle.std.specs.Prelude.{ℕ, List, Option, string_bytes}
 use Rattle.yf_server.specs.declared.analysis.Foldable.{Foldable}
 use Rattle.yf_server.specs.declared.analysis.Part.{Part}
@@ -41,13 +41,14 @@ kind_number Scalar = 15
 kind_number Alias = 13
 kind_number Empty = 21
 
+-- (a document is given by its URI and its text)
 pub record TextClaim : Type 1 where
-  -- the formatting of a text, or none if the text cannot be formatted
-  pub Formats : List ℕ → Option (List ℕ) → Type 0
-  -- what the formatting of some lines of a text gives: the lines from that of one offset to that of another one
-  pub FormatsLines : List ℕ → ℕ → ℕ → Option (List ℕ) → Type 0
-  -- the problems of a text, in order
-  pub Finds : List ℕ → List Found → Type 0
+  -- the formatting of a document, or none if it gets none
+  pub Formats : List ℕ → List ℕ → Option (List ℕ) → Type 0
+  -- what the formatting of some lines of a document gives: the lines from that of one offset to that of another one
+  pub FormatsLines : List ℕ → List ℕ → ℕ → ℕ → Option (List ℕ) → Type 0
+  -- the problems of a document, in order
+  pub Finds : List ℕ → List ℕ → List Found → Type 0
   -- the parts of a text that may be folded, or none if the text is not read
   pub Folds : List ℕ → Option (List Foldable) → Type 0
   -- the parts of a text, each one before the parts in it, or none if the text is not read

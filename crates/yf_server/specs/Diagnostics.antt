@@ -29,8 +29,8 @@ abbrev pub full_report : Data → Data
 full_report listed =
     object (member (codes "items") listed (member (codes "kind") (string (codes "full")) no_members))
 
--- all problems of a text
-pub record IsReport (claim : TextClaim) (e : Encoding) (text : List ℕ) (value : Data) : Type 0 where
+-- all problems of the document with a URI and a text
+pub record IsReport (claim : TextClaim) (e : Encoding) (uri text : List ℕ) (value : Data) : Type 0 where
   pub found : List Found
-  pub finds : claim.Finds text found
+  pub finds : claim.Finds uri text found
   pub is : value ≡ full_report (diagnostics e text found)

@@ -51,23 +51,23 @@ abbrev pub AreEditsFor : Encoding → List ℕ → Option (List ℕ) → Data �
 AreEditsFor e old None value = value ≡ null
 AreEditsFor e old (Some new) value = AreEditsTo e old new value
 
--- the result of `textDocument/formatting` for a text
-pub record IsFormatting (claim : TextClaim) (e : Encoding) (old : List ℕ) (value : Data) : Type 0 where
+-- the result of `textDocument/formatting` for the document with a URI and a text
+pub record IsFormatting (claim : TextClaim) (e : Encoding) (uri old : List ℕ) (value : Data) : Type 0 where
   pub new : Option (List ℕ)
-  pub formats : claim.Formats old new
+  pub formats : claim.Formats uri old new
   pub edits : AreEditsFor e old new value
 
 -- the offset of the last character of a range, or of its start if it has none
 abbrev pub last_offset : ℕ → ℕ → ℕ
 last_offset start end = if nat_lt start end then end - 1 else start
 
--- the result of `textDocument/rangeFormatting` for a text: the edits that format the lines of the range
-pub record IsLineFormatting (claim : TextClaim) (e : Encoding) (range : LspRange) (old : List ℕ) (value : Data) : Type 0
-  where
-    pub new : Option (List ℕ)
-    pub formats : claim.FormatsLines old (offset_of e old range.start)
-        (last_offset (offset_of e old range.start) (offset_of e old range.end)) new
-    pub edits : AreEditsFor e old new value
+-- the result of `textDocument/rangeFormatting` for a document: the edits that format the lines of the range
+pub record IsLineFormatting (claim : TextClaim) (e : Encoding) (range : LspRange) (uri old : List ℕ) (value : Data)
+    : Type 0 where
+  pub new : Option (List ℕ)
+  pub formats : claim.FormatsLines uri old (offset_of e old range.start)
+      (last_offset (offset_of e old range.start) (offset_of e old range.end)) new
+  pub edits : AreEditsFor e old new value
 
 -- one message is the response with this result
 pub record Replies (P : Data → Type 0) (id : Data) (sent : Option Data) : Type 0 where

@@ -28,7 +28,7 @@ publication params = call (codes "textDocument/publishDiagnostics") params
 pub record Publishes (claim : TextClaim) (e : Encoding) (uri : List ℕ) (version : ℤ) (text : List ℕ)
     (sent : Option Data) : Type 0 where
   pub found : List Found
-  pub finds : claim.Finds text found
+  pub finds : claim.Finds uri text found
   pub is : sent ≡ Some (publication (published uri version (diagnostics e text found)))
 
 -- what is published of an open document: no problems if its text is lost

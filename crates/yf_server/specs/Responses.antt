@@ -17,10 +17,10 @@ use Rattle.yf_server.specs.Symbols.{AreSymbolsOf}
 
 -- what a request gets that asks for something of the document with a URI and a text
 abbrev pub IsResult : TextClaim → Encoding → Asked → List ℕ → List ℕ → Data → Type 0
-IsResult claim e formatting uri text value = IsFormatting claim e text value
-IsResult claim e (lines range) uri text value = IsLineFormatting claim e range text value
+IsResult claim e formatting uri text value = IsFormatting claim e uri text value
+IsResult claim e (lines range) uri text value = IsLineFormatting claim e range uri text value
 IsResult claim e (actions wanted) uri text value = AreActions claim e wanted uri text value
-IsResult claim e problems uri text value = IsReport claim e text value
+IsResult claim e problems uri text value = IsReport claim e uri text value
 IsResult claim e folds uri text value = AreFoldsOf claim text value
 IsResult claim e symbols uri text value = AreSymbolsOf claim e text value
 IsResult claim e (selections positions) uri text value = AreSelectionsOf claim e positions text value

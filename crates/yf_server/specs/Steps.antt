@@ -127,7 +127,7 @@ after_messages uri k [] = k
 after_messages uri k (d ∷ rest) = after_messages uri (after_message uri k d) rest
 
 -- the code actions that the server has, the problems that it reports on request, and how it follows documents: by
--- changes of ranges
+-- changes of ranges, and by a request for edits before each save
 abbrev pub action_options : Data
 action_options = object (member (codes "codeActionKinds")
     (array (item (string (codes "source.fixAll.yamlfmt")) no_items)) no_members)
@@ -137,7 +137,8 @@ diagnostic_options = object (member (codes "interFileDependencies") (boolean fal
     (member (codes "workspaceDiagnostics") (boolean false) no_members))
 
 abbrev pub sync_options : Data
-sync_options = object (member (codes "change") (number (unsigned 2)) (member (codes "openClose") (boolean true) no_members))
+sync_options = object (member (codes "change") (number (unsigned 2)) (member (codes "openClose") (boolean true)
+    (member (codes "willSaveWaitUntil") (boolean true) no_members)))
 
 -- `ServerCapabilities`
 abbrev pub capabilities : Encoding → Data

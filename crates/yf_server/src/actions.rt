@@ -73,7 +73,7 @@ fn offered<A: Analysis>(
     ensures { IfOk result (λ value. OffersFormatting (A.claim analysis.now) encoding uri.now document.now
         (view value)) }
 {
-    match analysis.formatted(alloc, document.text())? {
+    match analysis.formatted(alloc, uri, document.text())? {
         None => Ok(no_actions(alloc)),
         Some(new) => actions_to(alloc, uri, document, new.as_str(), encoding),
     }

@@ -1,4 +1,4 @@
-//! The questions of a server about the text of a document.
+//! The questions of a server about a document.
 ghost use Rattle.std.specs.Prelude.{◌≡◌, IfOk, map, option_map, string_bytes};
 ghost use Rattle.yf_server.specs.Analysis.{TextClaim, kind_number, problem_read, severity_number};
 
@@ -100,21 +100,21 @@ pub struct Part {
     pub node: TextSpan,
 }
 
-/// An analysis of texts: their formattings, their problems, and their parts.
+/// An analysis of documents: their formattings, their problems, and the parts of their texts.
 pub trait Analysis {
-    /// The claim about texts.
+    /// The claim about documents.
     ghost claim: { Self → TextClaim };
 
-    /// Returns the formatting of a text, or `None` if the text cannot be formatted.
+    /// Returns the formatting of the text of the document with a URI, or `None` if the document gets no formatting.
     ///
     /// # Errors
     ///
     /// `AllocError` if memory is refused.
-    fn formatted(&self, alloc: Global, text: &str) -> Result<Option<String>, AllocError>
-        ensures { IfOk result (λ new. (claim self.now).Formats text.now (option_map string_bytes new)) };
+    fn formatted(&self, alloc: Global, uri: &str, text: &str) -> Result<Option<String>, AllocError>
+        ensures { IfOk result (λ new. (claim self.now).Formats uri.now text.now (option_map string_bytes new)) };
 
-    /// Returns a text in which some lines are formatted: those from the line of one byte offset to the line of another
-    /// one. `None` if the text cannot be formatted.
+    /// Returns the text of a document with some lines formatted: those from the line of one byte offset to the line of
+    /// another one. `None` if the document gets no formatting.
     ///
     /// # Errors
     ///
@@ -122,20 +122,22 @@ pub trait Analysis {
     fn formatted_lines(
         &self,
         alloc: Global,
+        uri: &str,
         text: &str,
         first: usize,
         last: usize,
     ) -> Result<Option<String>, AllocError>
         ensures { IfOk result (λ new.
-            (claim self.now).FormatsLines text.now first last (option_map string_bytes new)) };
+            (claim self.now).FormatsLines uri.now text.now first last (option_map string_bytes new)) };
 
-    /// Returns the problems of a text, in order.
+    /// Returns the problems of the text of a document, in order.
     ///
     /// # Errors
     ///
     /// `AllocError` if memory is refused.
-    fn problems(&self, alloc: Global, text: &str) -> Result<Vec<Problem>, AllocError>
-        ensures { IfOk result (λ problems. (claim self.now).Finds text.now (map problem_read problems.items)) };
+    fn problems(&self, alloc: Global, uri: &str, text: &str) -> Result<Vec<Problem>, AllocError>
+        ensures { IfOk result (λ problems.
+            (claim self.now).Finds uri.now text.now (map problem_read problems.items)) };
 
     /// Returns the parts of a text that may be folded, or `None` if the text is not read.
     ///

@@ -91,12 +91,13 @@ fn full_report(alloc: Global, listed: Value) -> Result<Value, AllocError>
 pub fn report<A: Analysis>(
     alloc: Global,
     analysis: &A,
+    uri: &str,
     document: &Document,
     encoding: Encoding,
 ) -> Result<Value, AllocError>
-    ensures { IfOk result (λ value. IsReport (A.claim analysis.now) encoding document.now (view value)) }
+    ensures { IfOk result (λ value. IsReport (A.claim analysis.now) encoding uri.now document.now (view value)) }
 {
-    let problems = analysis.problems(alloc, document.text())?;
+    let problems = analysis.problems(alloc, uri, document.text())?;
     let listed = diagnostics(alloc, document, problems.as_slice(), encoding)?;
     full_report(alloc, listed)
 }

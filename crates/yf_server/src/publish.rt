@@ -60,7 +60,7 @@ fn publish_text<A: Analysis>(
     ensures { IfOk result (λ value. Publishes (A.claim analysis.now) encoding uri.now version document.now
         (Some (view value))) }
 {
-    let problems = analysis.problems(alloc, document.text())?;
+    let problems = analysis.problems(alloc, uri, document.text())?;
     let listed = diagnostics(alloc, document, problems.as_slice(), encoding)?;
     let params = published(alloc, uri, version, listed)?;
     publication(alloc, &params)

@@ -84,12 +84,13 @@ fn edits_for(
 fn formatting<A: Analysis>(
     alloc: Global,
     analysis: &A,
+    uri: &str,
     document: &Document,
     encoding: Encoding,
 ) -> Result<Value, AllocError>
-    ensures { IfOk result (λ value. IsFormatting (A.claim analysis.now) encoding document.now (view value)) }
+    ensures { IfOk result (λ value. IsFormatting (A.claim analysis.now) encoding uri.now document.now (view value)) }
 {
-    let new = analysis.formatted(alloc, document.text())?;
+    let new = analysis.formatted(alloc, uri, document.text())?;
     edits_for(alloc, document, &new, encoding)
 }
 
@@ -105,14 +106,16 @@ fn formatting_lines<A: Analysis>(
     alloc: Global,
     analysis: &A,
     range: LspRange,
+    uri: &str,
     document: &Document,
     encoding: Encoding,
 ) -> Result<Value, AllocError>
-    ensures { IfOk result (λ value. IsLineFormatting (A.claim analysis.now) encoding range document.now (view value)) }
+    ensures { IfOk result (λ value.
+        IsLineFormatting (A.claim analysis.now) encoding range uri.now document.now (view value)) }
 {
     let first = document.offset_of(range.start, encoding);
     let last = last_offset(first, document.offset_of(range.end, encoding));
-    let new = analysis.formatted_lines(alloc, document.text(), first, last)?;
+    let new = analysis.formatted_lines(alloc, uri, document.text(), first, last)?;
     edits_for(alloc, document, &new, encoding)
 }
 
@@ -128,12 +131,12 @@ fn result_of<A: Analysis>(
     ensures { IfOk result (λ value. IsResult (A.claim analysis.now) encoding (query_read query.entry) uri.now document.now (view value)) }
 {
     match query {
-        Query::Formatting => formatting(alloc, analysis, document, encoding),
-        Query::Lines { range } => formatting_lines(alloc, analysis, range, document, encoding),
+        Query::Formatting => formatting(alloc, analysis, uri, document, encoding),
+        Query::Lines { range } => formatting_lines(alloc, analysis, range, uri, document, encoding),
         Query::Actions { is_wanted } => {
             actions(alloc, analysis, is_wanted, uri, document, encoding)
         }
-        Query::Problems => report(alloc, analysis, document, encoding),
+        Query::Problems => report(alloc, analysis, uri, document, encoding),
         Query::Folds => folds(alloc, analysis, document),
         Query::Symbols => symbols(alloc, analysis, document, encoding),
         Query::Selections { positions } => {

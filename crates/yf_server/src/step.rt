@@ -5,7 +5,7 @@ ghost use Rattle.yf_json_rpc.specs.Messages.{kind_read, reply};
 ghost use Rattle.yf_server.specs.Edits.{FailsWith};
 ghost use Rattle.yf_server.specs.Handshake.{fresh_terms};
 ghost use Rattle.yf_server.specs.Responses.{AnswersRequest};
-ghost use Rattle.yf_server.specs.Steps.{IsAnswer, IsSame, RunsTo, StepsTo, id_of, initialize_result, is_notification, is_request, method_of, terms_after};
+ghost use Rattle.yf_server.specs.Steps.{IsAnswer, IsSame, RunsTo, StepsTo, id_of, initialize_result, is_notification, is_request, method_of, terms_after, sync_options};
 
 use crate::analysis::Analysis;
 use crate::documents::OpenDocument;
@@ -94,14 +94,22 @@ fn terms_after(terms: Terms, task: Task, value: &Value) -> Terms
     }
 }
 
+/// Returns how the server follows documents.
+fn sync_options(alloc: Global) -> Result<Value, AllocError>
+    ensures { IfOk result (λ value. view value ≡ sync_options) }
+{
+    json!(in alloc; {"openClose": true, "change": 2, "willSaveWaitUntil": true})
+}
+
 /// Returns the result of `initialize`.
 fn initialize_result(alloc: Global, encoding: Encoding) -> Result<Value, AllocError>
     ensures { IfOk result (λ value. view value ≡ initialize_result encoding) }
 {
     let name = name_of(encoding);
+    let sync = sync_options(alloc)?;
     json!(in alloc; {"capabilities": {
         "positionEncoding": name,
-        "textDocumentSync": {"openClose": true, "change": 2},
+        "textDocumentSync": sync,
         "documentFormattingProvider": true,
         "documentRangeFormattingProvider": true,
         "foldingRangeProvider": true,

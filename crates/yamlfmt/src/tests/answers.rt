@@ -33,8 +33,6 @@ pub enum Asked {
     FmtCheck,
     /// `fmt --diff`
     FmtDiff,
-    /// `server`
-    Serve,
 }
 
 /// The exit status of a command, and the bytes that it writes to the two streams.
@@ -66,7 +64,6 @@ pub fn task(alloc: Global, asked: Asked, style: &Style) -> Task {
         Asked::Fmt => Work::Print,
         Asked::FmtCheck => Work::Compare,
         Asked::FmtDiff => Work::Diff,
-        Asked::Serve => Work::Serve,
     };
     Task {
         work,

@@ -10,4 +10,4 @@ pub returns-in-Fmt : goal.returns-in-Fmt
 returns-in-Fmt g c = rw c.in-Fmt.is c.do_fmt.ensures
 
 pub returns-in-Server : goal.returns-in-Server
-returns-in-Server g c = rw c.in-Server.is c.do_scoped-in-Server.ensures.does
+returns-in-Server g c = rw c.in-Server.is c.do_server.ensures

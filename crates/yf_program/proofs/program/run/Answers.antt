@@ -15,8 +15,5 @@ returns-in-Compare g c = rw c.in-Compare.is c.run_comparer.ensures
 pub returns-in-Diff : goal.returns-in-Diff
 returns-in-Diff g c = rw c.in-Diff.is c.run_differ.ensures
 
-pub returns-in-Serve : goal.returns-in-Serve
-returns-in-Serve g c = rw c.in-Serve.is c.run_server.ensures
-
 pub returns-in-Part : goal.returns-in-Part
 returns-in-Part g c = rw c.in-Part.is c.run_lines.ensures
