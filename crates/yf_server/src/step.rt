@@ -5,7 +5,7 @@ ghost use Rattle.yf_json_rpc.specs.Messages.{kind_read, reply};
 ghost use Rattle.yf_server.specs.Edits.{FailsWith};
 ghost use Rattle.yf_server.specs.Handshake.{fresh_terms};
 ghost use Rattle.yf_server.specs.Responses.{AnswersRequest};
-ghost use Rattle.yf_server.specs.Steps.{IsAnswer, IsSame, RunsTo, StepsTo, id_of, initialize_result, is_notification, is_request, method_of, terms_after, sync_options};
+ghost use Rattle.yf_server.specs.Steps.{IsAnswer, IsSame, RunsTo, StepsTo, id_of, initialize_result, is_notification, is_request, method_of, sync_options, terms_after};
 
 use crate::analysis::Analysis;
 use crate::documents::OpenDocument;
@@ -105,8 +105,16 @@ fn sync_options(alloc: Global) -> Result<Value, AllocError>
 fn initialize_result(alloc: Global, encoding: Encoding) -> Result<Value, AllocError>
     ensures { IfOk result (λ value. view value ≡ initialize_result encoding) }
 {
-    let name = name_of(encoding);
     let sync = sync_options(alloc)?;
+    result_with(alloc, encoding, &sync)
+}
+
+/// Returns the result of `initialize` with these options of documents.
+fn result_with(alloc: Global, encoding: Encoding, sync: &Value) -> Result<Value, AllocError>
+    requires { view sync.now ≡ sync_options }
+    ensures { IfOk result (λ value. view value ≡ initialize_result encoding) }
+{
+    let name = name_of(encoding);
     json!(in alloc; {"capabilities": {
         "positionEncoding": name,
         "textDocumentSync": sync,
