@@ -4,8 +4,8 @@
 Usage: bench/consumers.py PROGRAM [FILE..]
 
 It needs the Debian packages python3-jsonschema, libxml2-utils and jq. The texts are those of bench/fixes.py, texts with
-refusals and texts that are no data, under names with signs that formats escape, and these files. Each text gets a report
-in each format, all texts together get one, and a text without findings an empty one.
+refusals and texts that are no data, under names with signs that formats escape, and these files. Each text gets a
+report in each format, and all texts together get one.
 
 - `json` must meet docs/formats/findings.schema.json, and `sarif` bench/sarif.schema.json.
 - jq must read the three formats that are JSON, and xmllint those that are XML.

@@ -4,10 +4,10 @@
 Usage: bench/rules.py --write | --check | --try PROGRAM
 
 --write writes the page. --check fails if it is stale, or if the names of the pages are not those of the rules, of the
-refusals, of texts that are not formatted and of the texts that the program skips. --try runs PROGRAM on the examples: `check` must report the rule for
-each text under "Wrong" and nothing for the text under "Right", and `fmt` must turn the one into the other if the page
-says that it fixes it. `explain` must print each page and the list. In examples <space>, <CR LF>, <end of the file> and
-<U+HHHH> stand for characters.
+refusals, of texts that are not formatted and of the texts that the program skips. --try runs PROGRAM on the examples:
+`check` must report the rule for each text under "Wrong" and nothing for the text under "Right", and `fmt` must turn the
+one into the other if the page says that it fixes it. `explain` must print each page and the list. In examples <space>,
+<CR LF>, <end of the file> and <U+HHHH> stand for characters.
 """
 import os
 import re

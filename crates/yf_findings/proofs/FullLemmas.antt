@@ -1,10 +1,12 @@
 -- The rows of a change, one after another, and the walk over the problems of an input.
-use Rattle.std.proofs.Common.{◌≡◌, ◌++◌, ◌∷◌, ◌∙◌, ◌+◌, ◌-◌, ◌<◌, ◌≤◌, ◌==◌, ℕ, zero, suc, List, [], Bool, true, false, length, drop, get_or, refl, ap, arith, append_assoc, append-nil, subst, sym}
+use Rattle.std.proofs.Common.{◌≡◌, ◌++◌, ◌∷◌, ◌∙◌, ◌+◌, ◌-◌, ◌<◌, ◌≤◌, ◌==◌, ℕ, zero, suc, List, [], Bool, true, false}
+use Rattle.std.proofs.Common.{length, drop, get_or, refl, ap, arith, append_assoc, append-nil, subst, sym}
 use Rattle.std.proofs.lemmas.Bool.{eqb-true, true≢false}
 use Rattle.std.proofs.lemmas.List.{drop_more}
 use Rattle.std.specs.Prelude.{Result, OnOk}
 use Rattle.yf_findings.specs.Full.{problem_pieces, walk}
-use Rattle.yf_findings.specs.FullChanges.{after_line, due_after, due_before, due_pieces, first_line, left_at, more_row, row, row_text, rows}
+use Rattle.yf_findings.specs.FullChanges.{after_line, due_after, due_before, due_pieces, first_line, left_at, more_row}
+use Rattle.yf_findings.specs.FullChanges.{row, row_text, rows}
 use Rattle.yf_findings.specs.declared.changes.Change.{Change}
 use Rattle.yf_findings.specs.declared.owned.OwnedProblem.{OwnedProblem}
 use Rattle.yf_findings.specs.declared.pieces.Piece.{Piece}
@@ -28,8 +30,10 @@ rows_more n [] h = absurd (true≢false h)
 rows_more n (c ∷ cs) h = refl
 
 -- a loop over the lines, at its end and after one more line
-pub no_rows : (n : ℕ) (cs : List ℕ) (old whole : List Piece) → (length cs == 0) ≡ true → old ++ rows n cs ≡ whole → old ≡ whole
-no_rows n cs old whole h before = sym (append-nil old) ∙ ap (λ x. old ++ x) (sym (rows_none n cs (eqb-true (length cs) 0 h))) ∙ before
+pub no_rows : (n : ℕ) (cs : List ℕ) (old whole : List Piece) → (length cs == 0) ≡ true → old ++ rows n cs ≡ whole
+    → old ≡ whole
+no_rows n cs old whole h before =
+    sym (append-nil old) ∙ ap (λ x. old ++ x) (sym (rows_none n cs (eqb-true (length cs) 0 h))) ∙ before
 
 pub last_row : {A E : Type 0} (r : Result A E) (n : ℕ) (cs : List ℕ) (old new whole : List Piece) → n ≤ 0
     → old ++ rows n cs ≡ whole → OnOk r (new ≡ old ++ more_row cs) → OnOk r (new ≡ whole)
@@ -52,11 +56,11 @@ next_row n cs line rest old new whole h some before added first after =
     ∙ before
 
 -- a walk after one more problem
-pub walk_step : (name : List ℕ) (due before_it now : Bool) (k : ℕ) (ps : List OwnedProblem) (p : OwnedProblem) (left rest : List Change)
-    (old shown new whole : List Piece)
+pub walk_step : (name : List ℕ) (due before_it now : Bool) (k : ℕ) (ps : List OwnedProblem) (p : OwnedProblem)
+    (left rest : List Change) (old shown new whole : List Piece)
     → k < length ps → p ≡ get_or ps k p → old ++ walk name due (drop k ps) left ≡ whole
-    → before_it ≡ due_before due p left → shown ≡ old ++ due_pieces before_it left → new ≡ shown ++ problem_pieces name p
-    → now ≡ due_after due p left → rest ≡ left_at p.range.line left
+    → before_it ≡ due_before due p left → shown ≡ old ++ due_pieces before_it left
+    → new ≡ shown ++ problem_pieces name p → now ≡ due_after due p left → rest ≡ left_at p.range.line left
     → new ++ walk name now (drop (k + 1) ps) rest ≡ whole
 walk_step name due before_it now k ps p left rest old shown new whole h is before b e f d l =
     let over = due_pieces (due_before due p left) left in

@@ -1,7 +1,7 @@
--- What people see of the changes of lines that fix findings: which lines of the text `fmt` rewrites, removes or adds, and
--- what it writes there.
-use Rattle.std.specs.Prelude.{ℕ, zero, suc, ◌+◌, ◌==◌, ◌&&◌, ◌||◌, Bool, false, not, nat_eq, nat_le, nat_lt, List, [], ◌∷◌, ◌++◌, codes, decimal, length, drop, take}
-use Rattle.std.specs.Prelude.{if◌then◌else◌}
+-- What people see of the changes of lines that fix findings: which lines of the text `fmt` rewrites, removes or adds,
+-- and what it writes there.
+use Rattle.std.specs.Prelude.{ℕ, zero, suc, ◌+◌, ◌==◌, ◌&&◌, ◌||◌, Bool, false, not, nat_eq, nat_le, nat_lt, if◌then◌else◌}
+use Rattle.std.specs.Prelude.{List, [], ◌∷◌, ◌++◌, codes, decimal, length, drop, take}
 use Rattle.std.specs.List.{prefix_len}
 use Rattle.std.specs.Str.{chars}
 use Rattle.yf_explain.specs.Shown.{all_shown}
@@ -105,4 +105,5 @@ due_before due p cs = due && first_is_over p.range.line cs
 -- whether the first change that is left at a problem is due after it
 abbrev pub due_after : Bool → OwnedProblem → List Change → Bool
 due_after due p cs =
-    (due && not (first_is_over p.range.line cs)) || (p.fixable && first_has_begun p.range.line (left_at p.range.line cs))
+    (due && not (first_is_over p.range.line cs))
+    || (p.fixable && first_has_begun p.range.line (left_at p.range.line cs))

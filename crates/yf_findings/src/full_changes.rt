@@ -70,8 +70,8 @@ pub(crate) fn is_due_before(due: bool, problem: &OwnedProblem, changes: &[Change
     due && first_is_over(problem.range.line, changes)
 }
 
-/// Returns whether the first change that is left at a problem is to be shown: `fmt` fixes the problem, and the change has
-/// begun; or it was due already.
+/// Returns whether the first change that is left at a problem is to be shown: `fmt` fixes the problem, and the change
+/// has begun; or it was due already.
 pub(crate) fn due_after(due: bool, problem: &OwnedProblem, changes: &[Change]) -> bool
     ensures { result ≡ spec.due_after due problem.now changes.now }
 {

@@ -16,8 +16,8 @@ pub enum Form {
     /// A line for each finding: `LINE:COLUMN RULE`, and ` (fixable)` if `fmt` fixes it. If `named`, it begins with
     /// `NAME:`.
     Lines { named: bool },
-    /// For people: the message, the line of the text, marks under the range, and what `fmt` writes. If `colored`, it has
-    /// colors.
+    /// For people: the message, the line of the text, marks under the range, and what `fmt` writes. If `colored`, it
+    /// has colors.
     Full { colored: bool },
     /// The number of findings of each rule.
     Statistics,

@@ -70,8 +70,8 @@ compare_task explain style form = record {
 
 -- ---- The problems of a text
 
--- The work found these problems in the text that was read. The changes between the text and its formatting are listed if
--- the form of the report shows them.
+-- The work found these problems in the text that was read. The changes between the text and its formatting are listed
+-- if the form of the report shows them.
 abbrev pub Finds : ReportWork → Form → Style → Option (List ℕ) → CheckedText → Type 0
 Finds (work.Check without lines baseline) form style known all =
     ReadProblems (shows_changes form) without.items style known all
