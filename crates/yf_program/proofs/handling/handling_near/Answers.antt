@@ -17,8 +17,8 @@ returns-in-Nothing g c =
     c.in_ok-found.found c.in-Nothing.is c.in_ok-found.ensures c.handling_with-in-Nothing.result
     c.handling_with-in-Nothing.ensures
 
-pub returns : goal.returns
-returns g c =
+pub returns-in-Fault : goal.returns-in-Fault
+returns-in-Fault g c =
     IfOk-weaker c.unset_by.result (λ h. h ≡ handling.Unset (unset_words c.as_str.result.now fault.ReadFailed))
     (HandlesNear (g.I.Inputs.claim c.args.inputs.now) c.args.asks_any_text c.args.path.now)
     (λ h is. inl (c.in-Fault.name, rw c.in-Fault.is at c.in_ok-found.ensures,
