@@ -67,7 +67,7 @@ static SENT: [&str; 20] = [
     r#"{"id":8,"jsonrpc":"2.0","result":null}"#,
     r#"{"jsonrpc":"2.0","method":"textDocument/publishDiagnostics","params":{"diagnostics":[{"code":"settings","message":"/w/d/.yamlfmt.toml: config: indent","range":{"end":{"character":0,"line":0},"start":{"character":0,"line":0}},"severity":1,"source":"yamlfmt"}],"uri":"file:///w/d/a.yaml","version":1}}"#,
     r#"{"id":9,"jsonrpc":"2.0","result":null}"#,
-    r#"{"jsonrpc":"2.0","method":"textDocument/publishDiagnostics","params":{"diagnostics":[],"uri":"t","version":1}}"#,
+    r#"{"jsonrpc":"2.0","method":"textDocument/publishDiagnostics","params":{"diagnostics":[{"code":"flow-layout","message":"flow style, expected block style","range":{"end":{"character":7,"line":1},"start":{"character":0,"line":1}},"severity":2,"source":"yamlfmt"}],"uri":"t","version":1}}"#,
     r#"{"id":10,"jsonrpc":"2.0","result":null}"#,
     r#"{"id":3,"jsonrpc":"2.0","result":null}"#,
 ];
