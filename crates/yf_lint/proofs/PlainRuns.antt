@@ -12,10 +12,10 @@ use Rattle.yf_events.specs.Tree.{DocumentTree, TreesOf, flat, flat_items, flat_p
 use Rattle.yf_events.specs.Tree.{unplaced}
 use Rattle.yf_events.specs.declared.lists.Lists.{Lists}
 use Rattle.yf_lint.specs.AmbiguousPlains.{ambiguous_in, ambiguous_items, ambiguous_pairs, ambiguous_plains_of}
-use Rattle.yf_lint.specs.AmbiguousPlains.{is_at_fault, is_untagged_plain, plain_text, plain_texts, PlainsAgree, text_if}
+use Rattle.yf_lint.specs.AmbiguousPlains.{is_untagged_plain, plain_text, plain_texts, PlainsAgree, text_if}
 use Rattle.yf_lint.specs.Anchors.{start_of}
 use Rattle.yf_lint.specs.EmptyValues.{offset_if}
-use Rattle.yf_lint.specs.PlainPass.{after, counts, found_by, next, node_counts, run}
+use Rattle.yf_lint.specs.PlainPass.{after, counts, found_by, next, run}
 use Rattle.yf_lint.specs.declared.ambiguous_plains.NextNode.{NextNode}
 use Rattle.yf_lint.specs.declared.ambiguous_plains.NextNode.TheVariants.{Item, Key, Value}
 use Rattle.yf_types.specs.Values.{is_ambiguous, newer, older, same}

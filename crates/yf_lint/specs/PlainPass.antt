@@ -1,5 +1,5 @@
 -- The steps of the pass that finds ambiguous plain scalars, event by event.
-use Rattle.std.specs.Prelude.{ℕ, Bool, true, false, List, [], ◌∷◌, ◌++◌}
+use Rattle.std.specs.Prelude.{ℕ, Bool, true, List, [], ◌∷◌, ◌++◌}
 use Rattle.yf_events.specs.Event.{EventValue, EventInText, stream_starts, stream_ends, document_starts, document_ends}
 use Rattle.yf_events.specs.Event.{sequence_starts, sequence_ends, mapping_starts, mapping_ends, scalar_node, alias_node}
 use Rattle.yf_lint.specs.AmbiguousPlains.{is_at_fault}

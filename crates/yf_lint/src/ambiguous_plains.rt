@@ -162,7 +162,8 @@ fn pass(
 
 /// Returns the byte offsets of the untagged plain scalars that YAML 1.1, as PyYAML resolves them, and the core schema
 /// of YAML 1.2 read as different types or values, in their order. The offset is that of the node with its properties.
-/// Scalars that are keys of mappings are left out unless `keys` is set.
+/// Scalars that are keys of mappings are left out unless `keys` is set. Scalars with a tag are left out, also those with
+/// the tag `!`, which PyYAML ignores.
 ///
 /// The time is linear in the length of the text.
 pub fn ambiguous_plains(

@@ -17,9 +17,9 @@ loop-i-preserved c =
     let i = c.loop-i.i in
     let l : i < length r.events = omega (arith, c.len-i-end.ensures, c.loop-i-test.true) in
     let x = event_at r i l in
-    pass_step c.args.keys r i x.0
-    (event_value c.event.result) c.span.result x.1 c.event.ensures c.span.ensures _ _ _ _ _
-    c.start_of-start.result c.start_of-start.ensures c.loop-i.invariant c.in_ok-pass.ensures.stack c.in_ok-pass.ensures.offsets
+    pass_step c.args.keys r i x.0 (event_value c.event.result) c.span.result x.1 c.event.ensures c.span.ensures
+    _ _ _ _ _ c.start_of-start.result c.start_of-start.ensures c.loop-i.invariant
+    c.in_ok-pass.ensures.stack c.in_ok-pass.ensures.offsets
 
 pub returns : goal.returns
 returns c =
