@@ -5,3 +5,6 @@ pub mod NamePasses
 -- keys and items without a value
 pub mod EmptyRuns
 pub mod EmptySteps
+-- ambiguous plain scalars
+pub mod PlainRuns
+pub mod PlainSteps
