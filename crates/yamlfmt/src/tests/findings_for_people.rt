@@ -159,7 +159,7 @@ static ROWS: [Row; 20] = [
     (
         "check --format full blank.yaml",
         1,
-        "blank.yaml:3:1 blank-lines: needless blank line (fixable)\n  | \n  | ^\nblank.yaml:4:1 blank-lines: needless blank line (fixable)\n  | \n  | ^\n  = fmt removes lines 3 to 4\n2 findings, 2 fixable by yamlfmt fmt\n",
+        "blank.yaml:4:1 blank-lines: needless blank line (fixable)\n  | \n  | ^\n  = fmt removes lines 3 to 4\n1 finding, 1 fixable by yamlfmt fmt\n",
         "",
         "blank.yaml ",
         BEFORE,
