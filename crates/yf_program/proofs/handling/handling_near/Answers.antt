@@ -21,5 +21,8 @@ pub returns-in-Fault : goal.returns-in-Fault
 returns-in-Fault g c =
     IfOk-weaker c.unset_by.result (λ h. h ≡ handling.Unset (unset_words c.as_str.result.now fault.ReadFailed))
     (HandlesNear (g.I.Inputs.claim c.args.inputs.now) c.args.asks_any_text c.args.path.now)
-    (λ h is. inl (c.in-Fault.name, rw c.in-Fault.is at c.in_ok-found.ensures,
-    is ∙ ap (λ n. handling.Unset (unset_words n fault.ReadFailed)) c.as_str.ensures)) c.unset_by.ensures
+    (λ h is. inl (
+      c.in-Fault.name,
+      rw c.in-Fault.is at c.in_ok-found.ensures,
+      is ∙ ap (λ n. handling.Unset (unset_words n fault.ReadFailed)) c.as_str.ensures,
+    )) c.unset_by.ensures
